@@ -19,24 +19,18 @@ module _ (chunks nodes : ℕ) (s : ScheduleValue) (adding : ℕ) where
   abbrev turns : List ℕ → List (ℕ × ℕ × ℕ)
   turns steps = flat_map (λ step. map (λ pair. (step, pair.0, pair.1)) (all_pairs chunks nodes)) steps
 
-  clash_more : (index : ℕ) → index < length s.rounds → clash_from chunks nodes s adding index ≡ option_or (option_map (λ (pair : ℕ × ℕ). (index + 1, pair.0, pair.1)) (clash_in chunks nodes s adding (index + 1))) (clash_from chunks nodes s adding (index + 1))
-  clash_more index below =
+  -- what is said of a step is said of those from it on, if it is the first
+  pub clash_on : (index : ℕ) (first : Option (ℕ × ℕ)) → index < length s.rounds → first ≡ clash_in chunks nodes s adding (index + 1) → clash_from chunks nodes s adding index ≡ option_or (option_map (λ (pair : ℕ × ℕ). (index + 1, pair.0, pair.1)) first) (clash_from chunks nodes s adding (index + 1))
+  clash_on index first below is =
       ap (λ steps. find (is_clash s adding) (turns steps)) (range_more (index + 1) (length s.rounds + 1) (omega (arith, below)))
       ∙ (find-append (is_clash s adding) (map (λ pair. (index + 1, pair.0, pair.1)) (all_pairs chunks nodes)) (turns (range_with_len (index + 1 + 1) (length s.rounds + 1 - (index + 1 + 1))))
-      ∙ ap (λ first. option_or first (clash_from chunks nodes s adding (index + 1))) (find-map (is_clash s adding) (λ (pair : ℕ × ℕ). (index + 1, pair.0, pair.1)) (all_pairs chunks nodes)))
+      ∙ ap (λ o. option_or o (clash_from chunks nodes s adding (index + 1))) (find-map (is_clash s adding) (λ (pair : ℕ × ℕ). (index + 1, pair.0, pair.1)) (all_pairs chunks nodes)
+      ∙ ap (option_map (λ (pair : ℕ × ℕ). (index + 1, pair.0, pair.1))) (sym is)))
 
   pub clash_start : clash_from chunks nodes s adding 0 ≡ first_clash chunks nodes s adding
   clash_start =
       let count : length s.rounds + 1 - (0 + 1) ≡ length s.rounds = omega arith in
       ap (λ n. find (is_clash s adding) (turns (range_with_len 1 n))) count
-
-  pub clash_here : (index : ℕ) (pair : ℕ × ℕ) → index < length s.rounds → Some pair ≡ clash_in chunks nodes s adding (index + 1) → clash_from chunks nodes s adding index ≡ Some (index + 1, pair.0, pair.1)
-  clash_here index pair below found =
-      clash_more index below ∙ ap (λ first. option_or (option_map (λ (p : ℕ × ℕ). (index + 1, p.0, p.1)) first) (clash_from chunks nodes s adding (index + 1))) (sym found)
-
-  pub clash_later : (index : ℕ) → index < length s.rounds → None ≡ clash_in chunks nodes s adding (index + 1) → clash_from chunks nodes s adding index ≡ clash_from chunks nodes s adding (index + 1)
-  clash_later index below none =
-      clash_more index below ∙ ap (λ first. option_or (option_map (λ (p : ℕ × ℕ). (index + 1, p.0, p.1)) first) (clash_from chunks nodes s adding (index + 1))) (sym none)
 
   pub clash_past : (index : ℕ) → length s.rounds ≤ index → clash_from chunks nodes s adding index ≡ None
   clash_past index past = ap (λ steps. find (is_clash s adding) (turns steps)) (range_none (index + 1) (length s.rounds + 1) (omega (arith, past)))

@@ -7,7 +7,8 @@ use Rattle.schedule.specs.JoinedRuns.{filled_senders, joined_after}
 use Rattle.schedule.proofs.{First.{Among, among_each, among_map, among_right, each_among, map_among, any_found, filter_among, among_kept}, Inverting.steps_of}
 use Rattle.bag_runs.proofs.JoinedSteps.{replaced_has, step_adds, step_copies}
 use Rattle.inversion.proofs.Reaching.{below_of, holds_next}
-use Rattle.allreduce_join.{specs.Joins.{later, one_after}, proofs.{Paired.append_among, Parts.sends_first}}
+use Rattle.allreduce_join.{specs.Joins.{one_after}, proofs.{Paired.append_among, Parts.sends_first}}
+use Rattle.allreduce_join.proofs.Later.{later}
 
 -- ---- the steps that add
 

@@ -1,3 +1,4 @@
+pub mod Later
 pub mod Told
 pub mod Paired
 pub mod Parts

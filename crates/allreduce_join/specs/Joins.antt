@@ -3,7 +3,7 @@ use Rattle.std.specs.{Prelude.{◌≡◌, ◌==◌, ℕ, ◌+◌, ◌≤◌, Lis
 use Rattle.schedule.specs.{declared.hop.Hop.Hop, Links.TopologyValue, Sends.ScheduleValue, JoinedRuns.AllSummed}
 use Rattle.collective_spec.specs.declared.kind.Kind.TheVariants as kind
 use Rattle.collective_spec.specs.Collectives.{chunks_of}
-use Rattle.candidate_order.specs.{declared.candidate.Candidate.Candidate, Frontiers.PointValue}
+use Rattle.candidate_order.specs.{Frontiers.PointValue}
 use Rattle.candidate_order.specs.declared.mark.Mark.TheVariants as mark
 
 -- the point has the steps and the rounds of its schedule, and at most 8 steps
@@ -12,22 +12,14 @@ pub record IsJoinable (p : PointValue) : Type 0 where
   pub rounds : sum p.schedule.rounds ≡ p.candidate.r
   pub few : p.candidate.s ≤ 8
 
--- a send so many steps later
-abbrev pub later : ℕ → Hop → Hop
-later steps h = record { chunk = h.chunk; from = h.from; to = h.to; step = h.step + steps }
-
--- one schedule of so many steps, and then the other
+-- one schedule of so many steps, and then the other, its sends so many steps later
 abbrev pub one_after : ℕ → ScheduleValue → ScheduleValue → ScheduleValue
-one_after steps first second = record { rounds = first.rounds ++ second.rounds; sends = first.sends ++ map (later steps) second.sends }
+one_after steps first second = record { rounds = first.rounds ++ second.rounds; sends = first.sends ++ map (λ (h : Hop). record h { step = h.step + steps }) second.sends }
 
--- the steps and the rounds of both, and the chunk count of the first
-abbrev pub both_costs : Candidate → Candidate → Candidate
-both_costs a b = record { s = a.s + b.s; r = a.r + b.r; c = a.c }
-
--- the first point's schedule, which adds, and then the second's, which copies
+-- the first point's schedule, which adds, and then the second's, which copies, with the steps and the rounds of both and the chunk count of the first
 abbrev pub join_of : PointValue → PointValue → PointValue
 join_of p q = record {
-  candidate = both_costs p.candidate q.candidate;
+  candidate = record { s = p.candidate.s + q.candidate.s; r = p.candidate.r + q.candidate.r; c = p.candidate.c };
   schedule = one_after p.candidate.s p.schedule q.schedule;
   mark = mark.Joined p.candidate.s;
 }

@@ -4,7 +4,7 @@ ghost use Rattle.std.specs.Prelude.{◌≡◌, ◌+◌, ◌<◌, ◌≤◌, ◌+
 ghost use Rattle.schedule.specs.{Links.TopologyValue, Sends.IsSchedule, Solving.Tight, JoinedRuns.AllSummed};
 ghost use Rattle.collective_spec.specs.Collectives.{chunks_of};
 ghost use Rattle.candidate_order.specs.{Ranges.LimitsValue, Frontiers.{IsSolvedBy, instance_for}};
-ghost use Rattle.allreduce_join.specs.{Joins.{IsJoinable, both_costs, join_of, later, one_after}, Parts.{gather_part, reduce_part}};
+ghost use Rattle.allreduce_join.specs.{Joins.{IsJoinable, join_of, one_after}, Parts.{gather_part, reduce_part}};
 
 use candidate_order::{Candidate, Mark, Point};
 use collective_spec::Kind;
@@ -38,7 +38,7 @@ pub fn join_points(alloc: Global, reduce: &Point, gather: &Point) -> Result<Poin
 fn both_costs(first: Candidate, second: Candidate) -> Candidate
     requires steps { first.s + second.s ≤ 16 }
     requires rounds { first.r + second.r ≤ 144 }
-    ensures { result ≡ both_costs first second }
+    ensures { result ≡ record { s = first.s + second.s; r = first.r + second.r; c = first.c } }
 {
     Candidate {
         s: first.s + second.s,
@@ -65,7 +65,7 @@ fn one_after(alloc: Global, first: &Schedule, second: &Schedule) -> Result<Sched
 /// Adds the sends of a schedule, so many steps later.
 fn push_later(sends: &mut Vec<Hop>, second: &Schedule, steps: u8) -> Result<(), OutOfMemory>
     requires { steps ≤ 8 }
-    ensures { OnOk result (sends.new.items ≡ sends.old.items ++ map (later steps) second.now.sends) }
+    ensures { OnOk result (sends.new.items ≡ sends.old.items ++ map (λ (h : Hop). record h { step = h.step + steps }) second.now.sends) }
 {
     for hop in second.sends() {
         sends.push(Hop {

@@ -2,8 +2,8 @@
 use Rattle.std.proofs.Common.{◌≡◌, ℕ, zero, suc, ◌+◌, ◌<◌, ◌≤◌, Bool, true, false, ◌&&◌, cond, eqb, min, List, [], ◌∷◌, length, map, get_or, set, replicate, take, refl, sym, ap, ◌∙◌, arith, ⊎_elim, get_or-set_same, get_or-set_other}
 use Rattle.std.{specs.List.{list_all, range_with_len}, proofs.lemmas.{Bool.{cases_lt, eq-eqb}, List.{get_or_past, get_or-replicate, take_all}}}
 use Rattle.std.proofs.lemmas.List.FromFn.{get_or-map-range_with_len}
-use Rattle.schedule.specs.Bags.{is_empty, one_of}
-use Rattle.bag_runs.{specs.{Stores.added_at_2, Kept.{IsHeld, counted}}, proofs.Cells.{differ, same_or_not}}
+use Rattle.schedule.specs.Bags.{added, held_at_2, is_empty, one_of}
+use Rattle.bag_runs.{specs.Kept.{IsHeld, counted}, proofs.Cells.{differ, same_or_not}}
 
 -- functions that agree give the same list
 pub map_alike : {X : Type 0} (f g : ℕ → X) → ((k : ℕ) → f k ≡ g k) → (ks : List ℕ) → map f ks ≡ map g ks
@@ -62,11 +62,11 @@ sum_filled counts a b n m l filled k =
     ∙ sym (ap (λ x. min (x + get_or b k 0) 2) (get_or_past a k 0 (omega (arith, m))) ∙ ap (λ x. min (0 + x) 2) (get_or_past b k 0 (omega (arith, l)))))
     (cases_lt k 16)
 
-summed : (f g : ℕ → ℕ) (ks : List ℕ) → map (λ k. min (f k + g k) 2) ks ≡ added_at_2 (map f ks) (map g ks)
+summed : (f g : ℕ → ℕ) (ks : List ℕ) → map (λ k. min (f k + g k) 2) ks ≡ held_at_2 (added (map f ks) (map g ks))
 summed f g [] = refl
 summed f g (k ∷ ks) = ap (λ xs. min (f k + g k) 2 ∷ xs) (summed f g ks)
 
-pub counted_sum : (counts a b : List ℕ) → IsSum counts a b → (nodes : ℕ) → counted nodes counts ≡ added_at_2 (counted nodes a) (counted nodes b)
+pub counted_sum : (counts a b : List ℕ) → IsSum counts a b → (nodes : ℕ) → counted nodes counts ≡ held_at_2 (added (counted nodes a) (counted nodes b))
 counted_sum counts a b sums nodes =
     map_alike (λ k. get_or counts k 0) (λ k. min (get_or a k 0 + get_or b k 0) 2) sums (range_with_len 0 nodes)
     ∙ summed (λ k. get_or a k 0) (λ k. get_or b k 0) (range_with_len 0 nodes)

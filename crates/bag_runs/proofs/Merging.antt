@@ -2,17 +2,16 @@
 use Rattle.std.proofs.Common.{◌≡◌, ℕ, zero, suc, ◌+◌, ◌≤◌, Bool, true, false, ◌&&◌, cond, eqb, min, max, List, [], ◌∷◌, map, refl, sym, ap, ◌∙◌, arith, filter, fold, not}
 use Rattle.std.specs.List.{AllByRecursion, reduce}
 use Rattle.schedule.specs.{declared.hop.Hop.Hop, Bags.{Bag, Bags, added, held_at_2, is_empty}, JoinedRuns.replaced}
-use Rattle.bag_runs.specs.Stores.{added_at_2}
 
 -- ---- counts held at 2
 
 min_sum : (x y : ℕ) → min (min x 2 + min y 2) 2 ≡ min (x + y) 2
 min_sum x y = grind arith
 
-pub held_added : (a b : Bag) → added_at_2 (held_at_2 a) (held_at_2 b) ≡ held_at_2 (added a b)
+pub held_added : (a b : Bag) → held_at_2 (added (held_at_2 a) (held_at_2 b)) ≡ held_at_2 (added a b)
 held_added [] b = refl
 held_added (x ∷ a) [] = refl
-held_added (x ∷ a) (y ∷ b) = ap (λ c. c ∷ added_at_2 (held_at_2 a) (held_at_2 b)) (min_sum x y) ∙ ap (λ bag. min (x + y) 2 ∷ bag) (held_added a b)
+held_added (x ∷ a) (y ∷ b) = ap (λ c. c ∷ held_at_2 (added (held_at_2 a) (held_at_2 b))) (min_sum x y) ∙ ap (λ bag. min (x + y) 2 ∷ bag) (held_added a b)
 
 pub min_none : (x : ℕ) → eqb (min x 2) 0 ≡ eqb x 0
 min_none zero = refl
@@ -26,10 +25,10 @@ held_empty (x ∷ a) = ap (λ t. t && is_empty (held_at_2 a)) (min_none x) ∙ a
 
 -- sums with counts held at 2, in order, are the sum held at 2
 pub adds_held : (bags : Bags) (hops : List Hop) (own : Bag)
-    → fold (λ bag h. added_at_2 bag (held_at_2 (bags (h.chunk, h.from)))) (held_at_2 own) hops ≡ held_at_2 (fold added own (map (λ h. bags (h.chunk, h.from)) hops))
+    → fold (λ bag h. held_at_2 (added bag (held_at_2 (bags (h.chunk, h.from))))) (held_at_2 own) hops ≡ held_at_2 (fold added own (map (λ h. bags (h.chunk, h.from)) hops))
 adds_held bags [] own = refl
 adds_held bags (h ∷ hops) own =
-    ap (λ bag. fold (λ bag h. added_at_2 bag (held_at_2 (bags (h.chunk, h.from)))) bag hops) (held_added own (bags (h.chunk, h.from)))
+    ap (λ bag. fold (λ bag h. held_at_2 (added bag (held_at_2 (bags (h.chunk, h.from))))) bag hops) (held_added own (bags (h.chunk, h.from)))
     ∙ adds_held bags hops (added own (bags (h.chunk, h.from)))
 
 -- ---- copying

@@ -4,17 +4,13 @@ use Rattle.schedule.specs.{Placed.all_pairs, Bags.{Bag, Bags, added, held_at_2, 
 use Rattle.bag_runs.specs.declared.mode.Mode.{Mode}
 use Rattle.bag_runs.specs.declared.mode.Mode.TheVariants as mode
 
--- the contributions of both, where a count of 2 stands for two or more
-abbrev pub added_at_2 : Bag → Bag → Bag
-added_at_2 a b = held_at_2 (added a b)
-
 -- the first so many steps add what arrives, and later ones copy it
 abbrev pub mode_at : ℕ → ℕ → Mode
 mode_at adding step = if nat_le step adding then mode.Add else mode.Copy
 
--- what becomes of a bag where another arrives: their sum, or the other unless it is empty
+-- what becomes of a bag where another arrives: their sum, where a count of 2 stands for two or more, or the other unless it is empty
 abbrev pub received : Mode → Bag → Bag → Bag
-received mode.Add old bag = added_at_2 old bag
+received mode.Add old bag = held_at_2 (added old bag)
 received mode.Copy old bag = if is_empty bag then old else bag
 
 -- so many chunks and nodes, and the bag of each chunk at each node, by chunk and then by node

@@ -1,6 +1,6 @@
 ghost use Rattle.std.specs.Prelude.{◌≡◌, ℕ, ◌+◌, ◌≤◌, ◌<◌, min, slice_index};
-ghost use Rattle.schedule.specs.Bags.{empty_bag, is_empty, one_of};
-ghost use Rattle.bag_runs.specs.{Stores.{received, added_at_2}, Kept.{IsHeld, counted}};
+ghost use Rattle.schedule.specs.Bags.{added, empty_bag, held_at_2, is_empty, one_of};
+ghost use Rattle.bag_runs.specs.{Stores.received, Kept.{IsHeld, counted}};
 
 use crate::mode::Mode;
 use std::marker::Model;
@@ -75,7 +75,7 @@ impl Bag {
 
     /// The contributions of both.
     fn added(&self, other: &Bag) -> Bag
-        ensures sum { (nodes : ℕ) → counted nodes result ≡ added_at_2 (counted nodes self.now) (counted nodes other.now) }
+        ensures sum { (nodes : ℕ) → counted nodes result ≡ held_at_2 (added (counted nodes self.now) (counted nodes other.now)) }
         ensures held { IsHeld result }
     {
         let mut counts = [0; 16];

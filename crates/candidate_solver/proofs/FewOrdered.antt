@@ -6,7 +6,7 @@ use Rattle.schedule.specs.{Links.TopologyValue, Placed.PlacementValue}
 use Rattle.cnf_formula.specs.Literals.{negation}
 use Rattle.send_encoding.specs.Variables.{SendMapValue, arrival, map_of}
 use Rattle.round_encoding.{specs.Candidates.{IsCandidate, size_limit, size_of}, proofs.FewClauses.small}
-use Rattle.chunk_order.specs.Ordering.{class_in_order, class_of, is_least, leaders, next_pairs, order_clauses, ordered_formula_of, pair_in_order}
+use Rattle.chunk_order.specs.Ordering.{class_in_order, class_of, is_least, next_pairs, order_clauses, ordered_formula_of, pair_in_order}
 use Rattle.chunk_order.specs.Alike.{is_alike, watch_node}
 use Rattle.candidate_formula.proofs.Exact.{asked_formula}
 use Rattle.candidate_solver.proofs.Readable.{IsSmall}
@@ -44,7 +44,7 @@ module _ (m : SendMapValue) (few_steps : m.steps ≤ 16) where
     pub order_few : length (order_clauses m pre post) ≤ 1048576
     order_few =
         let classes = among_few (is_least pre post) in
-        let all = pieces_few (λ c. class_in_order m (watch_node pre post c) (class_of pre post c)) 4096 (leaders pre post) (λ c. class_few (watch_node pre post c) (class_of pre post c) (among_few (is_alike pre post c))) in
+        let all = pieces_few (λ c. class_in_order m (watch_node pre post c) (class_of pre post c)) 4096 (filter (is_least pre post) (range_with_len 0 pre.chunks)) (λ c. class_few (watch_node pre post c) (class_of pre post c) (among_few (is_alike pre post c))) in
         omega (arith, classes, all)
 
 -- so the formula is small with them and without them

@@ -1,9 +1,9 @@
 -- What the clauses say that join the outputs of two sides.
-use Rattle.std.proofs.Common.{◌≡◌, ℕ, zero, suc, ◌+◌, ◌<◌, ◌≤◌, Bool, true, false, List, [], ◌∷◌, ◌++◌, length, get_or, ltb, leb, refl, sym, ap, ◌∙◌, arith, ◌||◌, ◌&&◌, not, flat_map, All}
+use Rattle.std.proofs.Common.{◌≡◌, ℕ, zero, suc, ◌+◌, ◌<◌, ◌≤◌, Bool, true, false, cond, List, [], ◌∷◌, ◌++◌, length, get_or, ltb, leb, refl, sym, ap, ◌∙◌, arith, ◌||◌, ◌&&◌, not, flat_map, All}
 use Rattle.std.{specs.List.range_with_len, proofs.lemmas.Bool.{false≢true, and_parts, and_from, lt-ltb, ltb-true, le-leb, leb-true}}
 use Rattle.std.proofs.lemmas.List.{Elements.{All-nil, All-cons, All-append}, Folds.list_any-append}
 use Rattle.cnf_formula.{specs.{Literals.{LitValue, yes, negation, is_true, clause_holds, all_hold}, Formulas.{IsAbout, IsClause}}, proofs.Clauses.negation_is}
-use Rattle.cardinality.specs.Totalizers.{only_where, unless, joins_at, joins}
+use Rattle.cardinality.specs.Totalizers.{unless, joins_at, joins}
 use Rattle.cardinality.proofs.Ranges.{range_passes, passes_range, only_holds, holds_only, all_of_range}
 
 -- output i is true, or i is 0
@@ -84,6 +84,6 @@ module _ (own numbers : ℕ) (left right : List LitValue) where
       (All-append (IsAbout v) (unless left i) (unless right j) (unless_about v left i l (omega (arith, il))) (unless_about v right j r (omega (arith, jr))))
       (All-cons (IsAbout v) (yes (own + (i + j))) [] (record { some = omega (arith, some); within = omega (arith, few, high) }) (All-nil (IsAbout v))))))
     where
-      only_clause : (test : Bool) (clause : List LitValue) → (test ≡ true → IsClause v clause) → All (IsClause v) (only_where test clause)
+      only_clause : (test : Bool) (clause : List LitValue) → (test ≡ true → IsClause v clause) → All (IsClause v) (cond test (clause ∷ []) [])
       only_clause true clause h = All-cons (IsClause v) clause [] (h refl) (All-nil (IsClause v))
       only_clause false clause h = All-nil (IsClause v)

@@ -1,9 +1,8 @@
 -- What holds of every number of a range, and of clauses that are there where a test passes.
-use Rattle.std.proofs.Common.{◌≡◌, ℕ, zero, suc, ◌+◌, ◌<◌, ◌≤◌, Bool, true, false, List, map, refl, sym, ◌∙◌, subst, ⊎_elim, arith, flat_map, All}
+use Rattle.std.proofs.Common.{◌≡◌, ℕ, zero, suc, ◌+◌, ◌<◌, ◌≤◌, Bool, true, false, cond, List, [], ◌∷◌, map, refl, sym, ◌∙◌, subst, ⊎_elim, arith, flat_map, All}
 use Rattle.std.{specs.List.{list_all, range_with_len}, proofs.lemmas.{Bool.{false≢true, and_parts, and_from, cases_eq}, List.Folds.list_all-append}}
 use Rattle.std.proofs.lemmas.List.Elements.{All-nil, All-cons, All-append}
 use Rattle.cnf_formula.specs.Literals.{LitValue, clause_holds, all_hold}
-use Rattle.cardinality.specs.Totalizers.{only_where}
 
 pub range_passes : {X : Type 0} (p : X → Bool) (f : ℕ → List X) (a n j : ℕ) → list_all p (flat_map f (range_with_len a n)) ≡ true → a ≤ j → j < a + n → list_all p (f j) ≡ true
 range_passes p f a zero j h low high = absurd (omega (arith, low, high))
@@ -32,10 +31,10 @@ all_of_map P f a (suc n) h = All-cons P (f a) (map f (range_with_len (a + 1) n))
 
 -- ---- clauses under a test
 
-pub only_holds : (values : List Bool) (test : Bool) (clause : List LitValue) → all_hold values (only_where test clause) ≡ true → test ≡ true → clause_holds values clause ≡ true
+pub only_holds : (values : List Bool) (test : Bool) (clause : List LitValue) → all_hold values (cond test (clause ∷ []) []) ≡ true → test ≡ true → clause_holds values clause ≡ true
 only_holds values true clause h t = (and_parts (clause_holds values clause) true h).0
 only_holds values false clause h t = absurd (false≢true t)
 
-pub holds_only : (values : List Bool) (test : Bool) (clause : List LitValue) → (test ≡ true → clause_holds values clause ≡ true) → all_hold values (only_where test clause) ≡ true
+pub holds_only : (values : List Bool) (test : Bool) (clause : List LitValue) → (test ≡ true → clause_holds values clause ≡ true) → all_hold values (cond test (clause ∷ []) []) ≡ true
 holds_only values true clause h = and_from (clause_holds values clause) true (h refl) refl
 holds_only values false clause h = refl

@@ -1,12 +1,12 @@
--- A totalizer counts: each tree counts its inputs, since two sides that count their own are joined so that both are counted.
+-- A totalizer counts: two sides that count their own inputs are joined so that both are counted.
 use Rattle.std.proofs.Common.{◌≡◌, ℕ, zero, suc, ◌+◌, ◌-◌, ◌/◌, ◌<◌, ◌≤◌, min, Bool, true, false, cond, List, [], ◌∷◌, ◌++◌, length, get_or, map, take, drop, leb, refl, sym, ap, ◌∙◌, subst, arith, append_assoc, length-append, All}
 use Rattle.std.{specs.List.range_with_len, proofs.lemmas.{Bool.{and_parts, and_from, leb-true, le-leb}, List.Folds.list_all-append}}
 use Rattle.std.proofs.lemmas.List.{get_or-append-add, length-take, length-drop, take-append-drop, append-nil, Sums.{sum_by-append, count_by-le-length}}
-use Rattle.std.proofs.lemmas.List.{Elements.{All-nil, All-cons, All-head, All-append}, FromFn.{get_or-map-range_with_len, length-map-range_with_len}}
+use Rattle.std.proofs.lemmas.List.{Elements.{All-nil, All-cons, All-head, All-append, All-take, All-drop}, FromFn.{get_or-map-range_with_len, length-map-range_with_len}}
 use Rattle.cnf_formula.specs.{Literals.{LitValue, yes, is_true, clause_holds, all_hold}, Formulas.{IsAbout, IsClause}}
 use Rattle.cardinality.specs.Counting.{CounterValue, true_inputs, output, Reaches, Extends, IsCounter}
-use Rattle.cardinality.specs.Totalizers.{Tree, none, one, both, inputs_of, tree_within, tree_of, joins, joined_counters, totals, totalizer_of}
-use Rattle.cardinality.proofs.{Ranges.all_of_map, Wider.{old_is_same, All-front, All-back, clause_more, clauses_more, clauses_same, count_same}}
+use Rattle.cardinality.specs.Totalizers.{joins, joined_counters, joined_halves, side_of, side_within, totalizer_of}
+use Rattle.cardinality.proofs.{Ranges.all_of_map, Wider.{old_is_same, clause_more, clauses_more, clauses_same, count_same}}
 use Rattle.cardinality.proofs.Joins.{is_reached, joins_say, say_joins, joins_about}
 
 -- a counter of inputs about the first so many variables, with as many outputs as it has
@@ -141,7 +141,7 @@ module _ (before numbers many : ℕ) (ls rs : List LitValue) (left right : Count
             extends = node_extends pl pr al ar;
           }
 
--- ---- trees
+-- ---- halves
 
 part_of_none : (before : ℕ) → Part before [] (record { vars = 0; clauses = []; outputs = [] })
 part_of_none before = record {
@@ -181,73 +181,61 @@ part_of_one before y a = record {
     counted true = refl
     counted false = refl
 
-module _ (numbers : ℕ) where
-  pub many_outputs : (t : Tree) (before : ℕ) → 0 < numbers → length (totals numbers before t).outputs ≡ min numbers (length (inputs_of t))
-  many_outputs none before some = omega arith
-  many_outputs (one y) before some = omega (arith, some)
-  many_outputs (both l r) before some =
-      let left = totals numbers before l in
-      let right = totals numbers (before + left.vars) r in
-      length-map-range_with_len (λ j. yes (before + left.vars + right.vars + j)) 1 (min numbers (length (inputs_of l ++ inputs_of r)))
+-- a way to count lists of at most so many inputs up to a number
+pub record Counts (numbers n : ℕ) (counter_of : ℕ → List LitValue → CounterValue) : Type 0 where
+  pub many : (before : ℕ) (ys : List LitValue) → length ys ≤ n → length (counter_of before ys).outputs ≡ min numbers (length ys)
+  pub part : (before : ℕ) (ys : List LitValue) → length ys ≤ n → IsClause before ys → Part before ys (counter_of before ys)
 
-  pub tree_part : (t : Tree) (before : ℕ) → 0 < numbers → IsClause before (inputs_of t) → Part before (inputs_of t) (totals numbers before t)
-  tree_part none before some a = part_of_none before
-  tree_part (one y) before some a = part_of_one before y (All-head (IsAbout before) y [] a)
-  tree_part (both l r) before some a =
-      let left = totals numbers before l in
-      let right = totals numbers (before + left.vars) r in
-      let al : IsClause before (inputs_of l) = All-front (IsAbout before) (inputs_of l) (inputs_of r) a in
-      let ar : IsClause before (inputs_of r) = All-back (IsAbout before) (inputs_of l) (inputs_of r) a in
-      let le : before ≤ before + left.vars = omega arith in
-      let pl = tree_part l before some al in
-      let pr = tree_part r (before + left.vars) some (clause_more before (before + left.vars) (inputs_of r) le ar) in
-      let ll = many_outputs l before some in
-      let lr = many_outputs r (before + left.vars) some in
-      let la = length-append (inputs_of l) (inputs_of r) in
-      node_part before numbers (min numbers (length (inputs_of (both l r)))) (inputs_of l) (inputs_of r) left right
-      (omega (arith, ll)) (omega (arith, lr)) (omega arith) (λ i j il jr few. omega (arith, il, jr, few, ll, lr, la)) pl pr al ar
+halves_part : (numbers n : ℕ) (counter_of : ℕ → List LitValue → CounterValue) → Counts numbers n counter_of → (before many : ℕ) (ys : List LitValue) → length ys ≤ n + length ys / 2 → length ys / 2 ≤ n → many ≤ numbers
+    → ((k : ℕ) → k ≤ length ys → k ≤ numbers → k ≤ many) → IsClause before ys → Part before ys (joined_halves counter_of before numbers many ys)
+halves_part numbers n counter_of counts before many ys back front few fits a =
+    let half = length ys / 2 in
+    let ls = take half ys in
+    let rs = drop half ys in
+    let left = counter_of before ls in
+    let right = counter_of (before + left.vars) rs in
+    let lt = length-take half ys in
+    let ld = length-drop half ys in
+    let short_left : length ls ≤ n = omega (arith, lt, front) in
+    let short_right : length rs ≤ n = omega (arith, ld, back) in
+    let ll = counts.many before ls short_left in
+    let lr = counts.many (before + left.vars) rs short_right in
+    let al : IsClause before ls = All-take (IsAbout before) half ys a in
+    let ar : IsClause before rs = All-drop (IsAbout before) half ys a in
+    subst (λ x. Part before x (joined_halves counter_of before numbers many ys)) (take-append-drop half ys)
+    (node_part before numbers many ls rs left right (omega (arith, ll)) (omega (arith, lr)) few (λ i j il jr le. fits (i + j) (omega (arith, il, jr, ll, lr, lt, ld)) le)
+    (counts.part before ls short_left al) (counts.part (before + left.vars) rs short_right (clause_more before (before + left.vars) rs (omega arith) ar)) al ar)
 
--- ---- the tree of a list has its inputs
+module _ (numbers : ℕ) (some : 0 < numbers) where
+  pub many_within : (n before : ℕ) (ys : List LitValue) → length ys ≤ n → length (side_within n numbers before ys).outputs ≡ min numbers (length ys)
+  many_within zero before [] h = omega arith
+  many_within zero before (y ∷ ys) h = absurd (omega (arith, h))
+  many_within (suc n) before [] h = omega arith
+  many_within (suc n) before (y ∷ []) h = omega (arith, some)
+  many_within (suc n) before (y ∷ z ∷ ys) h = length-map-range_with_len _ 1 (min numbers (length (y ∷ z ∷ ys)))
 
-pub tree_inputs : (n : ℕ) (ys : List LitValue) → length ys ≤ n → inputs_of (tree_within n ys) ≡ ys
-tree_inputs zero [] h = refl
-tree_inputs zero (y ∷ ys) h = absurd (omega (arith, h))
-tree_inputs (suc n) [] h = refl
-tree_inputs (suc n) (y ∷ []) h = refl
-tree_inputs (suc n) (y ∷ z ∷ ys) h =
-    let all = y ∷ z ∷ ys in
-    let half = length all / 2 in
-    let two : 2 ≤ length all = omega arith in
-    let front = tree_inputs n (take half all) (omega (arith, length-take half all, h, two)) in
-    let rest = tree_inputs n (drop half all) (omega (arith, length-drop half all, h, two)) in
-    ap (λ x. x ++ inputs_of (tree_within n (drop half all))) front ∙ ap (λ x. take half all ++ x) rest ∙ take-append-drop half all
+  part_within : (n before : ℕ) (ys : List LitValue) → length ys ≤ n → IsClause before ys → Part before ys (side_within n numbers before ys)
+  part_within zero before [] h a = part_of_none before
+  part_within zero before (y ∷ ys) h a = absurd (omega (arith, h))
+  part_within (suc n) before [] h a = part_of_none before
+  part_within (suc n) before (y ∷ []) h a = part_of_one before y (All-head (IsAbout before) y [] a)
+  part_within (suc n) before (y ∷ z ∷ ys) h a =
+      let all = y ∷ z ∷ ys in
+      let two : 2 ≤ length all = omega arith in
+      halves_part numbers n (side_within n numbers) (record { many = many_within n; part = part_within n }) before (min numbers (length all)) all
+      (omega (arith, h, two)) (omega (arith, h, two)) (omega arith) (λ k low high. omega (arith, low, high)) a
+
+  pub side_counts : (n : ℕ) → Counts numbers n (side_of numbers)
+  side_counts n = record { many = λ before ys h. many_within (length ys) before ys (omega arith); part = λ before ys h. part_within (length ys) before ys (omega arith) }
 
 pub totalizer_is_counter : (before : ℕ) (inputs : List LitValue) (bound : ℕ) → 0 < length inputs → All (IsAbout before) inputs → IsCounter before inputs bound (totalizer_of before inputs bound)
 totalizer_is_counter before inputs bound some about =
     let numbers = bound + 1 in
-    let half = length inputs / 2 in
-    let ls = take half inputs in
-    let rs = drop half inputs in
-    let l = tree_of ls in
-    let r = tree_of rs in
-    let left = totals numbers before l in
-    let right = totals numbers (before + left.vars) r in
-    let el : inputs_of l ≡ ls = tree_inputs (length ls) ls (omega arith) in
-    let er : inputs_of r ≡ rs = tree_inputs (length rs) rs (omega arith) in
-    let whole : inputs_of l ++ inputs_of r ≡ inputs = ap (λ x. x ++ inputs_of r) el ∙ ap (λ x. ls ++ x) er ∙ take-append-drop half inputs in
-    let a : IsClause before (inputs_of l ++ inputs_of r) = subst (IsClause before) (sym whole) about in
-    let al : IsClause before (inputs_of l) = All-front (IsAbout before) (inputs_of l) (inputs_of r) a in
-    let ar : IsClause before (inputs_of r) = All-back (IsAbout before) (inputs_of l) (inputs_of r) a in
-    let le : before ≤ before + left.vars = omega arith in
-    let ll = many_outputs numbers l before (omega arith) in
-    let lr = many_outputs numbers r (before + left.vars) (omega arith) in
-    let p = node_part before numbers numbers (inputs_of l) (inputs_of r) left right (omega (arith, ll)) (omega (arith, lr)) (omega arith) (λ i j il jr few. few)
-    (tree_part numbers l before (omega arith) al) (tree_part numbers r (before + left.vars) (omega arith) (clause_more before (before + left.vars) (inputs_of r) le ar)) al ar in
-    let q : Part before inputs (totalizer_of before inputs bound) = subst (λ x. Part before x (totalizer_of before inputs bound)) whole p in
+    let p = halves_part numbers (length inputs) (side_of numbers) (side_counts numbers (omega arith) (length inputs)) before numbers inputs (omega arith) (omega arith) (omega arith) (λ k low high. high) about in
     record {
-      outputs_are = length-map-range_with_len (λ j. yes (before + left.vars + right.vars + j)) 1 numbers;
-      outputs_about = q.outputs_about;
-      clauses_about = q.clauses_about;
-      reaches = q.reaches;
-      extends = q.extends;
+      outputs_are = length-map-range_with_len _ 1 numbers;
+      outputs_about = p.outputs_about;
+      clauses_about = p.clauses_about;
+      reaches = p.reaches;
+      extends = p.extends;
     }

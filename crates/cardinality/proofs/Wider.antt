@@ -1,19 +1,11 @@
 -- Literals and clauses about the first variables, in an assignment of more.
 use Rattle.std.proofs.Common.{◌≡◌, ℕ, ◌+◌, ◌-◌, ◌≤◌, Bool, false, cond, List, [], ◌∷◌, ◌++◌, length, get_or, refl, sym, ap, ◌∙◌, arith, ◌||◌, ◌&&◌, All}
-use Rattle.std.proofs.lemmas.List.{get_or_append_left, Elements.{All-nil, All-cons, All-head, All-tail}, Sums.sum_by-cons}
+use Rattle.std.proofs.lemmas.List.{get_or_append_left, Elements.{All-head, All-tail}, Sums.sum_by-cons}
 use Rattle.cnf_formula.specs.{Literals.{LitValue, same_sign, is_true, clause_holds, all_hold}, Formulas.{IsAbout, IsClause}}
 use Rattle.cardinality.specs.Counting.{true_inputs}
 
 pub old_is_same : (values more : List Bool) (y : LitValue) → IsAbout (length values) y → is_true (values ++ more) y ≡ is_true values y
 old_is_same values more y a = ap (same_sign y.positive) (get_or_append_left values more false (y.var - 1) (omega (arith, a.some, a.within)))
-
-pub All-front : {X : Type 0} (P : X → Type 0) (xs ys : List X) → All P (xs ++ ys) → All P xs
-All-front P [] ys a = All-nil P
-All-front P (x ∷ xs) ys a = All-cons P x xs (All-head P x (xs ++ ys) a) (All-front P xs ys (All-tail P x (xs ++ ys) a))
-
-pub All-back : {X : Type 0} (P : X → Type 0) (xs ys : List X) → All P (xs ++ ys) → All P ys
-All-back P [] ys a = a
-All-back P (x ∷ xs) ys a = All-back P xs ys (All-tail P x (xs ++ ys) a)
 
 pub about_more : (v w : ℕ) (l : LitValue) → v ≤ w → IsAbout v l → IsAbout w l
 about_more v w l le a = record { some = a.some; within = omega (arith, le, a.within) }

@@ -1,9 +1,9 @@
 -- Chunks that are alike: the test decides an equivalence, and chunks that are alike have one watch node.
 use Rattle.std.proofs.Common.{◌≡◌, ℕ, zero, suc, ◌+◌, ◌<◌, ◌≤◌, Bool, true, false, cond, Some, refl, sym, ap, ◌∙◌, ⊎_elim, arith, ◌&&◌, not, find}
-use Rattle.std.{specs.List.{list_all, range_with_len}, proofs.lemmas.Bool.{false≢true, and_parts, and_from, cases_Bool, cases_eq, false_from_ne_true}}
+use Rattle.std.{specs.{Cmp.booleans_Decides, List.{list_all, range_with_len}}, proofs.lemmas.Bool.{false≢true, and_parts, and_from, cases_Bool, cases_eq, false_from_ne_true}}
 use mathlib.Core.Bool.{beq}
 use Rattle.schedule.specs.Placed.{PlacementValue, holds, lacks}
-use Rattle.chunk_order.specs.Alike.{agree, stand_alike, is_alike, watch_node}
+use Rattle.chunk_order.specs.Alike.{stand_alike, is_alike, watch_node}
 
 -- ---- tests over a range
 
@@ -36,23 +36,13 @@ find_below p a (suc n) k found =
     (λ (later : p a ≡ false). let rest : find p (range_with_len (a + 1) n) ≡ Some k = rw later at found in omega (arith, find_below p (a + 1) n k rest))
     (cases_Bool (p a))
 
--- ---- agreement
-
-agree_is : (a b : Bool) → agree a b ≡ true → a ≡ b
-agree_is true b h = sym h
-agree_is false true h = absurd (false≢true h)
-agree_is false false h = refl
-
-agree_from : (a b : Bool) → a ≡ b → agree a b ≡ true
-agree_from true b h = sym h
-agree_from false true h = absurd (false≢true h)
-agree_from false false h = refl
+-- ---- placements of two chunks
 
 stand_is : (p : PlacementValue) (c d n : ℕ) → stand_alike p c d ≡ true → n < p.nodes → holds p (c, n) ≡ holds p (d, n)
-stand_is p c d n h low = agree_is (holds p (c, n)) (holds p (d, n)) (range_at (λ node. agree (holds p (c, node)) (holds p (d, node))) 0 p.nodes n h (omega arith) (omega (arith, low)))
+stand_is p c d n h low = (booleans_Decides (holds p (c, n)) (holds p (d, n))).0 (range_at (λ node. beq (holds p (c, node)) (holds p (d, node))) 0 p.nodes n h (omega arith) (omega (arith, low)))
 
 stand_from : (p : PlacementValue) (c d : ℕ) → ((n : ℕ) → n < p.nodes → holds p (c, n) ≡ holds p (d, n)) → stand_alike p c d ≡ true
-stand_from p c d same = range_all (λ node. agree (holds p (c, node)) (holds p (d, node))) 0 p.nodes (λ n low high. agree_from (holds p (c, n)) (holds p (d, n)) (same n (omega (arith, high))))
+stand_from p c d same = range_all (λ node. beq (holds p (c, node)) (holds p (d, node))) 0 p.nodes (λ n low high. (booleans_Decides (holds p (c, n)) (holds p (d, n))).1 (same n (omega (arith, high))))
 
 -- ---- chunks that are alike
 

@@ -1,12 +1,12 @@
 -- The clauses of the order hold exactly where, after each step, of two chunks that are alike the first is at the watch node where the second is.
-use Rattle.std.{proofs.Common.{◌≡◌, ℕ, ◌<◌, Bool, true, List, [], ◌∷◌, Some, None, refl, sym, ap, ◌∙◌, arith, Option, flat_map}, specs.List.AllByRecursion}
+use Rattle.std.{proofs.Common.{◌≡◌, ℕ, ◌<◌, Bool, true, List, [], ◌∷◌, Some, None, refl, sym, ap, ◌∙◌, arith, Option, filter, flat_map}, specs.List.{AllByRecursion, range_with_len}}
 use Rattle.std.proofs.lemmas.List.Elements.{recursion_from_All}
 use Rattle.schedule.{specs.{Placed.PlacementValue, Sends.IsStep}, proofs.First.each_weaker}
 use Rattle.cnf_formula.specs.Literals.{LitValue, negation, is_true, clause_holds, all_hold}
 use Rattle.send_encoding.specs.Variables.{SendMapValue, steps_of, arrival}
 use Rattle.send_encoding.proofs.{Everywhere.{by_recursion, From, in_range}, Complete.{passes_flat, passes_map, if_true}}
 use Rattle.send_encoding.proofs.Sound.{flat_passes, map_passes, at_range, said_if}
-use Rattle.chunk_order.specs.{Alike.{is_alike, watch_node}, Ordering.{is_least, leaders, class_of, next_pairs, pair_in_order, class_in_order, order_clauses}}
+use Rattle.chunk_order.specs.{Alike.{is_alike, watch_node}, Ordering.{is_least, class_of, next_pairs, pair_in_order, class_in_order, order_clauses}}
 use Rattle.chunk_order.proofs.{Alikeness.{alike_back, alike_both, watch_alike}, Classes.{IsNext, Leads, leads, nexts_of_class, filter_at, chained, later_at}}
 
 module _ (m : SendMapValue) (pre post : PlacementValue) (values : List Bool) (nodes : post.nodes ≡ pre.nodes) where
@@ -21,7 +21,7 @@ module _ (m : SendMapValue) (pre post : PlacementValue) (values : List Bool) (no
 
   pub clauses_hold : ((c d node : ℕ) → c < d → d < pre.chunks → is_alike pre post c d ≡ true → watch_node pre post c ≡ Some node → Follows node c d) → all_hold values (order_clauses m pre post) ≡ true
   clauses_hold follows =
-      passes_flat (clause_holds values) (λ c. Unit {0}) (λ c. class_in_order m (watch_node pre post c) (class_of pre post c)) (leaders pre post) (λ leader any. of_class leader (watch_node pre post leader) refl) (λ k d low. tt)
+      passes_flat (clause_holds values) (λ c. Unit {0}) (λ c. class_in_order m (watch_node pre post c) (class_of pre post c)) (filter (is_least pre post) (range_with_len 0 pre.chunks)) (λ leader any. of_class leader (watch_node pre post leader) refl) (λ k d low. tt)
     where
       of_pair : (leader node : ℕ) (pair : ℕ × ℕ) → watch_node pre post leader ≡ Some node → IsNext pre post leader pair → all_hold values (pair_in_order m node pair) ≡ true
       of_pair leader node pair watch next =
@@ -44,7 +44,7 @@ module _ (m : SendMapValue) (pre post : PlacementValue) (values : List Bool) (no
       let found : Leads pre post c = leads pre post c in
       let l : ℕ = found.leader in
       let of_leader : ℕ → List (List LitValue) = λ c. class_in_order m (watch_node pre post c) (class_of pre post c) in
-      let each : AllByRecursion (λ c. all_hold values (of_leader c) ≡ true) (leaders pre post) = recursion_from_All (λ c. all_hold values (of_leader c) ≡ true) (leaders pre post) (flat_passes (clause_holds values) of_leader (leaders pre post) all) in
+      let each : AllByRecursion (λ c. all_hold values (of_leader c) ≡ true) (filter (is_least pre post) (range_with_len 0 pre.chunks)) = recursion_from_All (λ c. all_hold values (of_leader c) ≡ true) (filter (is_least pre post) (range_with_len 0 pre.chunks)) (flat_passes (clause_holds values) of_leader (filter (is_least pre post) (range_with_len 0 pre.chunks)) all) in
       let mine : all_hold values (of_leader l) ≡ true = filter_at (is_least pre post) (λ c. all_hold values (of_leader c) ≡ true) 0 pre.chunks l each (omega arith) (omega (arith, found.low, less, dl)) found.least in
       let watched : watch_node pre post l ≡ Some node = watch_alike pre post l c nodes found.alike ∙ watch in
       let class_holds : all_hold values (flat_map (pair_in_order m node) (next_pairs (class_of pre post l))) ≡ true = ap (λ w. all_hold values (class_in_order m w (class_of pre post l))) (sym watched) ∙ mine in

@@ -10,10 +10,6 @@ use Rattle.chunk_order.specs.Alike.{is_alike, watch_node}
 abbrev pub is_least : PlacementValue → PlacementValue → ℕ → Bool
 is_least pre post c = not (list_any (is_alike pre post c) (range_with_len 0 c))
 
--- the classes of chunks that are alike, each by its least chunk, ascending
-abbrev pub leaders : PlacementValue → PlacementValue → List ℕ
-leaders pre post = filter (is_least pre post) (range_with_len 0 pre.chunks)
-
 -- the chunks that are alike with one, ascending
 abbrev pub class_of : PlacementValue → PlacementValue → ℕ → List ℕ
 class_of pre post c = filter (is_alike pre post c) (range_with_len 0 pre.chunks)
@@ -37,8 +33,9 @@ class_in_order m (Some node) chunks = flat_map (pair_in_order m node) (next_pair
 abbrev pub leads_in_order : SendMapValue → PlacementValue → PlacementValue → ℕ → List (List LitValue)
 leads_in_order m pre post c = if is_least pre post c then class_in_order m (watch_node pre post c) (class_of pre post c) else []
 
+-- the clauses of each class of chunks that are alike, by its least chunk
 abbrev pub order_clauses : SendMapValue → PlacementValue → PlacementValue → List (List LitValue)
-order_clauses m pre post = flat_map (λ c. class_in_order m (watch_node pre post c) (class_of pre post c)) (leaders pre post)
+order_clauses m pre post = flat_map (λ c. class_in_order m (watch_node pre post c) (class_of pre post c)) (filter (is_least pre post) (range_with_len 0 pre.chunks))
 
 -- the formula of a candidate of so many steps and rounds, followed by the clauses of the order
 abbrev pub ordered_formula_of : TopologyValue → PlacementValue → PlacementValue → ℕ → ℕ → FormulaValue

@@ -1,18 +1,18 @@
 //! What the definitions give on small instances.
 
-ghost use Rattle.std.specs.Prelude.{◌≡◌, true, Some, None, [], ◌∷◌};
+ghost use Rattle.std.specs.{Prelude.{◌≡◌, true, filter, Some, None, [], ◌∷◌}, List.range_with_len};
 ghost use Rattle.schedule.specs.{Rows.{line_of_2, line_of_3, at_root, everywhere}, Judging.verdict_of};
 ghost use Rattle.schedule.specs.declared.verdict.Verdict.TheVariants as verdict;
 ghost use Rattle.cnf_formula.specs.Literals.{yes, no};
 ghost use Rattle.send_encoding.specs.Variables.{map_of};
 ghost use Rattle.collective_spec.specs.{declared.kind.Kind.Kind, Collectives.instance_of, Patterns.copied, Rows.{instance_on_three, two_given}};
-ghost use Rattle.chunk_order.specs.{Alike.{Ordered, is_alike, watch_node}, Ordering.{class_of, leaders, next_pairs, order_clauses}};
+ghost use Rattle.chunk_order.specs.{Alike.{Ordered, is_alike, watch_node}, Ordering.{class_of, is_least, next_pairs, order_clauses}};
 ghost use Rattle.chunk_order.specs.Rows.{in_turn, out_of_turn};
 
 /// All chunks of a broadcast are alike, and node 1 is the first to get them.
 pub fn chunks_of_a_broadcast_are_alike()
     ensures class { class_of (at_root 3 3) (everywhere 3 3) 0 ≡ 0 ∷ 1 ∷ 2 ∷ [] }
-    ensures leader { leaders (at_root 3 3) (everywhere 3 3) ≡ 0 ∷ [] }
+    ensures leader { filter (is_least (at_root 3 3) (everywhere 3 3)) (range_with_len 0 3) ≡ 0 ∷ [] }
     ensures watch { watch_node (at_root 3 3) (everywhere 3 3) 2 ≡ Some 1 }
     ensures pairs { next_pairs (class_of (at_root 3 3) (everywhere 3 3) 0) ≡ (0, 1) ∷ (1, 2) ∷ [] }
 {}
@@ -34,7 +34,7 @@ pub fn each_chunk_with_the_next()
 /// of node 1 have no order, since they are there.
 pub fn chunks_that_are_there_have_no_order()
     ensures class { class_of (instance_on_three Kind.Gather 2).pre (instance_on_three Kind.Gather 2).post 0 ≡ 0 ∷ 3 ∷ [] }
-    ensures leaders { leaders (instance_on_three Kind.Gather 2).pre (instance_on_three Kind.Gather 2).post ≡ 0 ∷ 1 ∷ 2 ∷ [] }
+    ensures leaders { filter (is_least (instance_on_three Kind.Gather 2).pre (instance_on_three Kind.Gather 2).post) (range_with_len 0 6) ≡ 0 ∷ 1 ∷ 2 ∷ [] }
     ensures alike { is_alike (instance_on_three Kind.Gather 2).pre (instance_on_three Kind.Gather 2).post 1 4 ≡ true }
     ensures there { watch_node (instance_on_three Kind.Gather 2).pre (instance_on_three Kind.Gather 2).post 1 ≡ None }
     ensures clauses { order_clauses (map_of line_of_3 (instance_on_three Kind.Gather 2).pre 1) (instance_on_three Kind.Gather 2).pre (instance_on_three Kind.Gather 2).post

@@ -36,48 +36,20 @@ bits_lower n i k = (
 
 -- one bit more
 pub bits_more : (n i k : ℕ) → IsBitSet (bit_or n (2 ^ i)) k ↔ (IsBitSet n k ⊎ (k ≡ i))
-bits_more n i k = (
-  λ s. ⊎_elim (λ e. inr e) (λ d. inl (λ z. s (other d ∙ z))) (cases_eq k i),
-  λ h. ⊎_elim
-      (λ b. ⊎_elim (λ e. same e) (λ d. λ z. b (sym (other d) ∙ z)) (cases_eq k i))
-      (λ e. same e)
-      h,
-)
-  where
-    other : k ≢ i → bit_and (bit_or n (2 ^ i)) (2 ^ k) ≡ bit_and n (2 ^ k)
-    other d = and_or_apart (2 ^ k) n (2 ^ i) (pow_apart i k (λ e. d (sym e)))
-
-    same : k ≡ i → IsBitSet (bit_or n (2 ^ i)) k
-    same e = λ z.
-        let s = and_or_self (2 ^ i) n in
-        let at : bit_and (bit_or n (2 ^ i)) (2 ^ k) ≡ bit_and (bit_or n (2 ^ i)) (2 ^ i) = ap (λ x. bit_and (bit_or n (2 ^ i)) (2 ^ x)) e in
-        let p = pow_pos i in
-        omega (arith, s, at, z, p)
-
--- a word without bits
-pub no_bit : (n k : ℕ) → n ≡ 0 → IsBitSet n k → ⊥
-no_bit n k e s = s (let l = and_le_l n (2 ^ k) in omega (arith, l, e))
+bits_more n i k = grind (arith, cases_eq k i, and_or_apart, pow_apart, and_or_self, pow_pos)
 
 -- the highest bit
 pub highest_set : (n : ℕ) → n ≢ 0 → n < 2 ^ 64 → IsBitSet n (63 - count_leading_zeros 64 n)
 highest_set n some fits =
     let t = leading_top 64 n (omega (arith, some)) fits in
-    let j : 63 - count_leading_zeros 64 n ≡ t.0 = omega (arith, t.1) in
     let two : 2 ^ suc t.0 ≡ 2 * 2 ^ t.0 = pow-succ' 2 t.0 in
-    let split : n ≡ 1 * 2 ^ t.0 + (n - 2 ^ t.0) = omega (arith, t.2) in
-    let one : n / 2 ^ t.0 ≡ 1 = ap (λ x. x / 2 ^ t.0) split ∙ shr_high 1 t.0 (n - 2 ^ t.0) (omega (arith, t.3, two)) in
-    let s : IsBitSet n t.0 = (bit_set_by_shift n t.0).0 (ap (λ x. bit_and x 1) one) in
-    λ z. s (ap (λ x. bit_and n (2 ^ x)) (sym j) ∙ z)
+    grind (arith, shr_high 1 t.0 (n - 2 ^ t.0) (omega (arith, t.3, two)), bit_set_by_shift n t.0)
 
 pub highest_last : (n : ℕ) → n ≢ 0 → n < 2 ^ 64 → (k : ℕ) → 63 - count_leading_zeros 64 n < k → IsBitSet n k → ⊥
 highest_last n some fits k gt s =
     let t = leading_top 64 n (omega (arith, some)) fits in
     let le : 2 ^ suc t.0 ≤ 2 ^ k = pow-le-pow_right (omega arith) (omega (arith, t.1, gt)) in
-    let all : n ≡ 0 * 2 ^ k + n = omega arith in
-    let none : n / 2 ^ k ≡ 0 = ap (λ x. x / 2 ^ k) all ∙ shr_high 0 k n (omega (arith, t.3, le)) in
-    let one = (bit_set_by_shift n k).1 s in
-    let zero' : bit_and (n / 2 ^ k) 1 ≡ 0 = ap (λ x. bit_and x 1) none in
-    omega (arith, one, zero')
+    grind (arith, shr_high 0 k n (omega (arith, t.3, le)), bit_set_by_shift n k)
 
 -- ---- sets of places
 
@@ -114,53 +86,3 @@ pub record IsScan (words : List ℕ) (place index word : ℕ) : Type 0 where
   pub low : index ≤ place / 64
   pub set : (b : ℕ) → b < 64 → IsBitSet word b → (64 * index + b < place) × IsBitSet (get_or words index 0) b
   pub rest : (k : ℕ) → k < place → HasPlace words k → (k / 64 < index) ⊎ ((k / 64 ≡ index) × IsBitSet word (k % 64))
-
-pub scan_begin : (words : List ℕ) (place index read word : ℕ) → index ≡ place / 64 → read ≡ get_or words index 0 → ((k : ℕ) → IsBitSet word k ↔ (IsBitSet read k × (k < place % 64))) → IsScan words place index word
-scan_begin words place index read word i r w = record {
-  low = omega (arith, i);
-  set = λ b lt s.
-      let h = (w b).0 s in
-      (omega (arith, h.1, i), λ z. h.0 (ap (λ x. bit_and x (2 ^ b)) r ∙ z));
-  rest = λ k lt h. ⊎_elim
-      (λ less. inl less)
-      (λ ge.
-      let e : k / 64 ≡ index = omega (arith, ge, lt, i) in
-      let at : read ≡ get_or words (k / 64) 0 = r ∙ ap (λ x. get_or words x 0) (sym e) in
-      inr (e, (w (k % 64)).1 (λ z. h (sym (ap (λ x. bit_and x (2 ^ (k % 64))) at) ∙ z), omega (arith, ge, lt, i))))
-      (cases_lt (k / 64) index);
-}
-
-pub scan_next : (words : List ℕ) (place index word next : ℕ) → IsScan words place index word → word ≡ 0 → 0 < index → next ≡ get_or words (index - 1) 0 → IsScan words place (index - 1) next
-scan_next words place index word next s none some n = record {
-  low = let l = s.low in omega (arith, l);
-  set = λ b lt h. (let l = s.low in omega (arith, l, lt, some), λ z. h (ap (λ x. bit_and x (2 ^ b)) n ∙ z));
-  rest = λ k lt h. ⊎_elim
-      (λ less. ⊎_elim
-      (λ l. inl l)
-      (λ ge.
-      let e : k / 64 ≡ index - 1 = omega (arith, ge, less) in
-      let at : next ≡ get_or words (k / 64) 0 = n ∙ ap (λ x. get_or words x 0) (sym e) in
-      inr (e, λ z. h (sym (ap (λ x. bit_and x (2 ^ (k % 64))) at) ∙ z)))
-      (cases_lt (k / 64) (index - 1)))
-      (λ here'. absurd (no_bit word (k % 64) none here'.1))
-      (s.rest k lt h);
-}
-
-pub scan_none : (words : List ℕ) (place index word : ℕ) → IsScan words place index word → word ≡ 0 → index ≡ 0 → (k : ℕ) → k < place → HasPlace words k → ⊥
-scan_none words place index word s none first k lt h = ⊎_elim
-    (λ less. omega (arith, less, first))
-    (λ here'. no_bit word (k % 64) none here'.1)
-    (s.rest k lt h)
-
-pub scan_found : (words : List ℕ) (place index word b p : ℕ) → IsScan words place index word → b < 64 → IsBitSet word b → ((k : ℕ) → b < k → IsBitSet word k → ⊥) → p ≡ 64 * index + b → (p < place) × HasPlace words p × ((k : ℕ) → p < k → k < place → HasPlace words k → ⊥)
-scan_found words place index word b p s small is top e =
-    let h = s.set b small is in
-    let row : p / 64 ≡ index = omega (arith, e, small) in
-    let column : p % 64 ≡ b = omega (arith, e, small) in (
-      omega (arith, h.0, e),
-      λ z. h.1 (ap (λ x. bit_and (get_or words index 0) (2 ^ x)) (sym column) ∙ ap (λ x. bit_and (get_or words x 0) (2 ^ (p % 64))) (sym row) ∙ z),
-      λ k gt lt has. ⊎_elim
-          (λ less. omega (arith, less, gt, e))
-          (λ here'. top (k % 64) (omega (arith, here'.0, gt, e, small)) here'.1)
-          (s.rest k lt has),
-    )

@@ -186,38 +186,10 @@ denied_hints core place w d =
 -- ---- as the walk begins with one literal, and ends
 
 pub met_from : (core : CoreValue) (place : ℕ) (o : LitValue) (a b : WalkValue) → IsTrail core.vars core.trail core.limits → place < length core.trail → o.var ≡ (lit_at core place).var → IsBegun core a → HasMet core (o ∷ []) a b → IsPassed core 3 b (place + 1)
-met_from core place o a b t w e begun m =
-    let all = met_passed core (o ∷ []) a b begun m in
-    record {
-      each = λ k v r. absurd (met_unresolved core (o ∷ []) a b (lit_at core k).var begun m r);
-      waits = λ k v r. ⊎_elim
-          (λ g. let low = begun.low (lit_at core k).var in absurd (omega (arith, low, g)))
-          (λ q. ⊎_elim
-          (λ i. let s = same_place core k place t v w (sym q.2 ∙ sym (ap (λ x. x.var) i) ∙ e) in omega (arith, s))
-          (λ h. absurd (omega (arith, h.1)))
-          (cons_cases o [] q.0 q.1))
-          (m.new (lit_at core k).var (omega (arith, r, m.stamp)));
-      hints = all.hints;
-    }
+met_from core place o a b t w e begun m = grind (arith, met_passed core (o ∷ []) a b begun m, met_unresolved, same_place, cons_cases)
 
 pub walked_by : (core : CoreValue) (place : ℕ) (o : LitValue) (a b c : WalkValue) → place < length core.trail → length core.limits ≡ 0 → o.var ≡ (lit_at core place).var → IsBegun core a → HasMet core (o ∷ []) a b → HasWalked core 3 b c 0 → HasSameAbove core (place + 1) b c → IsWalked core place c
-walked_by core place o a b c w bottom e begun m h above = record {
-  bottom = bottom;
-  within = w;
-  sorted = h.sorted;
-  passed = h.passed;
-  seen = let seen = h.onward.seen o (m.seen o (here o [])) in omega (arith, seen, ap (λ v. get_or c.marks v 0) e);
-  under = λ k v r. ⊎_elim
-      (λ lt. omega (arith, lt))
-      (λ ge. absurd (met_unresolved core (o ∷ []) a b (lit_at core k).var begun m (above.above k v ge r)))
-      (cases_lt k (place + 1));
-}
+walked_by core place o a b c w bottom e begun m h above = grind (arith, here o [], met_unresolved)
 
 pub unit_line_by : (core : CoreValue) (place : ℕ) (w : WalkValue) (line : ProofLineValue) → IsWalked core place w → line.lits ≡ lit_at core place ∷ [] → line.hints ≡ reverse w.hints → IsUnitLine core place line
-unit_line_by core place w line d lits hints = record {
-  conflict = (reasoned_here core place w d).id;
-  resolved = resolved_of w;
-  lits = lits;
-  analysis = subst (IsAnalysis core.clauses (denied core place) (resolved_of w) (reasoned_here core place w d).id) (sym lits) (denied_analysis core place w d);
-  hints = hints ∙ denied_hints core place w d;
-}
+unit_line_by core place w line d lits hints = grind (arith, reasoned_here core place w d, reasoned_here, denied_analysis core place w d, denied_hints core place w d)

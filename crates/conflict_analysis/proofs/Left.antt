@@ -41,11 +41,7 @@ left_sorted core w s = record {
 }
 
 pub left_passed : (core : CoreValue) (kind : ℕ) (w : WalkValue) (place : ℕ) → IsPassed core kind w place → IsPassed core kind (left_in w) place
-left_passed core kind w place p = record {
-  each = λ k v e. let q = p.each k v e in (q.0, record { id = q.1.id; reason = q.1.reason; within = q.1.within; stands = q.1.stands; others = q.1.others });
-  waits = p.waits;
-  hints = p.hints;
-}
+left_passed core kind w place p = grind arith
 
 pub left_point : (core : CoreValue) (w : WalkValue) (point : Option LitValue) → MatchOption point (length core.limits ≡ 0) (λ l. IsImplicationPoint core w l × (0 < length core.limits)) → MatchOption point (length core.limits ≡ 0) (λ l. IsImplicationPoint core (left_in w) l × (0 < length core.limits))
 left_point core w None p = p

@@ -47,7 +47,4 @@ some_level limits k c z =
 
 -- a level begins no higher than one after it
 pub limits_rise : (limits : List ℕ) (len i j : ℕ) → AreLimits limits len → i ≤ j → j < length limits → get_or limits i 0 ≤ get_or limits j 0
-limits_rise limits len i j a le w = ⊎_elim
-    (λ lt. let r = a.rising i j lt w in omega (arith, r))
-    (λ ge. let e : i ≡ j = omega (arith, ge, le) in omega (arith, ap (λ k. get_or limits k 0) e))
-    (cases_lt i j)
+limits_rise limits len i j a le w = grind (arith, cases_lt i j)

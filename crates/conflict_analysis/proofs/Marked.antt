@@ -67,50 +67,17 @@ pub mark_same : (core : CoreValue) (marks : List ℕ) (k y : ℕ) → IsTrail co
 mark_same core marks k y t len w = let a = lit_about core k t w in get_or-set_same marks (lit_at core k).var y 0 (omega (arith, a.within, len))
 
 pub marked_set : (core : CoreValue) (stamp : ℕ) (marks : List ℕ) (k kind : ℕ) → IsTrail core.vars core.trail core.limits → AreMarks core stamp marks → IsMark core k kind → AreMarks core stamp (set marks (lit_at core k).var (stamp + kind))
-marked_set core stamp marks k kind t m is = record {
-  len = length-set marks u (stamp + kind) ∙ m.len;
-  over = λ v. ⊎_elim (λ e. omega (arith, at v e, is.some)) (λ n. let o = m.over v in omega (arith, o, get_or-set_other marks u v (stamp + kind) 0 n)) (cases_eq v u);
-  placed = λ v w. ⊎_elim (λ e. (k, is.within, sym e)) (λ n. m.placed v (omega (arith, w, get_or-set_other marks u v (stamp + kind) 0 n))) (cases_eq v u);
-  low = λ j w e. at_place (λ x. level_at core.limits x < length core.limits) j w (λ h. is.low (omega (arith, h, e))) (λ h. m.low j w (h ∙ e));
-  top = λ j w e. at_place (λ x. (level_at core.limits x ≡ length core.limits) × (0 < length core.limits)) j w (λ h. is.top (omega (arith, h, e))) (λ h. m.top j w (h ∙ e));
-  bottom = λ j w e. at_place (λ x. level_at core.limits x ≡ 0) j w (λ h. is.bottom (omega (arith, h, e))) (λ h. m.bottom j w (h ∙ e));
-}
-  where
-    u : ℕ
-    u = (lit_at core k).var
-
-    at : (v : ℕ) → v ≡ u → get_or (set marks u (stamp + kind)) v 0 ≡ stamp + kind
-    at v e = ap (λ x. get_or (set marks u (stamp + kind)) x 0) e ∙ mark_same core marks k (stamp + kind) t m.len is.within
-
-    at_place : (P : ℕ → Type 0) (j : ℕ) → j < length core.trail → (get_or (set marks u (stamp + kind)) (lit_at core j).var 0 ≡ stamp + kind → P k) → (get_or marks (lit_at core j).var 0 ≡ get_or (set marks u (stamp + kind)) (lit_at core j).var 0 → P j) → P j
-    at_place P j w same other = ⊎_elim
-        (λ e. subst P (same_place core k j t is.within w (sym e)) (same (at (lit_at core j).var e)))
-        (λ n. other (sym (get_or-set_other marks u (lit_at core j).var (stamp + kind) 0 n)))
-        (cases_eq (lit_at core j).var u)
+marked_set core stamp marks k kind t m is = grind (arith, length-set, get_or-set_other, mark_same, same_place)
 
 -- ---- places
 
 -- a literal that is met, or was, and its place with it
 pub noted_more : (core : CoreValue) (stamp : ℕ) (marks places places' : List ℕ) (k y : ℕ) → IsTrail core.vars core.trail core.limits → k < length core.trail → length marks ≡ core.vars + 1 → stamp ≤ y → AreNoted core stamp marks places → ((j : ℕ) → HasPlace places' j ↔ (HasPlace places j ⊎ (j ≡ k))) → AreNoted core stamp (set marks (lit_at core k).var y) places'
-noted_more core stamp marks places places' k y t w len high n a = record {
-  within = λ j h. ⊎_elim (λ s. n.within j s) (λ e. omega (arith, e, w)) ((a j).0 h);
-  each = λ j v. ⊎_elim
-      (λ e.
-      let at : get_or (set marks (lit_at core k).var y) (lit_at core j).var 0 ≡ y = ap (λ i. get_or (set marks (lit_at core k).var y) (lit_at core i).var 0) e ∙ mark_same core marks k y t len w in
-      (λ h. omega (arith, at, high), λ h. (a j).1 (inr e)))
-      (λ d.
-      let other = get_or-set_other marks (lit_at core k).var (lit_at core j).var y 0 (λ s. d (same_place core j k t v w s)) in (
-        λ h. ⊎_elim (λ s. let q = (n.each j v).0 s in omega (arith, q, other)) (λ e. absurd (d e)) ((a j).0 h),
-        λ h. (a j).1 (inl ((n.each j v).1 (omega (arith, h, other)))),
-      ))
-      (cases_eq j k);
-}
+noted_more core stamp marks places places' k y t w len high n a = grind (arith, mark_same core marks k y t len w, get_or-set_other, same_place)
 
 -- one that was met already
 pub noted_same : (core : CoreValue) (stamp : ℕ) (marks places : List ℕ) (k y : ℕ) → IsTrail core.vars core.trail core.limits → k < length core.trail → length marks ≡ core.vars + 1 → stamp ≤ y → AreNoted core stamp marks places → stamp ≤ get_or marks (lit_at core k).var 0 → AreNoted core stamp (set marks (lit_at core k).var y) places
-noted_same core stamp marks places k y t w len high n met =
-    let has : HasPlace places k = (n.each k w).1 met in
-    noted_more core stamp marks places places k y t w len high n (λ j. (λ h. inl h, λ h. ⊎_elim (λ s. s) (λ e. subst (λ i. HasPlace places i) (sym e) has) h))
+noted_same core stamp marks places k y t w len high n met = grind (arith, noted_more)
 
 -- ---- what is kept
 
@@ -239,15 +206,7 @@ module _ (core : CoreValue) (w : WalkValue) (l : LitValue) (k : ℕ) (places : L
 -- ---- and more of them
 
 pub met_none : (core : CoreValue) (w : WalkValue) → IsSorted core w → HasMet core [] w w
-met_none core w s = record {
-  sorted = s;
-  stamp = refl;
-  hints = refl;
-  seen = λ o c. absurd (omega (arith, c.1));
-  stays = λ v g. refl;
-  new = λ v g. inl g;
-  more = omega arith;
-}
+met_none core w s = grind arith
 
 pub met_more : (core : CoreValue) (xs : List LitValue) (x : LitValue) (a b c : WalkValue) → HasMet core xs a b → HasMet core (x ∷ []) b c → HasMet core (xs ++ x ∷ []) a c
 met_more core xs x a b c p q = record {
@@ -286,9 +245,7 @@ pub read_stands : (clause xs : List LitValue) (k : ℕ) (x : LitValue) → xs �
 read_stands clause xs k x e w is = subst (λ ys. Contains ys x) e (k, w, sym is)
 
 pub met_next : (core : CoreValue) (clause xs : List LitValue) (k : ℕ) (x : LitValue) (a b c : WalkValue) → xs ≡ clause → k < length xs → x ≡ get_or xs k x → HasMet core (take k clause) a b → HasMet core (x ∷ []) b c → HasMet core (take (k + 1) clause) a c
-met_next core clause xs k x a b c e w is p q =
-    let at : x ≡ get_or clause k x = is ∙ ap (λ ys. get_or ys k x) e in
-    subst (λ ys. HasMet core ys a c) (ap (λ y. take k clause ++ y ∷ []) at ∙ sym (take_more clause k x (omega (arith, w, ap length e)))) (met_more core (take k clause) x a b c p q)
+met_next core clause xs k x a b c e w is p q = grind (arith, take_more clause k x (omega (arith, w, ap length e)), met_more core (take k clause) x a b c p q)
 
 pub met_still : (core : CoreValue) (ys : List LitValue) (a b : WalkValue) (o : LitValue) → HasMet core ys a b → IsSeen a o ⊎ IsFalse (trues core) o → IsSeen b o ⊎ IsFalse (trues core) o
 met_still core ys a b o m h = ⊎_elim (λ s. inl (let k = m.stays o.var s in omega (arith, k, s, m.stamp))) (λ f. inr f) h

@@ -1,16 +1,12 @@
 -- Elements of lists.
-use Rattle.std.proofs.Common.{zero, suc, ◌≡◌, ℕ, ◌<◌, List, [], ◌∷◌, length, get_or, refl, inl, inr, ⊎_elim, arith, ◌⊎◌, Contains, map}
+use Rattle.std.proofs.Common.{◌≡◌, List, [], ◌∷◌, refl, ⊎_elim, arith, ◌⊎◌, Contains, map}
 use Rattle.list_laws.proofs.Members.{Contains-cons}
 
 pub here : {X : Type 0} (x : X) (xs : List X) → Contains (x ∷ xs) x
 here x xs = (0, omega arith, refl)
 
 pub cons_cases : {X : Type 0} (y : X) (xs : List X) (x : X) → Contains (y ∷ xs) x → (y ≡ x) ⊎ Contains xs x
-cons_cases y xs x c = go c.0 c.1 c.2
-  where
-    go : (k : ℕ) → k < length (y ∷ xs) → get_or (y ∷ xs) k x ≡ x → (y ≡ x) ⊎ Contains xs x
-    go zero w e = inl e
-    go (suc k) w e = inr (k, omega (arith, w), e)
+cons_cases y xs x c = grind arith
 
 pub from_map : {X Y : Type 0} (f : X → Y) (xs : List X) (y : Y) → Contains (map f xs) y → (x : X) × Contains xs x × (f x ≡ y)
 from_map f [] y c = absurd (omega (arith, c.1))

@@ -1,12 +1,12 @@
 -- Where the walk begins and ends: one literal of the last level is left, and all others that are kept became false below it.
-use Rattle.std.proofs.Common.{suc, ◌-◌, ◌≡◌, ℕ, ◌+◌, ◌<◌, ◌≤◌, Bool, false, List, [], ◌∷◌, length, get_or, take, refl, sym, ap, ◌∙◌, inl, inr, ⊎_elim, arith, ◌≢◌, ◌⊎◌, Contains, filter, reverse, pos, map, nat_le}
+use Rattle.std.proofs.Common.{suc, ◌-◌, ◌≡◌, ℕ, ◌+◌, ◌<◌, ◌≤◌, Bool, false, List, [], ◌∷◌, length, get_or, take, refl, sym, ap, ◌∙◌, inl, inr, ⊎_elim, arith, ◌≢◌, ◌⊎◌, Contains, filter, nat_le}
 use Rattle.std.proofs.lemmas.{List.{get_or-take, length-take-le, Sums.count_by-le-length}, Bool.{cases_lt, cases_eq, ne_eqb}}
 use Rattle.std.proofs.lemmas.List.Elements.{All-contains, Contains-get_or}
 use Rattle.cnf_formula.specs.{Formulas.IsAbout, Literals.{LitValue, negation}}
 use Rattle.trail_core.specs.{Assigned.{IsFalse, IsOpen, AreLimits, level_at}, Trails.StepValue, Meaning.{CoreValue, trues}, Formed.IsTrail}
 use Rattle.trail_core.proofs.{Trails.all_counted, Keeping.lits_length}
-use Rattle.conflict_analysis.specs.{Conflicts.IsConflict, Learning.number_of, PlaceSets.HasPlace}
-use Rattle.conflict_analysis.specs.Met.{WalkValue, no_step, lit_at, mark_of, resolved_by, IsSorted, HasMet, IsPassed, IsImplicationPoint}
+use Rattle.conflict_analysis.specs.{Conflicts.IsConflict, PlaceSets.HasPlace}
+use Rattle.conflict_analysis.specs.Met.{WalkValue, no_step, lit_at, mark_of, IsSorted, HasMet, IsPassed, IsImplicationPoint}
 use Rattle.conflict_analysis.proofs.{Levels.{level_grows, level_below, some_level, limits_rise}, Counted.{waits_some, waits_none}}
 use Rattle.conflict_analysis.proofs.Marked.{IsAt, false_at, lit_read, lit_about, same_place}
 
@@ -50,25 +50,11 @@ bottom_place limits k w z = ⊎_elim
 
 -- a literal that became false below a place is false there
 pub false_below : (core : CoreValue) (o : LitValue) (k m : ℕ) → IsAt core o k → k < m → m ≤ length core.trail → IsFalse (take m (trues core)) o
-false_below core o k m a lt w =
-    let n = length-take-le m (trues core) (omega (arith, w, lits_length core.trail)) in
-    (k, omega (arith, n, lt), get_or-take m (trues core) k (negation o) lt ∙ lit_read core k (negation o) a.within ∙ a.is)
+false_below core o k m a lt w = grind (arith, length-take-le m (trues core) (omega (arith, w, lits_length core.trail)), lits_length core.trail, get_or-take m (trues core) k (negation o) lt, lit_read core k (negation o) a.within)
 
 -- a literal of a place is open below it
 pub open_below : (core : CoreValue) (l : LitValue) (k m : ℕ) → IsTrail core.vars core.trail core.limits → k < length core.trail → (lit_at core k).var ≡ l.var → m ≤ k → IsOpen (take m (trues core)) l
-open_below core l k m t w e le = record {
-  not_true = λ c. none l refl c;
-  not_false = λ c. none (negation l) refl c;
-}
-  where
-    none : (x : LitValue) → x.var ≡ l.var → Contains (take m (trues core)) x → ⊥
-    none x i c =
-        let n = length-take-le m (trues core) (omega (arith, w, le, lits_length core.trail)) in
-        let lt : c.0 < m = omega (arith, c.1, n) in
-        let v : c.0 < length core.trail = omega (arith, lt, le, w) in
-        let at : lit_at core c.0 ≡ x = sym (lit_read core c.0 x v) ∙ sym (get_or-take m (trues core) c.0 x lt) ∙ c.2 in
-        let s = same_place core c.0 k t v w (ap (λ y. y.var) at ∙ i ∙ sym e) in
-        omega (arith, s, lt, le)
+open_below core l k m t w e le = grind (arith, length-take-le, lits_length, lit_read, get_or-take, same_place)
 
 -- ---- the begin
 
@@ -115,17 +101,10 @@ begun_sorted core w b = record {
 
 -- the conflict was met: nothing is resolved
 pub met_unresolved : (core : CoreValue) (clause : List LitValue) (a b : WalkValue) (v : ℕ) → IsBegun core a → HasMet core clause a b → get_or b.marks v 0 ≢ b.stamp + 2
-met_unresolved core clause a b v begun m e = ⊎_elim
-    (λ g. let r = begun.low v in omega (arith, r, g))
-    (λ q. q.3 (omega (arith, e, m.stamp)))
-    (m.new v (omega (arith, e, m.stamp)))
+met_unresolved core clause a b v begun m e = grind arith
 
 pub met_passed : (core : CoreValue) (clause : List LitValue) (a b : WalkValue) → IsBegun core a → HasMet core clause a b → IsPassed core 3 b (length core.trail)
-met_passed core clause a b begun m = record {
-  each = λ k v e. absurd (met_unresolved core clause a b (lit_at core k).var begun m e);
-  waits = λ k v e. v;
-  hints = ap reverse (m.hints ∙ begun.hints) ∙ sym (ap (map (λ s. pos (number_of s.reason))) (filter_none (resolved_by b) core.trail (λ k v. ne_eqb (mark_of b (lit_at core k)) (b.stamp + 2) (met_unresolved core clause a b (lit_at core k).var begun m))));
-}
+met_passed core clause a b begun m = grind (arith, met_unresolved, filter_none, ne_eqb)
 
 -- above level 0 some literal of the last level is met
 pub met_open_some : (core : CoreValue) (conflict : ℕ) (a b : WalkValue) → IsConflict core conflict → IsBegun core a → HasMet core (get_or core.clauses conflict []) a b → 0 < length core.limits → 0 < b.open_

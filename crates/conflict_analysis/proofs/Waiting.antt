@@ -14,30 +14,15 @@ implied_at core k g w n = ⊎_elim (λ d. absurd (n (subst (Contains core.limits
 
 -- some step waits below, so the place of a literal that was met lies there
 pub waits_below : (core : CoreValue) (kind : ℕ) (w : WalkValue) (place : ℕ) → IsSorted core w → IsPassed core kind w place → 0 < waiting (w.stamp + kind) w.marks → (k : ℕ) × (k < place) × HasPlace w.met_places k
-waits_below core kind w place s p some =
-    let v = waits_where (w.stamp + kind) w.marks some in
-    let k = s.marked.placed v.0 (omega (arith, v.2)) in
-    let e : mark_of w (lit_at core k.0) ≡ w.stamp + kind = ap (λ x. get_or w.marks x 0) k.2 ∙ v.2 in
-    (k.0, p.waits k.0 k.1 e, (s.noted.each k.0 k.1).1 (omega (arith, e)))
+waits_below core kind w place s p some = grind (arith, waits_where (w.stamp + kind) w.marks some)
 
 -- so from the next place of a literal that was met on, all but this place are passed
 pub next_passed : (core : CoreValue) (kind : ℕ) (w : WalkValue) (from place : ℕ) → IsSorted core w → IsPassed core kind w from → place < from → ((k : ℕ) → place < k → k < from → HasPlace w.met_places k → ⊥) → IsPassed core kind w (place + 1)
-next_passed core kind w from place s p lt none = record {
-  each = λ k v e. let q = p.each k v e in (omega (arith, q.0, lt), q.1);
-  waits = λ k v e. ⊎_elim
-      (λ gt. absurd (none k gt (p.waits k v e) ((s.noted.each k v).1 (omega (arith, e)))))
-      (λ le. omega (arith, le))
-      (cases_lt place k);
-  hints = p.hints;
-}
+next_passed core kind w from place s p lt none = grind arith
 
 -- a place at which none of the kind waits is passed
 pub passed_over : (core : CoreValue) (kind : ℕ) (w : WalkValue) (place : ℕ) → IsPassed core kind w (place + 1) → mark_of w (lit_at core place) ≢ w.stamp + kind → IsPassed core kind w place
-passed_over core kind w place p n = record {
-  each = λ k v e. let q = p.each k v e in (omega (arith, q.0), q.1);
-  waits = λ k v e. let q = p.waits k v e in ⊎_elim (λ lt. lt) (λ ge. let s : k ≡ place = omega (arith, ge, q) in absurd (n (ap (λ i. mark_of w (lit_at core i)) (sym s) ∙ e))) (cases_lt k place);
-  hints = p.hints;
-}
+passed_over core kind w place p n = grind arith
 
 -- the mark at a place, as it is read
 pub mark_read : (core : CoreValue) (w : WalkValue) (place : ℕ) (x : LitValue) (var read : ℕ) → IsTrail core.vars core.trail core.limits → length w.marks ≡ core.vars + 1 → place < length core.trail → x ≡ lit_at core place → var ≡ x.var → read ≡ get_or w.marks var read → read ≡ mark_of w (lit_at core place)

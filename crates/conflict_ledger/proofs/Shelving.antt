@@ -3,11 +3,13 @@ use Rattle.std.proofs.Common.{◌≡◌, ℕ, Bool, true, List, [], ◌∷◌, �
 use Rattle.std.{specs.List.list_any, proofs.lemmas.{Bool.{cases_Bool, false≢true, or_right}, List.{append_assoc, take-append-drop, Folds.list_any_at}}}
 use Rattle.std.proofs.lemmas.List.Elements.{Contains-append_left, Contains-push}
 use Rattle.cnf_formula.specs.{Literals.{LitValue, is_superset}, Formulas.FormulaValue, Lines.ProofLineValue, declared.line.LratLine.TheVariants.Addition}
-use Rattle.proof_rules.specs.{Held.{Entry, CheckerValue, start_of, is_empty}, Refuting.{is_fresh, with_line, after}, Learning.AllImplied}
+use Rattle.proof_rules.specs.{Held.{Entry, CheckerValue, start_of, is_empty}, Refuting.{is_fresh, with_line, after}, Learning.AllImplied, Judging.verdict_of, declared.verdict.LineVerdict.TheVariants.Accepted}
+use Rattle.proof_rules.proofs.InTurn.{implied_more}
 use Rattle.text_lines.specs.Text.{line as text_line}
 use Rattle.lrat_text.specs.Printing.{line_words}
 use Rattle.outer_ports.specs.{declared.proof_name.ProofName.ProofName, Port.Tells, Files.Files, Shelf.OthersStay}
-use Rattle.ledger_rules.specs.Logs.{learned}
+use Rattle.ledger_rules.specs.Logs.{learned, checker_of}
+use Rattle.conflict_ledger.proofs.Learned.{fresh_some}
 use Rattle.conflict_ledger.specs.Shelved.{log_text, IsLogFront, LedgerState, ShelfMoves, ShelfAgrees, ShelfMoves-trans}
 
 -- ---- one line more
@@ -17,6 +19,10 @@ text_more [] line = refl
 text_more (l ∷ lines) line =
     let own = text_line (line_words (Addition l)) in
     ap (λ bytes. own ++ bytes) (text_more lines line) ∙ sym (append_assoc own (log_text lines) (log_text (line ∷ [])))
+
+-- the text of a line behind that of those before it
+text_added : (lines : List ProofLineValue) (line : ProofLineValue) (text : List ℕ) → text ≡ log_text (line ∷ []) → log_text lines ++ text ≡ log_text (lines ++ line ∷ [])
+text_added lines line text e = ap (λ bytes. log_text lines ++ bytes) e ∙ sym (text_more lines line)
 
 -- ---- a fresh clause is learned while nothing closes
 
@@ -59,28 +65,15 @@ begun_by base lines line name told files now text a e old put t =
       front = log_text lines ++ take p.0 text;
       rest = drop p.0 text;
       is = p.1;
-      text = append_assoc (log_text lines) (take p.0 text) (drop p.0 text) ∙ ap (λ bytes. log_text lines ++ bytes) (take-append-drop p.0 text ∙ e) ∙ sym (text_more lines line);
+      text = append_assoc (log_text lines) (take p.0 text) (drop p.0 text) ∙ ap (λ bytes. log_text lines ++ bytes) (take-append-drop p.0 text) ∙ text_added lines line text e;
     }
 
 -- the same ledger, where the shelf came to this
 abbrev pub later : LedgerState → Bool → Files → LedgerState
 later x told files = record x { told = told; files = files }
 
--- the line goes to the whole log
-pub moves_whole : (x : LedgerState) (lines : List ProofLineValue) (line : ProofLineValue) (told : Bool) (files : Files) (text : List ℕ) → AllImplied (start_of x.base) (lines ++ line ∷ []) → text ≡ log_text (line ∷ []) → ShelfAgrees x lines → x.lrat ≢ x.partial
-    → Tells x.told told → IsPut x.lrat told x.files files text → (IsTrue told → OthersStay x.lrat x.files files) → ShelfMoves x (later x told files)
-moves_whole x lines line told files text a e agrees apart tells put others = record {
-  same_base = refl;
-  same_lrat = refl;
-  same_partial = refl;
-  tells = tells;
-  others = λ t name l p. others t name l;
-  whole_log = λ t. inr (begun_by x.base lines line x.lrat told x.files files text a e (agrees.whole_log (tells t)) put t);
-  learned_log = λ t. inl (others t x.partial (λ e. apart (sym e)));
-}
-
--- and then to the log of what was learned
-pub moves_learned : (x : LedgerState) (lines : List ProofLineValue) (line : ProofLineValue) (told : Bool) (files : Files) (text : List ℕ) → AllImplied (start_of x.base) (lines ++ line ∷ []) → text ≡ log_text (line ∷ []) → (IsTrue x.told → x.files x.partial ≡ Some (log_text lines)) → x.lrat ≢ x.partial
+-- the line goes to the log of what was learned
+moves_learned : (x : LedgerState) (lines : List ProofLineValue) (line : ProofLineValue) (told : Bool) (files : Files) (text : List ℕ) → AllImplied (start_of x.base) (lines ++ line ∷ []) → text ≡ log_text (line ∷ []) → (IsTrue x.told → x.files x.partial ≡ Some (log_text lines)) → x.lrat ≢ x.partial
     → Tells x.told told → IsPut x.partial told x.files files text → (IsTrue told → OthersStay x.partial x.files files) → ShelfMoves x (later x told files)
 moves_learned x lines line told files text a e old apart tells put others = record {
   same_base = refl;
@@ -95,14 +88,6 @@ moves_learned x lines line told files text a e old apart tells put others = reco
 abbrev pub IsWhole : ProofName → Bool → Files → Files → List ℕ → Type 0
 IsWhole name told files now text = IsTrue told → (before : List ℕ) → files name ≡ Some before → now name ≡ Some (before ++ text)
 
--- both, one after the other
-pub moves_both : (x : LedgerState) (lines : List ProofLineValue) (line : ProofLineValue) (t1 t2 : Bool) (f1 f2 : Files) (text : List ℕ) → AllImplied (start_of x.base) (lines ++ line ∷ []) → learned lines ≡ lines → text ≡ log_text (line ∷ []) → ShelfAgrees x lines → x.lrat ≢ x.partial
-    → Tells x.told t1 → IsPut x.lrat t1 x.files f1 text → (IsTrue t1 → OthersStay x.lrat x.files f1) → Tells t1 t2 → IsPut x.partial t2 f1 f2 text → (IsTrue t2 → OthersStay x.partial f1 f2) → ShelfMoves x (later x t2 f2)
-moves_both x lines line t1 t2 f1 f2 text a all e agrees apart tells put others tells' put' others' =
-    let old : IsTrue t1 → f1 x.partial ≡ Some (log_text lines) = λ t. others t x.partial (λ i. apart (sym i)) ∙ agrees.learned_log (tells t) ∙ ap (λ ls. Some (log_text ls)) all in
-    ShelfMoves-trans x (later x t1 f1) (later x t2 f2) (moves_whole x lines line t1 f1 text a e agrees apart tells put others)
-    (moves_learned (later x t1 f1) lines line t2 f2 text a e old apart tells' put' others')
-
 learned_last : (lines : List ProofLineValue) (line : ProofLineValue) → not (is_empty line.lits) ≡ true → learned (lines ++ line ∷ []) ≡ learned lines ++ line ∷ []
 learned_last [] line s = rw s refl
 learned_last (l ∷ lines) line s =
@@ -115,26 +100,52 @@ learned_but (l ∷ lines) line e =
     let more = learned_but lines line e in
     ⊎_elim (λ b. rw b (ap (λ ls. l ∷ ls) more)) (λ b. rw b more) (cases_Bool (not (is_empty l.lits)))
 
-pub agrees_learned : (x : LedgerState) (lines : List ProofLineValue) (line : ProofLineValue) (t1 t2 : Bool) (f1 f2 : Files) (text : List ℕ) → AllImplied (start_of x.base) (lines ++ line ∷ []) → learned lines ≡ lines → not (is_empty line.lits) ≡ true → text ≡ log_text (line ∷ []) → ShelfAgrees x lines → x.lrat ≢ x.partial
-    → Tells x.told t1 → IsWhole x.lrat t1 x.files f1 text → (IsTrue t1 → OthersStay x.lrat x.files f1) → Tells t1 t2 → IsWhole x.partial t2 f1 f2 text → (IsTrue t2 → OthersStay x.partial f1 f2) → ShelfAgrees (later x t2 f2) (lines ++ line ∷ [])
-agrees_learned x lines line t1 t2 f1 f2 text a all some e agrees apart tells put others tells' put' others' =
-    let now : learned (lines ++ line ∷ []) ≡ lines ++ line ∷ [] = learned_last lines line some ∙ ap (λ ls. ls ++ line ∷ []) all in
-    let told : log_text lines ++ text ≡ log_text (lines ++ line ∷ []) = ap (λ bytes. log_text lines ++ bytes) e ∙ sym (text_more lines line) in
-    let old : IsTrue t1 → f1 x.partial ≡ Some (log_text lines) = λ t. others t x.partial (λ i. apart (sym i)) ∙ agrees.learned_log (tells t) ∙ ap (λ ls. Some (log_text ls)) all in
-    record {
-      implied = a;
-      learned_implied = subst (AllImplied (start_of x.base)) (sym now) a;
-      whole_log = λ t. others' t x.lrat apart ∙ put (tells' t) (log_text lines) (agrees.whole_log (tells (tells' t))) ∙ ap Some told;
-      learned_log = λ t. put' t (log_text lines) (old (tells' t)) ∙ ap Some (told ∙ ap log_text (sym now));
-    }
+-- ---- a line that follows comes to the ledger
 
-pub agrees_closed : (x : LedgerState) (lines : List ProofLineValue) (line : ProofLineValue) (told : Bool) (files : Files) (text : List ℕ) → AllImplied (start_of x.base) (lines ++ line ∷ []) → line.lits ≡ [] → text ≡ log_text (line ∷ []) → ShelfAgrees x lines → x.lrat ≢ x.partial
-    → Tells x.told told → IsWhole x.lrat told x.files files text → (IsTrue told → OthersStay x.lrat x.files files) → ShelfAgrees (later x told files) (lines ++ line ∷ [])
-agrees_closed x lines line told files text a none e agrees apart tells put others =
-    let now : learned (lines ++ line ∷ []) ≡ learned lines = learned_but lines line none in
-    record {
-      implied = a;
-      learned_implied = subst (AllImplied (start_of x.base)) (sym now) agrees.learned_implied;
-      whole_log = λ t. put t (log_text lines) (agrees.whole_log (tells t)) ∙ ap Some (ap (λ bytes. log_text lines ++ bytes) e ∙ sym (text_more lines line));
-      learned_log = λ t. others t x.partial (λ i. apart (sym i)) ∙ agrees.learned_log (tells t) ∙ ap (λ ls. Some (log_text ls)) (sym now);
-    }
+module _ (x : LedgerState) (lines : List ProofLineValue) (line : ProofLineValue) (agrees : ShelfAgrees x lines) (apart : x.lrat ≢ x.partial) (follows : verdict_of (checker_of x.base lines) line ≡ Accepted true) where
+  all : AllImplied (start_of x.base) (lines ++ line ∷ [])
+  all = implied_more lines (start_of x.base) line agrees.implied follows
+
+  -- the line goes to the whole log
+  pub moves_whole : (told : Bool) (files : Files) (text : List ℕ) → text ≡ log_text (line ∷ []) → Tells x.told told → IsPut x.lrat told x.files files text → (IsTrue told → OthersStay x.lrat x.files files) → ShelfMoves x (later x told files)
+  moves_whole told files text e tells put others = record {
+    same_base = refl;
+    same_lrat = refl;
+    same_partial = refl;
+    tells = tells;
+    others = λ t name l p. others t name l;
+    whole_log = λ t. inr (begun_by x.base lines line x.lrat told x.files files text all e (agrees.whole_log (tells t)) put t);
+    learned_log = λ t. inl (others t x.partial (λ e. apart (sym e)));
+  }
+
+  -- one that closes goes there alone
+  pub agrees_closed : (told : Bool) (files : Files) (text : List ℕ) → line.lits ≡ [] → text ≡ log_text (line ∷ []) → Tells x.told told → IsWhole x.lrat told x.files files text → (IsTrue told → OthersStay x.lrat x.files files) → ShelfAgrees (later x told files) (lines ++ line ∷ [])
+  agrees_closed told files text none e tells put others =
+      let now : learned (lines ++ line ∷ []) ≡ learned lines = learned_but lines line none in
+      record {
+        implied = all;
+        learned_implied = subst (AllImplied (start_of x.base)) (sym now) agrees.learned_implied;
+        whole_log = λ t. put t (log_text lines) (agrees.whole_log (tells t)) ∙ ap Some (text_added lines line text e);
+        learned_log = λ t. others t x.partial (λ i. apart (sym i)) ∙ agrees.learned_log (tells t) ∙ ap (λ ls. Some (log_text ls)) (sym now);
+      }
+
+  -- one that is learned then goes to the log of what was learned, which had all lines before it
+  module _ (fresh : is_fresh (checker_of x.base lines) line.lits ≡ true) (t1 t2 : Bool) (f1 f2 : Files) (text text' : List ℕ) (e : text ≡ log_text (line ∷ [])) (e' : text' ≡ log_text (line ∷ [])) (tells : Tells x.told t1) (others : IsTrue t1 → OthersStay x.lrat x.files f1) (tells' : Tells t1 t2) (others' : IsTrue t2 → OthersStay x.partial f1 f2) where
+    same : learned lines ≡ lines
+    same = all_learned lines (start_of x.base) line.lits fresh
+
+    old : IsTrue t1 → f1 x.partial ≡ Some (log_text lines)
+    old t = others t x.partial (λ i. apart (sym i)) ∙ agrees.learned_log (tells t) ∙ ap (λ ls. Some (log_text ls)) same
+
+    pub moves_both : IsPut x.lrat t1 x.files f1 text → IsPut x.partial t2 f1 f2 text' → ShelfMoves x (later x t2 f2)
+    moves_both put put' = ShelfMoves-trans x (later x t1 f1) (later x t2 f2) (moves_whole t1 f1 text e tells put others) (moves_learned (later x t1 f1) lines line t2 f2 text' all e' old apart tells' put' others')
+
+    pub agrees_learned : IsWhole x.lrat t1 x.files f1 text → IsWhole x.partial t2 f1 f2 text' → ShelfAgrees (later x t2 f2) (lines ++ line ∷ [])
+    agrees_learned put put' =
+        let now : learned (lines ++ line ∷ []) ≡ lines ++ line ∷ [] = learned_last lines line (fresh_some (checker_of x.base lines) line.lits fresh) ∙ ap (λ ls. ls ++ line ∷ []) same in
+        record {
+          implied = all;
+          learned_implied = subst (AllImplied (start_of x.base)) (sym now) all;
+          whole_log = λ t. others' t x.lrat apart ∙ put (tells' t) (log_text lines) (agrees.whole_log (tells (tells' t))) ∙ ap Some (text_added lines line text e);
+          learned_log = λ t. put' t (log_text lines) (old (tells' t)) ∙ ap Some (text_added lines line text' e' ∙ ap log_text (sym now));
+        }

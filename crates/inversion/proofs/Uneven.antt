@@ -18,14 +18,6 @@ uneven_cons bags nodes pair pairs =
     find-append test (map (λ node. (pair.0, pair.1, node)) (range_with_len 0 nodes)) (counts_due nodes pairs)
     ∙ ap (λ first. option_or first (first_uneven bags nodes pairs)) (find-map test (λ node. (pair.0, pair.1, node)) (range_with_len 0 nodes))
 
-dues_split : (nodes : ℕ) (xs ys : List (ℕ × ℕ)) → counts_due nodes (xs ++ ys) ≡ counts_due nodes xs ++ counts_due nodes ys
-dues_split nodes xs ys = flat_map-append (λ pair. map (λ node. (pair.0, pair.1, node)) (range_with_len 0 nodes)) xs ys
-
-uneven_split : (bags : Bags) (nodes : ℕ) (xs ys : List (ℕ × ℕ)) → first_uneven bags nodes (xs ++ ys) ≡ option_or (first_uneven bags nodes xs) (first_uneven bags nodes ys)
-uneven_split bags nodes xs ys =
-    let test : ℕ × ℕ × ℕ → Bool = λ due. not (eqb (count_of bags due) 1) in
-    ap (find test) (dues_split nodes xs ys) ∙ find-append test (counts_due nodes xs) (counts_due nodes ys)
-
 -- ---- one row, from a node on
 
 abbrev pub row_from : Bags → ℕ → (ℕ × ℕ → Bool) → ℕ → ℕ → Option (ℕ × ℕ × ℕ)
@@ -35,22 +27,15 @@ row_from bags nodes held chunk node = first_uneven bags nodes (filter held (map 
 abbrev pub uneven_here : Bags → ℕ → (ℕ × ℕ → Bool) → ℕ × ℕ → Option ℕ
 uneven_here bags nodes held pair = cond (held pair) (uneven_node (bags pair) nodes) None
 
-row_more : (bags : Bags) (nodes : ℕ) (held : ℕ × ℕ → Bool) (chunk node : ℕ) → node < nodes → row_from bags nodes held chunk node ≡ option_or (option_map (λ of. (chunk, node, of)) (uneven_here bags nodes held (chunk, node))) (row_from bags nodes held chunk (node + 1))
-row_more bags nodes held chunk node below =
+-- what is said of it is said of the row, if it is the first
+pub row_on : (bags : Bags) (nodes : ℕ) (held : ℕ × ℕ → Bool) (chunk node : ℕ) (first : Option ℕ) → node < nodes → first ≡ uneven_here bags nodes held (chunk, node)
+    → row_from bags nodes held chunk node ≡ option_or (option_map (λ of. (chunk, node, of)) first) (row_from bags nodes held chunk (node + 1))
+row_on bags nodes held chunk node first below is =
     let rest : List (ℕ × ℕ) = map (λ n. (chunk, n)) (range_with_len (node + 1) (nodes - (node + 1))) in
     ap (λ ns. first_uneven bags nodes (filter held (map (λ n. (chunk, n)) ns))) (range_more node nodes below)
     ∙ (elim (held (chunk, node)) as (λ b. first_uneven bags nodes (cond b ((chunk, node) ∷ filter held rest) (filter held rest)) ≡ option_or (option_map (λ of. (chunk, node, of)) (cond b (uneven_node (bags (chunk, node)) nodes) None)) (first_uneven bags nodes (filter held rest)))
     [ true ↦ uneven_cons bags nodes (chunk, node) (filter held rest) | false ↦ refl ])
-
-pub row_here : (bags : Bags) (nodes : ℕ) (held : ℕ × ℕ → Bool) (chunk node of : ℕ) → node < nodes → Some of ≡ uneven_here bags nodes held (chunk, node) → row_from bags nodes held chunk node ≡ Some (chunk, node, of)
-row_here bags nodes held chunk node of below found =
-    row_more bags nodes held chunk node below
-    ∙ ap (λ first. option_or (option_map (λ of. (chunk, node, of)) first) (row_from bags nodes held chunk (node + 1))) (sym found)
-
-pub row_later : (bags : Bags) (nodes : ℕ) (held : ℕ × ℕ → Bool) (chunk node : ℕ) → node < nodes → None ≡ uneven_here bags nodes held (chunk, node) → row_from bags nodes held chunk node ≡ row_from bags nodes held chunk (node + 1)
-row_later bags nodes held chunk node below none =
-    row_more bags nodes held chunk node below
-    ∙ ap (λ first. option_or (option_map (λ of. (chunk, node, of)) first) (row_from bags nodes held chunk (node + 1))) (sym none)
+    ∙ ap (λ o. option_or (option_map (λ of. (chunk, node, of)) o) (row_from bags nodes held chunk (node + 1))) (sym is)
 
 pub row_past : (bags : Bags) (nodes : ℕ) (held : ℕ × ℕ → Bool) (chunk node : ℕ) → nodes ≤ node → row_from bags nodes held chunk node ≡ None
 row_past bags nodes held chunk node past = ap (λ ns. first_uneven bags nodes (filter held (map (λ n. (chunk, n)) ns))) (range_none node nodes past)
@@ -64,18 +49,16 @@ grid_from bags nodes held low high = first_uneven bags nodes (filter held (rows_
 abbrev pub whole_row : Bags → ℕ → (ℕ × ℕ → Bool) → ℕ → Option (ℕ × ℕ × ℕ)
 whole_row bags nodes held chunk = first_uneven bags nodes (filter held (map (λ node. (chunk, node)) (range_with_len 0 nodes)))
 
-pub grid_more : (bags : Bags) (nodes : ℕ) (held : ℕ × ℕ → Bool) (low high : ℕ) → low < high → grid_from bags nodes held low high ≡ option_or (whole_row bags nodes held low) (grid_from bags nodes held (low + 1) high)
-grid_more bags nodes held low high below =
-    let row : List (ℕ × ℕ) = map (λ node. (low, node)) (range_with_len 0 nodes) in
+pub grid_on : (bags : Bags) (nodes : ℕ) (held : ℕ × ℕ → Bool) (low high : ℕ) (first : Option (ℕ × ℕ × ℕ)) → low < high → first ≡ whole_row bags nodes held low → grid_from bags nodes held low high ≡ option_or first (grid_from bags nodes held (low + 1) high)
+grid_on bags nodes held low high first below is =
+    let test : ℕ × ℕ × ℕ → Bool = λ due. not (eqb (count_of bags due) 1) in
+    let row : List (ℕ × ℕ) = filter held (map (λ node. (low, node)) (range_with_len 0 nodes)) in
+    let rest : List (ℕ × ℕ) = filter held (rows_from (low + 1) high nodes) in
     ap (λ rs. first_uneven bags nodes (filter held (flat_map (λ r. map (λ c. (r, c)) (range_with_len 0 nodes)) rs))) (range_more low high below)
-    ∙ (ap (first_uneven bags nodes) (filter-append held row (rows_from (low + 1) high nodes))
-    ∙ uneven_split bags nodes (filter held row) (filter held (rows_from (low + 1) high nodes)))
-
-pub grid_here : (bags : Bags) (nodes : ℕ) (held : ℕ × ℕ → Bool) (low high : ℕ) (due : ℕ × ℕ × ℕ) → low < high → Some due ≡ whole_row bags nodes held low → grid_from bags nodes held low high ≡ Some due
-grid_here bags nodes held low high due below found = grid_more bags nodes held low high below ∙ ap (λ first. option_or first (grid_from bags nodes held (low + 1) high)) (sym found)
-
-pub grid_later : (bags : Bags) (nodes : ℕ) (held : ℕ × ℕ → Bool) (low high : ℕ) → low < high → None ≡ whole_row bags nodes held low → grid_from bags nodes held low high ≡ grid_from bags nodes held (low + 1) high
-grid_later bags nodes held low high below none = grid_more bags nodes held low high below ∙ ap (λ first. option_or first (grid_from bags nodes held (low + 1) high)) (sym none)
+    ∙ ap (first_uneven bags nodes) (filter-append held (map (λ node. (low, node)) (range_with_len 0 nodes)) (rows_from (low + 1) high nodes))
+    ∙ ap (find test) (flat_map-append (λ pair. map (λ node. (pair.0, pair.1, node)) (range_with_len 0 nodes)) row rest)
+    ∙ find-append test (counts_due nodes row) (counts_due nodes rest)
+    ∙ ap (λ o. option_or o (first_uneven bags nodes rest)) (sym is)
 
 pub grid_past : (bags : Bags) (nodes : ℕ) (held : ℕ × ℕ → Bool) (low high : ℕ) → high ≤ low → grid_from bags nodes held low high ≡ None
 grid_past bags nodes held low high past =

@@ -16,14 +16,10 @@ count_of bags due = slice_index_or (bags (due.0, due.1)) due.2 0
 abbrev pub first_uneven : Bags → ℕ → List (ℕ × ℕ) → Option (ℕ × ℕ × ℕ)
 first_uneven bags nodes pairs = find (λ due. not (count_of bags due == 1)) (counts_due nodes pairs)
 
--- a count other than 1 is missing, or at least 2
-abbrev pub uneven_verdict : Bags → ℕ × ℕ × ℕ → SumVerdict
-uneven_verdict bags due = if count_of bags due == 0 then Missing due.0 due.1 due.2 else Twice due.0 due.1 due.2
-
--- it sums, unless a count is uneven
+-- it sums, unless a count is uneven: one other than 1 is missing, or at least 2
 abbrev pub counts_judged : Bags → Option (ℕ × ℕ × ℕ) → SumVerdict
 counts_judged last None = Sums
-counts_judged last (Some due) = uneven_verdict last due
+counts_judged last (Some due) = if count_of last due == 0 then Missing due.0 due.1 due.2 else Twice due.0 due.1 due.2
 
 -- what is said of the first send without a link, or else of the first step and group over the bandwidth
 abbrev pub misfit_at : TopologyValue → ScheduleValue → Option Hop → Option (ℕ × ℕ) → Option SumVerdict

@@ -1,5 +1,5 @@
 -- Literals that are assumed false.
-use Rattle.std.proofs.Common.{◌≡◌, ℕ, zero, suc, ◌+◌, Bool, true, false, List, [], ◌∷◌, drop, eqb, arith, refl, sym, ap, ◌∙◌, ⊎_elim, ◌⊎◌, ◌==◌, not, None, if◌then◌else◌}
+use Rattle.std.proofs.Common.{◌≡◌, ℕ, suc, ◌+◌, Bool, true, false, List, [], ◌∷◌, drop, eqb, arith, refl, sym, ap, ◌∙◌, ⊎_elim, ◌⊎◌, ◌==◌, not, None, if◌then◌else◌}
 use Rattle.std.{specs.List.list_any, proofs.lemmas.Bool.{false≢true, or_left, or_right, or_from, eq-eqb, Decides.nat_tests}}
 use Rattle.cnf_formula.{specs.Literals.{LitValue, same_literal, has_literal, negation, code_of}, proofs.Clauses.same_is}
 use Rattle.proof_rules.specs.{Judging.{has_variable_twice, assumed}, Accepting.{without_negated, is_made_true}}
@@ -26,9 +26,8 @@ no_variable [] l f g = refl
 no_variable (x ∷ ls) l f g = grind (arith, no_variable ls l, one_of l x)
 
 twice-drop : (k : ℕ) (ls : List LitValue) → has_variable_twice (drop k ls) ≡ true → has_variable_twice ls ≡ true
-twice-drop zero ls h = h
-twice-drop (suc k) [] h = h
 twice-drop (suc k) (x ∷ ls) h = or_right (has_variable ls x) (has_variable_twice ls) (twice-drop k ls h)
+twice-drop k ls h = h
 
 -- a literal whose variable stands behind it
 pub twice_here : (ls : List LitValue) (k : ℕ) (l : LitValue) (rest : List LitValue) → drop k ls ≡ l ∷ rest → (has_literal rest l ≡ true) ⊎ (has_literal rest (negation l) ≡ true) → has_variable_twice ls ≡ true

@@ -23,9 +23,7 @@ abbrev pub table_with : TableValue → ProofLineValue → TableValue
 table_with table line = record { vars = table.vars; clauses = table.clauses ++ line.lits ∷ []; held = table.held ++ (line.id, line.lits) ∷ []; last = line.id }
 
 pub with_line_is : (table : TableValue) (o g : ℕ) (r : Bool) (line : ProofLineValue) → o ≤ length table.clauses → checker_of (table_with table line) o line.id (r || is_empty line.lits) ≡ with_line (checker_of table o g r) line
-with_line_is table o g r line w =
-    let make : List (List LitValue) → CheckerValue = λ cs. record { formula = record { vars = table.vars; clauses = cs }; held = table.held ++ (line.id, line.lits) ∷ []; greatest = line.id; refuted = r || is_empty line.lits } in
-    ap make (take-append-le o table.clauses (line.lits ∷ []) w)
+with_line_is table o g r line w = cc (take-append-le o table.clauses (line.lits ∷ []) w)
 
 pub can_add : (table : TableValue) (marks : MarksValue) (o g : ℕ) (r : Bool) (line : ProofLineValue) → CanCheck table marks o g r → is_accepted (verdict_of (checker_of table o g r) line) ≡ true
     → CanCheck (table_with table line) marks o line.id (r || is_empty line.lits)
@@ -53,13 +51,9 @@ deletion_accepted c deletion h = grind arith
 
 pub can_delete : (table : TableValue) (marks : MarksValue) (o g : ℕ) (r : Bool) (deletion : DeletionValue) → CanCheck table marks o g r → (are_held table.held deletion.ids && not (has_number_twice deletion.ids)) ≡ true
     → CanCheck (table_without table deletion.ids) marks o g r
-can_delete table marks o g r deletion c h = record {
-  unmarked = c.unmarked;
-  same = c.same;
-  many = c.many;
-  last = c.last;
-  checker = stays_checker (checker_of table o g r) (Deletion deletion) c.checker (ap is_accepted (deletion_accepted (checker_of table o g r) deletion h));
-}
+can_delete table marks o g r deletion c h =
+    let checker = stays_checker (checker_of table o g r) (Deletion deletion) c.checker (ap is_accepted (deletion_accepted (checker_of table o g r) deletion h)) in
+    assumption (c, checker)
 
 -- ---- the verdict
 

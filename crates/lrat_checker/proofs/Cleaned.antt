@@ -3,7 +3,7 @@ use Rattle.std.proofs.Common.{◌≡◌, ◌⊎◌, ℕ, ◌<◌, Bool, true, Li
 use Rattle.std.proofs.lemmas.{Bool.cases_eq, List.{get_or-set_same, get_or-set_other, length-set, Elements.filter_passes}}
 use Rattle.list_laws.proofs.Members.{Contains-filter}
 use Rattle.cnf_formula.specs.Literals.{LitValue, code_of}
-use Rattle.lrat_checker.specs.{declared.leads.LedClause.LedClause, Stored.{list_at, is_held, kept_live, IsStored}}
+use Rattle.lrat_checker.specs.{declared.leads.LedClause.LedClause, Stored.{list_at, is_held, kept_live, IsIndexed, IsStored}}
 use Rattle.lrat_checker.proofs.{Placed.live_within, Removed.{kept_at, kept_long}}
 
 -- a list without what is no longer held
@@ -21,18 +21,12 @@ all_held live lists new code w e =
 
 pub stored_cleaned : (vars : ℕ) (ids : List ℕ) (live : List Bool) (clauses : List (List LitValue)) (lists : List (List ℕ)) (leads : List (List LedClause)) (code : ℕ) → IsStored vars ids live clauses lists leads → code < length lists
     → IsStored vars ids live clauses (cleaned live lists code) leads
-stored_cleaned vars ids live clauses lists leads code s w = record {
-  rises = s.rises;
-  some = s.some;
-  lives = s.lives;
-  many = s.many;
-  about = s.about;
-  indexed = record {
-    long = length-set lists code _ ∙ s.indexed.long;
-    each = λ k l a h. still_there live lists code (code_of l) k w a (s.indexed.each k l a h);
-  };
-  led = s.led;
-}
+stored_cleaned vars ids live clauses lists leads code s w =
+    let indexed : IsIndexed vars live clauses (cleaned live lists code) = record {
+      long = length-set lists code _ ∙ s.indexed.long;
+      each = λ k l a h. still_there live lists code (code_of l) k w a (s.indexed.each k l a h);
+    } in
+    assumption (s, indexed)
 
 -- ---- clauses that are let go
 
@@ -41,18 +35,7 @@ held_before ids live gone k l a = grind (arith, live_within (kept_live ids live 
 
 pub stored_let_go : (vars : ℕ) (ids : List ℕ) (live live' : List Bool) (clauses : List (List LitValue)) (lists : List (List ℕ)) (leads : List (List LedClause)) (gone : List ℕ) → IsStored vars ids live clauses lists leads
     → (live' ≡ kept_live ids live gone) ⊎ (live' ≡ live) → IsStored vars ids live' clauses lists leads
-stored_let_go vars ids live live' clauses lists leads gone s new = ⊎_elim (λ e. subst (λ bs. IsStored vars ids bs clauses lists leads) (sym e) fewer) (λ e. subst (λ bs. IsStored vars ids bs clauses lists leads) (sym e) s) new
-  where
-    fewer : IsStored vars ids (kept_live ids live gone) clauses lists leads
-    fewer = record {
-      rises = s.rises;
-      some = s.some;
-      lives = kept_long ids live gone s.lives;
-      many = s.many;
-      about = s.about;
-      indexed = record {
-        long = s.indexed.long;
-        each = λ k l a h. s.indexed.each k l (held_before ids live gone k s.lives a) h;
-      };
-      led = s.led;
-    }
+stored_let_go vars ids live live' clauses lists leads gone s new =
+    let indexed : IsIndexed vars (kept_live ids live gone) clauses lists = record { long = s.indexed.long; each = λ k l a h. s.indexed.each k l (held_before ids live gone k s.lives a) h } in
+    let fewer : IsStored vars ids (kept_live ids live gone) clauses lists leads = assumption (s, indexed, kept_long ids live gone s.lives) in
+    ⊎_elim (λ e. subst (λ bs. IsStored vars ids bs clauses lists leads) (sym e) fewer) (λ e. subst (λ bs. IsStored vars ids bs clauses lists leads) (sym e) s) new

@@ -11,17 +11,13 @@ use Rattle.proof_rules.specs.Held.{Entry}
 
 module _ (test : Entry → Bool) where
   pub any_by_place : (ids : List ℕ) (live : List Bool) (clauses : List (List LitValue)) (k : ℕ) → length live ≡ length ids → length clauses ≡ length ids → k < length ids → get_or live k false ≡ true → test (get_or ids k 0, get_or clauses k []) ≡ true → list_any test (held_of ids live clauses) ≡ true
-  any_by_place [] live clauses k l m w t f = absurd (omega (arith, w))
-  any_by_place (x ∷ ids) [] clauses k l m w t f = absurd (omega (arith, l))
-  any_by_place (x ∷ ids) (b ∷ live) [] k l m w t f = absurd (omega (arith, m))
   any_by_place (x ∷ ids) (b ∷ live) (c ∷ clauses) zero l m w t f = rw (t, f) refl
   any_by_place (x ∷ ids) (b ∷ live) (c ∷ clauses) (suc k) l m w t f = grind (arith, any_by_place ids live clauses k (omega (arith, l)) (omega (arith, m)) (omega (arith, w)) t f)
+  any_by_place ids live clauses k l m w t f = absurd (omega (arith, w, l, m))
 
   pub none_by_place : (ids : List ℕ) (live : List Bool) (clauses : List (List LitValue)) → ((k : ℕ) → k < length ids → get_or live k false ≡ true → test (get_or ids k 0, get_or clauses k []) ≡ false) → list_any test (held_of ids live clauses) ≡ false
-  none_by_place [] live clauses h = refl
-  none_by_place (x ∷ ids) [] clauses h = refl
-  none_by_place (x ∷ ids) (b ∷ live) [] h = refl
   none_by_place (x ∷ ids) (b ∷ live) (c ∷ clauses) h = grind (arith, h 0 (omega arith), none_by_place ids live clauses (λ k w t. h (suc k) (omega (arith, w)) t))
+  none_by_place ids live clauses h = refl
 
 -- ---- a member of a list that passes, and one that can't
 

@@ -56,21 +56,13 @@ module _ (pivot : LitValue) (start : List LitValue) (groups : List Group) where
 pub stored_grown : (vars : ℕ) (ids : List ℕ) (live : List Bool) (clauses : List (List LitValue)) (lists lists' : List (List ℕ)) (leads leads' : List (List LedClause)) → IsStored vars ids live clauses lists leads
     → length lists' ≡ length lists → ((code k : ℕ) → Contains (list_at lists code) k → Contains (list_at lists' code) k) → length leads' ≡ length leads → ((code : ℕ) (x : LedClause) → Contains (list_at leads code) x → Contains (list_at leads' code) x)
     → IsStored vars ids live clauses lists' leads'
-stored_grown vars ids live clauses lists lists' leads leads' s long kept wide held = record {
-  rises = s.rises;
-  some = s.some;
-  lives = s.lives;
-  many = s.many;
-  about = s.about;
-  indexed = record {
-    long = long ∙ s.indexed.long;
-    each = λ k l a h. kept (code_of l) k (s.indexed.each k l a h);
-  };
-  led = record {
-    long = wide ∙ s.led.long;
-    each = λ k w. let (code, lead, at) = s.led.each k w in (code, lead, held code (led_as k (get_or clauses k [])) at);
-  };
-}
+stored_grown vars ids live clauses lists lists' leads leads' s long kept wide held =
+    let indexed : IsIndexed vars live clauses lists' = record { long = long ∙ s.indexed.long; each = λ k l a h. kept (code_of l) k (s.indexed.each k l a h) } in
+    let led : IsLed vars clauses leads' = record {
+      long = wide ∙ s.led.long;
+      each = λ k w. let (code, lead, at) = s.led.each k w in (code, lead, held code (led_as k (get_or clauses k [])) at);
+    } in
+    assumption (s, indexed, led)
 
 -- ---- one clause more
 

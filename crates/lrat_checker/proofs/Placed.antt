@@ -33,32 +33,25 @@ abbrev pub Others : ℕ → List ℕ → Type 0
 Others id ids = All (λ other. other ≢ id) ids
 
 pub not_held : (ids : List ℕ) (live : List Bool) (clauses : List (List LitValue)) (id : ℕ) → Others id ids → clause_at (held_of ids live clauses) id ≡ None
-not_held [] live clauses id a = refl
-not_held (x ∷ ids) [] clauses id a = refl
-not_held (x ∷ ids) (b ∷ live) [] id a = refl
 not_held (x ∷ ids) (b ∷ live) (clause ∷ clauses) id a = grind (arith, nat_tests, not_held ids live clauses id (All-tail (λ other. other ≢ id) x ids a), All-head (λ other. other ≢ id) x ids a)
+not_held ids live clauses id a = refl
 
 pub others_above : (id : ℕ) (ids : List ℕ) → All (λ y. id < y) ids → Others id ids
 others_above id ids a k d w e = let lt = a k d w in omega (arith, lt, e)
 
 pub held_at : (ids : List ℕ) (live : List Bool) (clauses : List (List LitValue)) (place : ℕ) → Rises ids → length live ≡ length ids → length clauses ≡ length ids → place < length ids
     → clause_at (held_of ids live clauses) (get_or ids place 0) ≡ (if get_or live place false then Some (get_or clauses place []) else None)
-held_at [] live clauses place r l m w = absurd (omega (arith, w))
-held_at (x ∷ ids) [] clauses place r l m w = absurd (omega (arith, l))
-held_at (x ∷ ids) (b ∷ live) [] place r l m w = absurd (omega (arith, m))
 held_at (x ∷ ids) (b ∷ live) (clause ∷ clauses) zero r l m w = grind (arith, nat_tests, not_held ids live clauses x (others_above x ids (head_below x ids r)))
 held_at (x ∷ ids) (b ∷ live) (clause ∷ clauses) (suc place) r l m w = grind (arith, nat_tests, head_below x ids r place 0, held_at ids live clauses place (rises_tail x ids r) (omega (arith, l)) (omega (arith, m)) (omega (arith, w)))
+held_at ids live clauses place r l m w = absurd (omega (arith, w, l, m))
 
 -- ---- one more
 
 pub held_push : (ids : List ℕ) (live : List Bool) (clauses : List (List LitValue)) (id : ℕ) (clause : List LitValue) (held : Bool) → length live ≡ length ids → length clauses ≡ length ids
     → held_of (ids ++ id ∷ []) (live ++ held ∷ []) (clauses ++ clause ∷ []) ≡ held_of ids live clauses ++ (if held then (id, clause) ∷ [] else [])
 held_push [] [] [] id clause held l m = grind arith
-held_push [] (b ∷ live) clauses id clause held l m = absurd (omega (arith, l))
-held_push [] [] (c ∷ clauses) id clause held l m = absurd (omega (arith, m))
-held_push (x ∷ ids) [] clauses id clause held l m = absurd (omega (arith, l))
-held_push (x ∷ ids) (b ∷ live) [] id clause held l m = absurd (omega (arith, m))
 held_push (x ∷ ids) (b ∷ live) (c ∷ clauses) id clause held l m = grind (arith, held_push ids live clauses id clause held (omega (arith, l)) (omega (arith, m)))
+held_push ids live clauses id clause held l m = absurd (omega (arith, l, m))
 
 pub enumerate-push : (n : ℕ) (clauses : List (List LitValue)) (clause : List LitValue) → enumerate_from n (clauses ++ clause ∷ []) ≡ enumerate_from n clauses ++ (n + length clauses, clause) ∷ []
 enumerate-push n [] clause = let e : n ≡ n + 0 = omega arith in ap (λ k. (k, clause) ∷ []) e
@@ -70,17 +63,13 @@ enumerate-push n (c ∷ clauses) clause =
 
 module _ (test : Entry → Bool) where
   pub all_by_place : (ids : List ℕ) (live : List Bool) (clauses : List (List LitValue)) → ((k : ℕ) → k < length ids → get_or live k false ≡ true → test (get_or ids k 0, get_or clauses k []) ≡ true) → list_all test (held_of ids live clauses) ≡ true
-  all_by_place [] live clauses h = refl
-  all_by_place (x ∷ ids) [] clauses h = refl
-  all_by_place (x ∷ ids) (b ∷ live) [] h = refl
   all_by_place (x ∷ ids) (b ∷ live) (c ∷ clauses) h = grind (arith, h 0 (omega arith), all_by_place ids live clauses (λ k w t. h (suc k) (omega (arith, w)) t))
+  all_by_place ids live clauses h = refl
 
   pub not_all : (ids : List ℕ) (live : List Bool) (clauses : List (List LitValue)) (k : ℕ) → length live ≡ length ids → length clauses ≡ length ids → k < length ids → get_or live k false ≡ true → test (get_or ids k 0, get_or clauses k []) ≡ false → list_all test (held_of ids live clauses) ≡ false
-  not_all [] live clauses k l m w t f = absurd (omega (arith, w))
-  not_all (x ∷ ids) [] clauses k l m w t f = absurd (omega (arith, l))
-  not_all (x ∷ ids) (b ∷ live) [] k l m w t f = absurd (omega (arith, m))
   not_all (x ∷ ids) (b ∷ live) (c ∷ clauses) zero l m w t f = rw (t, f) refl
   not_all (x ∷ ids) (b ∷ live) (c ∷ clauses) (suc k) l m w t f = grind (arith, not_all ids live clauses k (omega (arith, l)) (omega (arith, m)) (omega (arith, w)) t f)
+  not_all ids live clauses k l m w t f = absurd (omega (arith, w, l, m))
 
 some_fails_here : (test : ℕ → Bool) (x : ℕ) (xs : List ℕ) → (test x && list_all test xs) ≡ false → test x ≡ true → list_all test xs ≡ false
 some_fails_here test x xs h t = grind arith

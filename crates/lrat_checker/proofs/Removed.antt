@@ -13,21 +13,18 @@ among gone x = list_any (λ id. id == x) gone
 -- ---- which is held
 
 pub live_not : (ids : List ℕ) (live : List Bool) (id : ℕ) → Others id ids → is_live ids live id ≡ false
-live_not [] live id a = refl
-live_not (x ∷ ids) [] id a = refl
 live_not (x ∷ ids) (b ∷ live) id a = grind (arith, nat_tests, live_not ids live id (All-tail (λ other. other ≢ id) x ids a), All-head (λ other. other ≢ id) x ids a)
+live_not ids live id a = refl
 
 pub live_at : (ids : List ℕ) (live : List Bool) (place : ℕ) → Rises ids → length live ≡ length ids → place < length ids → is_live ids live (get_or ids place 0) ≡ get_or live place false
-live_at [] live place r l w = absurd (omega (arith, w))
-live_at (x ∷ ids) [] place r l w = absurd (omega (arith, l))
 live_at (x ∷ ids) (b ∷ live) zero r l w = grind (arith, nat_tests, live_not ids live x (others_above x ids (head_below x ids r)))
 live_at (x ∷ ids) (b ∷ live) (suc place) r l w = grind (arith, nat_tests, head_below x ids r place 0, live_at ids live place (rises_tail x ids r) (omega (arith, l)) (omega (arith, w)))
+live_at ids live place r l w = absurd (omega (arith, w, l))
 
 pub held_live : (ids : List ℕ) (live : List Bool) (clauses : List (List LitValue)) (id : ℕ) → length live ≡ length ids → length clauses ≡ length ids → list_any (λ entry. entry.0 == id) (held_of ids live clauses) ≡ is_live ids live id
 held_live [] live clauses id l m = refl
-held_live (x ∷ ids) [] clauses id l m = absurd (omega (arith, l))
-held_live (x ∷ ids) (b ∷ live) [] id l m = absurd (omega (arith, m))
 held_live (x ∷ ids) (b ∷ live) (c ∷ clauses) id l m = grind (arith, held_live ids live clauses id (omega (arith, l)) (omega (arith, m)))
+held_live ids live clauses id l m = absurd (omega (arith, l, m))
 
 pub all_held_live : (ids : List ℕ) (live : List Bool) (clauses : List (List LitValue)) (gone : List ℕ) → length live ≡ length ids → length clauses ≡ length ids → are_held (held_of ids live clauses) gone ≡ list_all (λ id. is_live ids live id) gone
 all_held_live ids live clauses [] l m = refl
@@ -41,23 +38,20 @@ kept_long (x ∷ ids) [] gone l = absurd (omega (arith, l))
 kept_long (x ∷ ids) (b ∷ live) gone l = ap suc (kept_long ids live gone (omega (arith, l)))
 
 pub kept_at : (ids : List ℕ) (live : List Bool) (gone : List ℕ) (k : ℕ) → length live ≡ length ids → k < length ids → get_or (kept_live ids live gone) k false ≡ (get_or live k false && not (among gone (get_or ids k 0)))
-kept_at [] live gone k l w = absurd (omega (arith, w))
-kept_at (x ∷ ids) [] gone k l w = absurd (omega (arith, l))
 kept_at (x ∷ ids) (b ∷ live) gone zero l w = refl
 kept_at (x ∷ ids) (b ∷ live) gone (suc k) l w = kept_at ids live gone k (omega (arith, l)) (omega (arith, w))
+kept_at ids live gone k l w = absurd (omega (arith, w, l))
 
 pub kept_none : (ids : List ℕ) (live : List Bool) → length live ≡ length ids → kept_live ids live [] ≡ live
 kept_none [] [] l = refl
-kept_none [] (b ∷ live) l = absurd (omega (arith, l))
-kept_none (x ∷ ids) [] l = absurd (omega (arith, l))
 kept_none (x ∷ ids) (b ∷ live) l = grind (arith, kept_none ids live (omega (arith, l)))
+kept_none ids live l = absurd (omega (arith, l))
 
 pub held_kept : (ids : List ℕ) (live : List Bool) (clauses : List (List LitValue)) (gone : List ℕ) → length live ≡ length ids → length clauses ≡ length ids
     → held_of ids (kept_live ids live gone) clauses ≡ filter (λ entry. not (list_any (λ id. id == entry.0) gone)) (held_of ids live clauses)
 held_kept [] live clauses gone l m = refl
-held_kept (x ∷ ids) [] clauses gone l m = absurd (omega (arith, l))
-held_kept (x ∷ ids) (b ∷ live) [] gone l m = absurd (omega (arith, m))
 held_kept (x ∷ ids) (b ∷ live) (c ∷ clauses) gone l m = grind (arith, held_kept ids live clauses gone (omega (arith, l)) (omega (arith, m)))
+held_kept ids live clauses gone l m = absurd (omega (arith, l, m))
 
 -- ---- one more is let go
 
@@ -83,9 +77,8 @@ goes ids live gone place r l w =
 -- ---- the answer
 
 pub live_kept : (ids : List ℕ) (live : List Bool) (gone : List ℕ) (g : ℕ) → is_live ids (kept_live ids live gone) g ≡ (is_live ids live g && not (among gone g))
-live_kept [] live gone g = refl
-live_kept (x ∷ ids) [] gone g = refl
 live_kept (x ∷ ids) (b ∷ live) gone g = grind (arith, live_kept ids live gone g, eqb-true x g)
+live_kept ids live gone g = refl
 
 pub twice_push : (gone : List ℕ) (g : ℕ) → has_number_twice gone ≡ false → among gone g ≡ false → has_number_twice (gone ++ g ∷ []) ≡ false
 twice_push [] g t a = refl

@@ -1,14 +1,14 @@
 -- The groups of each cover have every usable link into the set, so that they carry all that comes in.
-use Rattle.std.proofs.Common.{◌≡◌, ℕ, zero, suc, ◌+◌, ◌*◌, ◌<◌, ◌≤◌, Bool, true, false, ◌||◌, ◌&&◌, cond, List, [], ◌∷◌, ◌++◌, length, get_or, refl, sym, ap, ◌∙◌, ⊎_elim, arith, ◌==◌, count_by, filter, nat_lt, not, Option, None, Some}
+use Rattle.std.proofs.Common.{◌≡◌, ℕ, zero, suc, ◌+◌, ◌*◌, ◌<◌, ◌≤◌, Bool, true, false, ◌||◌, ◌&&◌, cond, List, [], ◌∷◌, ◌++◌, length, reverse, get_or, refl, sym, ap, ◌∙◌, ⊎_elim, arith, ◌==◌, count_by, filter, nat_lt, not, Option, None, Some}
 use Rattle.std.{specs.{List.{list_any, range_with_len}, Option.{is_some, option_map_or}}, proofs.{Math.Nat.add-mul, lemmas.List.get_or_past}}
 use Rattle.std.proofs.lemmas.Bool.{false≢true, cases_Bool, cases_eq, cases_lt, or_left, or_right, or_cases, and_parts, and_from, not_from_false, eq-eqb}
-use Rattle.std.proofs.lemmas.List.{Folds.list_any-append, Sums.sum_by-cons}
+use Rattle.std.proofs.lemmas.List.{Folds.list_any-append, Sorted.{IsPermutation-reverse, list_any-IsPermutation}, Sums.sum_by-cons}
 use Rattle.schedule.specs.{declared.hop.Hop.Hop, Links.{TopologyValue, has_link, is_usable}, Placed.same_pair, Sends.{ScheduleValue, link_of}, Judging.group_at}
 use Rattle.schedule.specs.Fitting.{load, rounds_at}
 use Rattle.schedule.proofs.{Placing.pair_is, First.{any_found, any_among, among_kept}}
 use Rattle.list_laws.proofs.Ranges.{any_at}
 use Rattle.node_cuts.specs.{declared.sets.Sets.{Sets, TheVariants.{Nothing, Listed, All}}, Sides.NodeSet}
-use Rattle.node_cuts.specs.Cuts.{enters, is_among, opens, opens_more, groups_taken, groups_taken_back, best_of, best_taken, all_groups, ascending, cover, cover_back, cover_greedily, cover_by, narrower, width_of}
+use Rattle.node_cuts.specs.Cuts.{enters, is_among, opens, opens_more, taken_along, best_of, best_taken, all_groups, ascending, cover, cover_back, cover_greedily, cover_by, narrower, width_of}
 use Rattle.node_cuts.proofs.Counting.{no_more_than_both, none_counted}
 
 -- an element that passes stands at a place
@@ -61,46 +61,26 @@ module _ (u : NodeSet) (t : TopologyValue) where
         let new : (enters u found.0 && not (is_among t taken found.0)) ≡ true = ap (λ l. enters u l && not (is_among t taken l)) (sym it) ∙ and_from (enters u link) (not (is_among t taken link)) into (not_from_false (is_among t taken link) not_yet) in
         any_among (λ l. enters u l && not (is_among t taken l)) found.0 (group_at t n).links found.1 new
 
-    -- each link into the set that stands in one of the first groups stands in one that is taken
-    covers : (n k : ℕ) → k < n → has k ≡ true → is_among t (groups_taken u t n) link ≡ true
-    covers zero k below stands = absurd (omega (arith, below))
-    covers (suc n) k below stands =
-        let before : List ℕ = groups_taken u t n in
-        list_any-append has before (cond (opens u t before n) (n ∷ []) [])
-        ∙ ⊎_elim
-        (λ (already : is_among t before link ≡ true). or_left (list_any has before) (list_any has (cond (opens u t before n) (n ∷ []) [])) already)
-        (λ (not_yet : is_among t before link ≡ false).
-        ⊎_elim
-        (λ (last : k ≡ n).
-        let stands_here : has n ≡ true = ap has (sym last) ∙ stands in
-        or_right (list_any has before) (list_any has (cond (opens u t before n) (n ∷ []) []))
-        (ap (λ b. list_any has (cond b (n ∷ []) [])) (opens_here before n stands_here not_yet) ∙ or_left (has n) false stands_here))
-        (λ (earlier : k ≡ n → ⊥). absurd (false≢true (sym not_yet ∙ covers n k (omega (arith, below, earlier)) stands)))
-        (cases_eq k n))
-        (cases_Bool (is_among t before link))
+    stays_along : (taken gs : List ℕ) → is_among t taken link ≡ true → is_among t (taken_along u t taken gs) link ≡ true
+    stays_along taken [] already = already
+    stays_along taken (g ∷ gs) already =
+        let more : List ℕ = cond (opens u t taken g) (g ∷ []) [] in
+        stays_along (taken ++ more) gs (list_any-append has taken more ∙ or_left (list_any has taken) (list_any has more) already)
 
-    -- what stands in a group taken before stays in one that is taken
-    stays_back : (n : ℕ) (taken : List ℕ) → is_among t taken link ≡ true → is_among t (groups_taken_back u t n taken) link ≡ true
-    stays_back zero taken already = already
-    stays_back (suc n) taken already =
+    -- if the link stands in one of these groups, it stands in one that is taken of them in turn
+    covers_along : (taken gs : List ℕ) → list_any has gs ≡ true → is_among t (taken_along u t taken gs) link ≡ true
+    covers_along taken [] some = absurd (false≢true some)
+    covers_along taken (g ∷ gs) some =
+        let more : List ℕ = cond (opens u t taken g) (g ∷ []) [] in
         ⊎_elim
-        (λ (yes : opens u t taken n ≡ true). rw yes (stays_back n (n ∷ taken) (or_right (has n) (list_any has taken) already)))
-        (λ (no : opens u t taken n ≡ false). rw no (stays_back n taken already))
-        (cases_Bool (opens u t taken n))
-
-    -- the same from the last group to the first
-    covers_back : (n : ℕ) (taken : List ℕ) (k : ℕ) → k < n → has k ≡ true → is_among t (groups_taken_back u t n taken) link ≡ true
-    covers_back zero taken k below stands = absurd (omega (arith, below))
-    covers_back (suc n) taken k below stands =
+        (λ (here : has g ≡ true).
         ⊎_elim
-        (λ (last : k ≡ n).
-        let stands_here : has n ≡ true = ap has (sym last) ∙ stands in
-        ⊎_elim
-        (λ (already : is_among t taken link ≡ true). stays_back (suc n) taken already)
-        (λ (not_yet : is_among t taken link ≡ false). rw (opens_here taken n stands_here not_yet) (stays_back n (n ∷ taken) (or_left (has n) (list_any has taken) stands_here)))
+        (λ (already : is_among t taken link ≡ true). stays_along taken (g ∷ gs) already)
+        (λ (not_yet : is_among t taken link ≡ false).
+        stays_along (taken ++ more) gs (list_any-append has taken more ∙ or_right (list_any has taken) (list_any has more) (ap (λ b. list_any has (cond b (g ∷ []) [])) (opens_here taken g here not_yet) ∙ or_left (has g) false here)))
         (cases_Bool (is_among t taken link)))
-        (λ (earlier : k ≡ n → ⊥). covers_back n (cond (opens u t taken n) (n ∷ taken) taken) k (omega (arith, below, earlier)) stands)
-        (cases_eq k n)
+        (λ (later : list_any has gs ≡ true). covers_along (taken ++ more) gs later)
+        (or_cases (has g) (list_any has gs) some)
 
     -- a group that has the link is one of the topology's
     in_range : (g : ℕ) → has g ≡ true → g < length t.groups
@@ -142,6 +122,9 @@ module _ (u : NodeSet) (t : TopologyValue) where
   stands_at : (link : ℕ × ℕ) → is_usable t link ≡ true → (k : ℕ) × (k < length t.groups) × (has_link (group_at t k) link ≡ true)
   stands_at link usable = place_of (λ group. has_link group link) t.groups (record { links = []; width = 0 }) usable
 
+  stands_in_all : (link : ℕ × ℕ) → is_usable t link ≡ true → list_any (λ g. has_link (group_at t g) link) (all_groups t) ≡ true
+  stands_in_all link usable = let at = stands_at link usable in any_at (λ g. has_link (group_at t g) link) 0 (length t.groups) at.0 (omega arith) (omega (arith, at.1)) at.2
+
   narrower_covers : (first second : List ℕ) → Covers first → Covers second → Covers (narrower t first second)
   narrower_covers first second one other =
       ⊎_elim
@@ -150,7 +133,14 @@ module _ (u : NodeSet) (t : TopologyValue) where
       (cases_Bool (nat_lt (width_of t second) (width_of t first)))
 
   cover_covers : Covers (cover u t)
-  cover_covers link into usable = let at = stands_at link usable in covers link into (length t.groups) at.0 at.1 at.2
+  cover_covers link into usable = covers_along link into [] (all_groups t) (stands_in_all link usable)
+
+  back_covers : Covers (cover_back u t)
+  back_covers link into usable =
+      let in_some : ℕ → Bool = λ g. has_link (group_at t g) link in
+      let taken : List ℕ = taken_along u t [] (reverse (all_groups t)) in
+      sym (list_any-IsPermutation in_some taken (reverse taken) (IsPermutation-reverse taken))
+      ∙ covers_along link into [] (reverse (all_groups t)) (sym (list_any-IsPermutation in_some (all_groups t) (reverse (all_groups t)) (IsPermutation-reverse (all_groups t))) ∙ stands_in_all link usable)
 
   -- each usable link into the set stands in a group of the cover
   pub covered : (sets : Sets) → Covers (cover_by sets u t)
@@ -158,7 +148,7 @@ module _ (u : NodeSet) (t : TopologyValue) where
   covered Listed = cover_covers
   covered All =
       narrower_covers (narrower t (cover u t) (cover_back u t)) (cover_greedily u t)
-      (narrower_covers (cover u t) (cover_back u t) cover_covers (λ link into usable. let at = stands_at link usable in covers_back link into (length t.groups) [] at.0 at.1 at.2))
+      (narrower_covers (cover u t) (cover_back u t) cover_covers back_covers)
       (λ link into usable. let at = stands_at link usable in covers_best link into (length t.groups) [] at.0 at.2)
 
 -- the sends of a step over links that stand in one of these groups are no more than the groups carry in it

@@ -3,11 +3,12 @@ use Rattle.std.proofs.Common.{◌≡◌, ℕ, zero, suc, ◌+◌, ◌-◌, ◌*�
 use Rattle.std.{specs.{Option.{is_some, option_map}, List.{list_any, range_with_len}}, proofs.{Math.Nat.mul-add, lemmas.List.{take_all, get_or_past}}}
 use Rattle.std.proofs.lemmas.Bool.{false≢true, cases_Bool, cases_eq, cases_lt, or_left, or_right, or_cases, and_parts, and_from, and_left, both_ways, lt-leb, not_from_false, not-true, eq-eqb, eqb-true, le-leb, leb-true, lt-ltb, ltb-true}
 use Rattle.std.proofs.lemmas.{List.{Sums.{sum_by-cons, sum_by_more}, Elements.{All-get_or, recursion_from_All}}, Map.Views.any-filter_same}
+use Rattle.list_laws.proofs.Tests.{find-map}
 use Rattle.schedule.specs.{declared.hop.Hop.Hop, Links.{TopologyValue, is_usable}, Placed.{PlacementValue, holds, placed, same_pair, all_pairs}, Solving.Solves}
 use Rattle.schedule.specs.{Sends.{ScheduleValue, link_of}, Running.{after, brings}, Fitting.{Fits, load, rounds_at}, Judging.group_at}
 use Rattle.schedule.proofs.{First.{Among, among_each, any_found, any_among}, Placing.pair_is}
 use Rattle.node_cuts.specs.{declared.sets.Sets.Sets, Sides.{NodeSet, node_sets}}
-use Rattle.node_cuts.specs.Cuts.{stands_in, is_needed, need_of, enters, is_among, cover_by, width_by, cut_refutes, cut_of, first_cut_of}
+use Rattle.node_cuts.specs.{Cuts.{stands_in, is_needed, need_of, enters, is_among, cover_by, width_by, CutValue, cut_of, first_cut_of}, inner.Refuting.cut_refutes}
 use Rattle.node_cuts.proofs.{Counting.{no_fewer, no_fewer_of, one_more, no_more_than_both, none_counted}, Covered.{covered, carried}}
 
 -- what the placement of a test holds passes it
@@ -168,13 +169,16 @@ needed_comes_in sets u t pre post s steps rounds solves =
     (arrives u s pre all chunk pair.1 both.1 (ap (λ c. holds (after pre s all) (c, pair.1)) (sym chunk_is) ∙ held)) in
     sends_of_their_own sets u t s rounds post.chunks (is_needed u pre post) solves.fits solves.rounds_are enter
 
-pub cut_says : (sets : Sets) (u : NodeSet) (t : TopologyValue) (pre post : PlacementValue) (s : ScheduleValue) (steps rounds : ℕ) → cut_refutes sets u t pre post rounds ≡ true → Solves t pre post s steps rounds → ⊥
-cut_says sets u t pre post s steps rounds refutes solves =
-    omega (arith, ltb-true (width_by sets u t * rounds) (need_of u pre post) refutes, needed_comes_in sets u t pre post s steps rounds solves)
+pub cut_says : (sets : Sets) (u : NodeSet) (t : TopologyValue) (pre post : PlacementValue) (s : ScheduleValue) (steps rounds : ℕ) → width_by sets u t * rounds < need_of u pre post → Solves t pre post s steps rounds → ⊥
+cut_says sets u t pre post s steps rounds refutes solves = omega (arith, refutes, needed_comes_in sets u t pre post s steps rounds solves)
 
 some_mapped : {X Y : Type 0} (f : X → Y) (o : Option X) → is_some (option_map f o) ≡ is_some o
 some_mapped f None = refl
 some_mapped f (Some x) = refl
+
+-- the first cut is that of the first set that refutes
+pub first_by_set : (sets : Sets) (t : TopologyValue) (pre post : PlacementValue) (rounds : ℕ) → first_cut_of sets t pre post rounds ≡ option_map (cut_of sets t pre post) (find (λ u. cut_refutes sets u t pre post rounds) (node_sets sets t.nodes))
+first_by_set sets t pre post rounds = find-map (λ (cut : CutValue). nat_lt (cut.width * rounds) cut.need) (cut_of sets t pre post) (node_sets sets t.nodes)
 
 found_one : {X : Type 0} (p : X → Bool) (xs : List X) → is_some (find p xs) ≡ true → (x : X) × (p x ≡ true)
 found_one p [] some = absurd (false≢true some)
@@ -188,5 +192,5 @@ found_one p (x ∷ xs) some =
 pub first_says : (sets : Sets) (t : TopologyValue) (pre post : PlacementValue) (s : ScheduleValue) (steps rounds : ℕ) → is_some (first_cut_of sets t pre post rounds) ≡ true → Solves t pre post s steps rounds → ⊥
 first_says sets t pre post s steps rounds cut solves =
     let p : NodeSet → Bool = λ u. cut_refutes sets u t pre post rounds in
-    let it = found_one p (node_sets sets t.nodes) (sym (some_mapped (cut_of sets t pre post) (find p (node_sets sets t.nodes))) ∙ cut) in
-    cut_says sets it.0 t pre post s steps rounds it.1 solves
+    let it = found_one p (node_sets sets t.nodes) (sym (ap is_some (first_by_set sets t pre post rounds) ∙ some_mapped (cut_of sets t pre post) (find p (node_sets sets t.nodes))) ∙ cut) in
+    cut_says sets it.0 t pre post s steps rounds (ltb-true (width_by sets it.0 t * rounds) (need_of it.0 pre post) it.1) solves

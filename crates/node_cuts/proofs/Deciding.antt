@@ -7,9 +7,9 @@ use Rattle.list_laws.proofs.{Each.each_middle, Tests.same_test}
 use Rattle.schedule.{specs.Links.TopologyValue, proofs.First.{any_found, among_each, each_append, each_passes}}
 use Rattle.collective_spec.specs.{declared.{spec.Spec.Spec, instance.Instance.Instance}, Kinds.allows, Collectives.{kind_in, spec_instance}}
 use Rattle.node_cuts.specs.{declared.{sets.Sets.Sets, floor.Floor.Floor}, Sides.{NodeSet, node_sets}}
-use Rattle.node_cuts.specs.Cuts.{cut_of, cut_refutes, first_cut_of, need_of, width_by}
+use Rattle.node_cuts.specs.{Cuts.{cut_of, first_cut_of, need_of, width_by}, inner.Refuting.cut_refutes}
 use Rattle.node_cuts.specs.Floors.{exceeds, first_greatest, floor_of, fraction_of, fractions, greater_of, has_need, least_count, nothing_over_1}
-use Rattle.node_cuts.proofs.{Best.{IsBest, Positive, any_middle, best_is, step}, Least.{least_least, least_positive}, Scaling.{IsScaled, scales}}
+use Rattle.node_cuts.proofs.{Best.{IsBest, Positive, any_middle, best_is, step}, Crossing.first_by_set, Least.{least_least, least_positive}, Scaling.{IsScaled, scales}}
 
 -- the fraction times the chunk count is more than the rounds
 abbrev pub is_above : ℕ → ℕ → Floor → Bool
@@ -118,6 +118,7 @@ pub floor_decides : (sets : Sets) (t : TopologyValue) (spec : Spec) (c r : ℕ) 
     → is_some (first_cut_of sets t (spec_instance spec t.nodes c).pre (spec_instance spec t.nodes c).post r) ≡ is_above c r (floor_of sets t spec)
 floor_decides sets t spec c r some allowed =
     let i : Instance = spec_instance spec t.nodes c in
-    found_any (cut_of sets t i.pre i.post) (λ u. cut_refutes sets u t i.pre i.post r) (node_sets sets t.nodes)
+    ap is_some (first_by_set sets t i.pre i.post r)
+    ∙ found_any (cut_of sets t i.pre i.post) (λ u. cut_refutes sets u t i.pre i.post r) (node_sets sets t.nodes)
     ∙ any_kept c r (λ u. cut_refutes sets u t i.pre i.post r) (fraction_of sets t spec) (set_told sets t spec c r some allowed) (node_sets sets t.nodes)
     ∙ greatest_decides c r (fractions sets t spec) (allowed_some spec t.nodes c some allowed) (each_passes has_need (map (fraction_of sets t spec) (node_sets sets t.nodes)))

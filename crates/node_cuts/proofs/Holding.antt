@@ -2,7 +2,7 @@
 use Rattle.std.proofs.Common.{◌≡◌, ℕ, zero, suc, ◌+◌, ◌<◌, ◌≤◌, Bool, ◌&&◌, ◌||◌, true, false, cond, List, [], ◌∷◌, map, refl, sym, ap, ◌∙◌, ⊎_elim, arith, count_by, filter, not}
 use Rattle.std.{specs.List.{list_any, range_with_len}, proofs.lemmas.{Bool.cases_Bool, List.Sums.sum_by-cons}}
 use Rattle.schedule.specs.Placed.{PlacementValue, IsPlacement, holds}
-use Rattle.node_cuts.{specs.{Sides.NodeSet, Cuts.{is_needed, need_of, stands_in}, Holders.{HoldersValue, is_lacking, nodes_with}}, proofs.Reading.stands_held}
+use Rattle.node_cuts.{specs.{Sides.NodeSet, Cuts.{is_needed, need_of, stands_in}, Holders.{HoldersValue, is_lacking, nodes_with}}, proofs.Scaling.{some_stands, stands_by}}
 
 -- the holders of each chunk
 abbrev pub all_holders : PlacementValue → PlacementValue → List HoldersValue
@@ -28,6 +28,9 @@ any_filter p q (x ∷ xs) =
     ap (λ b. list_any q (cond b (x ∷ filter p xs) (filter p xs))) left ∙ rest ∙ sym (by_none (q x) (list_any (λ y. q y && p y) xs))
     ∙ ap (λ b. (q x && b) || list_any (λ y. q y && p y) xs) (sym left))
     (cases_Bool (p x))
+
+stands_held : (u : NodeSet) (p : PlacementValue) (chunk : ℕ) → IsPlacement p → chunk < p.chunks → stands_in u p chunk ≡ some_stands u p.nodes (holds p) chunk
+stands_held u p chunk is below = ap (λ q. stands_in u q chunk) is ∙ stands_by u p.chunks p.nodes (holds p) chunk below
 
 has_some : (u : NodeSet) (p : PlacementValue) (chunk : ℕ) → IsPlacement p → chunk < p.chunks → list_any u (nodes_with p chunk) ≡ stands_in u p chunk
 has_some u p chunk is below = any_filter (λ node. holds p (chunk, node)) u (range_with_len 0 p.nodes) ∙ sym (stands_held u p chunk is below)

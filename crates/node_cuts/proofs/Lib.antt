@@ -4,7 +4,6 @@ pub mod Crossing
 pub mod Scaling
 pub mod Masks
 pub mod Best
-pub mod Reading
 pub mod Listing
 pub mod Flooring
 pub mod Least

@@ -1,7 +1,9 @@
 -- The listed sets, one after another.
-use Rattle.std.{proofs.Common.{◌≡◌, ℕ, ◌+◌, ◌-◌, ◌≤◌, List, [], ◌∷◌, ◌++◌, map, append_assoc, ap, sym, ◌∙◌, arith}, specs.List.{flat_map, range_with_len}}
-use Rattle.std.proofs.lemmas.List.{append-nil, FromFn.map-range_with_len_more, Concat.flat_map-append}
-use Rattle.node_cuts.{specs.declared.side.Side.{Side, TheVariants.{One, Two}}, proofs.Masks.range_more}
+use Rattle.std.{proofs.Common.{◌≡◌, ℕ, ◌+◌, ◌-◌, ◌≤◌, List, [], ◌∷◌, ◌++◌, map, append_assoc, refl, ap, sym, ◌∙◌, arith, ◌==◌, ◌||◌, not}, specs.List.{flat_map, range_with_len}}
+use Rattle.std.proofs.lemmas.{List.{append-nil, map-append, FromFn.map-range_with_len_more, Concat.flat_map-append}, Simd.map-map}
+use Rattle.std.proofs.Math.Bool.{not-not}
+use Rattle.node_cuts.{specs.declared.{side.Side.{Side, TheVariants.{One, Two, AllButOne, AllButTwo}}, sets.Sets.TheVariants.Listed}, proofs.Masks.range_more}
+use Rattle.node_cuts.specs.{Sides.{NodeSet, node_sets, small_sets}, inner.Listed.{complement, listed_sides, set_of, small_sides, two_sides}}
 
 pub ones_more : (n : ℕ) → map One (range_with_len 0 (n + 1)) ≡ map One (range_with_len 0 n) ++ One n ∷ []
 ones_more n = map-range_with_len_more One 0 n n (omega arith)
@@ -18,3 +20,40 @@ pub rows_more : (before : List Side) (f : ℕ → List Side) (n : ℕ) → befor
 rows_more before f n =
     ap (λ ks. before ++ flat_map f ks) (range_more 0 n n (omega arith)) ∙ ap (λ xs. before ++ xs) (flat_map-append f (range_with_len 0 n) (n ∷ []) ∙ ap (λ xs. flat_map f (range_with_len 0 n) ++ xs) (append-nil (f n)))
     ∙ sym (append_assoc before (flat_map f (range_with_len 0 n)) (f n))
+
+-- ---- the sides as sets
+
+map_flat : {X Y Z : Type 0} (f : Y → Z) (g : X → List Y) (xs : List X) → map f (flat_map g xs) ≡ flat_map (λ x. map f (g x)) xs
+map_flat f g [] = refl
+map_flat f g (x ∷ xs) = map-append f (g x) (flat_map g xs) ∙ ap (λ ys. map f (g x) ++ ys) (map_flat f g xs)
+
+map_alike : {X Y : Type 0} (f g : X → Y) → ((x : X) → f x ≡ g x) → (xs : List X) → map f xs ≡ map g xs
+map_alike f g same [] = refl
+map_alike f g same (x ∷ xs) = ap (λ y. y ∷ map f xs) (same x) ∙ ap (λ ys. g x ∷ ys) (map_alike f g same xs)
+
+small_are : (nodes : ℕ) → map set_of (small_sides nodes) ≡ small_sets nodes
+small_are nodes =
+    let rows : map set_of (two_sides nodes) ≡ flat_map (λ a. map (λ b n. n == a || n == b) (range_with_len (a + 1) (nodes - (a + 1)))) (range_with_len 0 nodes) =
+    map_flat set_of (λ a. map (Two a) (range_with_len (a + 1) (nodes - (a + 1)))) (range_with_len 0 nodes)
+    ∙ λ i. flat_map (λ a. map-map set_of (Two a) (range_with_len (a + 1) (nodes - (a + 1))) i) (range_with_len 0 nodes) in
+    map-append set_of (map One (range_with_len 0 nodes)) (two_sides nodes)
+    ∙ ap (λ us. us ++ map set_of (two_sides nodes)) (map-map set_of One (range_with_len 0 nodes))
+    ∙ ap (λ us. map (λ a. set_of (One a)) (range_with_len 0 nodes) ++ us) rows
+
+-- none of the small sides is a complement
+complement_is : (side : Side) → set_of (complement side) ≡ (λ n. not (set_of side n))
+complement_is (One a) = refl
+complement_is (Two a b) = refl
+complement_is (AllButOne a) = λ i. λ n. sym (not-not (n == a)) i
+complement_is (AllButTwo a b) = λ i. λ n. sym (not-not (n == a || n == b)) i
+
+pub listed_are : (nodes : ℕ) → map set_of (listed_sides nodes) ≡ node_sets Listed nodes
+listed_are nodes =
+    let opposite : NodeSet → NodeSet = λ u. λ n. not (u n) in
+    let of_side : Side → NodeSet = λ side. opposite (set_of side) in
+    let others : map set_of (map complement (small_sides nodes)) ≡ map opposite (small_sets nodes) =
+    map-map set_of complement (small_sides nodes) ∙ map_alike (λ (side : Side). set_of (complement side)) of_side complement_is (small_sides nodes)
+    ∙ sym (map-map opposite set_of (small_sides nodes)) ∙ ap (map opposite) (small_are nodes) in
+    map-append set_of (small_sides nodes) (map complement (small_sides nodes))
+    ∙ ap (λ us. us ++ map set_of (map complement (small_sides nodes))) (small_are nodes)
+    ∙ ap (λ us. small_sets nodes ++ us) others

@@ -1,6 +1,6 @@
 -- A table of open links tells what groups open, and what is left after one is taken.
-use Rattle.std.proofs.Common.{◌≡◌, ℕ, ◌+◌, ◌<◌, ◌≤◌, Bool, true, false, ◌&&◌, ◌||◌, cond, List, [], ◌∷◌, ◌++◌, length, reverse, refl, sym, ap, ◌∙◌, ⊎_elim, arith, count_by, not}
-use Rattle.std.{specs.List.{All, AllByRecursion, list_any}, proofs.lemmas.{Bool.cases_lt, List.{append-nil, get_or_past, reverse-append, Sums.sum_by-cons}}}
+use Rattle.std.proofs.Common.{◌≡◌, ℕ, ◌+◌, ◌<◌, ◌≤◌, Bool, true, false, ◌&&◌, ◌||◌, cond, List, [], ◌∷◌, ◌++◌, length, refl, sym, ap, ◌∙◌, ⊎_elim, arith, count_by, not}
+use Rattle.std.{specs.List.{All, AllByRecursion, list_any}, proofs.lemmas.{Bool.cases_lt, List.{append-nil, get_or_past, Sums.sum_by-cons}}}
 use Rattle.std.proofs.lemmas.List.{Elements.{All-get_or, recursion_from_All}, Folds.list_any-append}
 use Rattle.schedule.{specs.{Links.{TopologyValue, IsBelow, IsTopology, has_link}, Tables.{Marks, marked_at}, Judging.group_at}, proofs.First.each_weaker}
 use Rattle.node_cuts.specs.{Sides.NodeSet, Cuts.{enters, is_among, opened, opens}, Opened.{MarksOpen, RemovesGroups, is_open}}
@@ -44,13 +44,6 @@ module _ (u : NodeSet) (t : TopologyValue) (groups : List ℕ) (cells : List Boo
   apart true false true = refl
   apart true true h = refl
 
-  apart_back : (e a h : Bool) → ((e && not a) && not h) ≡ (e && not (h || a))
-  apart_back false a h = refl
-  apart_back true false false = refl
-  apart_back true false true = refl
-  apart_back true true false = refl
-  apart_back true true true = refl
-
   same : (b : Bool) → (b && not false) ≡ b
   same false = refl
   same true = refl
@@ -61,15 +54,6 @@ module _ (u : NodeSet) (t : TopologyValue) (groups : List ℕ) (cells : List Boo
       ∙ ap (λ b. enters u link && not b) (sym (list_any-append (λ group. has_link (group_at t group) link) groups (g ∷ [])))
   taken_next g false new after link from to =
       after link from to ∙ same (marked_at cells link) ∙ marks link from to ∙ ap (λ gs. enters u link && not (is_among t gs link)) (sym (append-nil groups))
-
-  pub taken_back : (g : ℕ) (o : Bool) (new : List Bool) → Marks new (λ link. marked_at cells link && not (o && has_link (group_at t g) link)) → MarksOpen new u t (cond o (g ∷ groups) groups)
-  taken_back g true new after link from to =
-      after link from to ∙ ap (λ b. b && not (has_link (group_at t g) link)) (marks link from to) ∙ apart_back (enters u link) (is_among t groups link) (has_link (group_at t g) link)
-  taken_back g false new after link from to = after link from to ∙ same (marked_at cells link) ∙ marks link from to
-
-pub reversed_more : (groups : List ℕ) (o : Bool) (g : ℕ) → reverse (groups ++ cond o (g ∷ []) []) ≡ cond o (g ∷ reverse groups) (reverse groups)
-reversed_more groups true g = reverse-append groups (g ∷ [])
-reversed_more groups false g = ap reverse (append-nil groups)
 
 -- at the start no group is taken
 pub open_first : (u : NodeSet) (t : TopologyValue) (cells : List Bool) → Marks cells (enters u) → MarksOpen cells u t []

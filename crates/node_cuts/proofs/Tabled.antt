@@ -5,9 +5,9 @@ use Rattle.list_laws.proofs.Fronts.{at_map}
 use Rattle.schedule.specs.{Links.TopologyValue, Placed.PlacementValue}
 use Rattle.collective_spec.specs.{declared.{spec.Spec.Spec, instance.Instance.Instance}, Kinds.allows, Collectives.{kind_in, spec_instance}}
 use Rattle.node_cuts.specs.{declared.{sets.Sets.Sets, measure.Measure.Measure, floor.Floor.Floor}, Sides.{NodeSet, mask_of, node_sets}}
-use Rattle.node_cuts.specs.{Cuts.{CutValue, cover_by, cut_of, cut_refutes, first_cut_of, need_of, width_by}, Floors.{fraction_of, least_count}}
+use Rattle.node_cuts.specs.{Cuts.{CutValue, cover_by, cut_of, first_cut_of, need_of, width_by}, Floors.{fraction_of, least_count}, inner.Refuting.cut_refutes}
 use Rattle.node_cuts.specs.{Holders.{HoldersValue, is_lacking}, Tables.{TableValue, IsTableOf, cut_at, measure_of, no_measure, table_of}}
-use Rattle.node_cuts.proofs.{Least.least_positive, Scaling.{IsScaled, scales}}
+use Rattle.node_cuts.proofs.{Crossing.first_by_set, Least.least_positive, Scaling.{IsScaled, scales}}
 
 -- the least count divides each count that the collective may have, and as many times as much has to come in
 pub times_more : (u : NodeSet) (spec : Spec) (nodes c : ℕ) → 0 < nodes → allows (kind_in spec) nodes c ≡ true
@@ -103,6 +103,7 @@ module _ (sets : Sets) (t : TopologyValue) (spec : Spec) (c r : ℕ) (some : 0 <
       ∙ ap (option_map (cut_of sets t asked.pre asked.post))
       (sym (found_at p (node_sets sets t.nodes) place nobody (omega (arith, inside, as_long))
       (λ k below. sym (told k (omega (arith, below, inside))) ∙ before k below) (sym (told place inside) ∙ passes)))
+      ∙ sym (first_by_set sets t asked.pre asked.post r)
 
   none_of : ((k : ℕ) → k < length table.measures → is_over times r (get_or table.measures k no_measure) ≡ false) → None ≡ first_cut_of sets t asked.pre asked.post r
   none_of each =
@@ -110,6 +111,7 @@ module _ (sets : Sets) (t : TopologyValue) (spec : Spec) (c r : ℕ) (some : 0 <
       (sym (none_found_in (λ u. cut_refutes sets u t asked.pre asked.post r) (node_sets sets t.nodes) nobody (λ k below.
       let inside : k < length table.measures = omega (arith, below, as_long) in
       sym (told k inside) ∙ each k inside)))
+      ∙ sym (first_by_set sets t asked.pre asked.post r)
 
   -- the cut at the first place of a table whose measure tells so
   pub first_in : (v : TableValue) → IsTableOf sets t spec v → (place : ℕ) → place < length v.measures

@@ -1,12 +1,11 @@
 -- The groups of each cover are the topology's, and no more than these.
-use Rattle.std.proofs.Common.{◌≡◌, ℕ, zero, suc, ◌+◌, ◌<◌, ◌≤◌, Bool, true, false, List, [], ◌∷◌, ◌++◌, length, ⊎_elim, arith, ◌==◌, Option, None, Some, nat_lt}
-use Rattle.std.{specs.{List.{All, list_any, range_with_len}, Option.option_map_or}, proofs.lemmas.Bool.cases_Bool}
-use Rattle.std.proofs.lemmas.List.{Elements.{All-cons, All-filter, All-nil}, FromFn.{get_or-range_with_len, length-range_with_len}}
+use Rattle.std.proofs.Common.{◌≡◌, ℕ, zero, suc, ◌+◌, ◌<◌, ◌≤◌, Bool, true, false, List, [], ◌∷◌, ◌++◌, cond, length, length-append, reverse, ⊎_elim, arith, ◌==◌, Option, None, Some, nat_lt}
+use Rattle.std.{specs.{List.{All, list_any, range_with_len}, Option.option_map_or}, proofs.lemmas.{Bool.cases_Bool, List.{length-reverse, Sorted.{All-permutation, IsPermutation-reverse}}}}
+use Rattle.std.proofs.lemmas.List.{Elements.{All-append, All-cons, All-filter, All-head, All-nil, All-tail}, FromFn.{get_or-range_with_len, length-range_with_len}}
 use Rattle.list_laws.proofs.Tests.{few_kept}
 use Rattle.schedule.specs.Links.{TopologyValue}
 use Rattle.node_cuts.specs.{declared.sets.Sets.Sets, Sides.NodeSet}
-use Rattle.node_cuts.specs.Cuts.{all_groups, ascending, best_of, best_taken, cover, cover_back, cover_by, cover_greedily, groups_taken_back, narrower, opens, width_of}
-use Rattle.node_cuts.proofs.Reading.{taken_below, taken_few}
+use Rattle.node_cuts.specs.Cuts.{all_groups, ascending, best_of, best_taken, cover, cover_back, cover_by, cover_greedily, narrower, opens, taken_along, width_of}
 use Rattle.node_cuts.specs.declared.sets.Sets.TheVariants as sets
 
 -- these are groups of the topology, and no more than it has
@@ -31,33 +30,33 @@ ascending_within t groups =
       few = omega (arith, few_kept p (all_groups t), length-range_with_len 0 (length t.groups));
     }
 
+along_below : (u : NodeSet) (t : TopologyValue) (P : ℕ → Type 0) (taken gs : List ℕ) → All P taken → All P gs → All P (taken_along u t taken gs)
+along_below u t P taken [] each more = each
+along_below u t P taken (g ∷ gs) each more =
+    let here : All P (cond (opens u t taken g) (g ∷ []) []) = ⊎_elim
+    (λ (it : opens u t taken g ≡ true). rw it (All-cons P g [] (All-head P g gs more) (All-nil P)))
+    (λ (it : opens u t taken g ≡ false). rw it (All-nil P))
+    (cases_Bool (opens u t taken g)) in
+    along_below u t P (taken ++ cond (opens u t taken g) (g ∷ []) []) gs (All-append P taken (cond (opens u t taken g) (g ∷ []) []) each here) (All-tail P g gs more)
+
+along_few : (u : NodeSet) (t : TopologyValue) (taken gs : List ℕ) → length (taken_along u t taken gs) ≤ length taken + length gs
+along_few u t taken [] = omega arith
+along_few u t taken (g ∷ gs) =
+    let one : length (cond {A = List ℕ} (opens u t taken g) (g ∷ []) []) ≤ 1 =
+    ⊎_elim (λ (it : opens u t taken g ≡ true). rw it (omega arith)) (λ (it : opens u t taken g ≡ false). rw it (omega arith)) (cases_Bool (opens u t taken g)) in
+    omega (arith, along_few u t (taken ++ cond (opens u t taken g) (g ∷ []) []) gs, length-append taken (cond (opens u t taken g) (g ∷ []) []), one)
+
+along_within : (u : NodeSet) (t : TopologyValue) (gs : List ℕ) → IsWithin t gs → IsWithin t (taken_along u t [] gs)
+along_within u t gs is = record { below = along_below u t (λ group. group < length t.groups) [] gs (All-nil (λ group. group < length t.groups)) is.below; few = omega (arith, along_few u t [] gs, is.few) }
+
+pub reversed_within : (t : TopologyValue) (gs : List ℕ) → IsWithin t gs → IsWithin t (reverse gs)
+reversed_within t gs is = record { below = All-permutation (λ group. group < length t.groups) gs (reverse gs) (IsPermutation-reverse gs) is.below; few = omega (arith, length-reverse gs, is.few) }
+
 pub cover_within : (u : NodeSet) (t : TopologyValue) → IsWithin t (cover u t)
-cover_within u t = record { below = taken_below u t (length t.groups) (length t.groups) (omega arith); few = taken_few u t (length t.groups) }
-
-back_below : (u : NodeSet) (t : TopologyValue) (n top : ℕ) (taken : List ℕ) → n ≤ top → All (λ group. group < top) taken → All (λ group. group < top) (groups_taken_back u t n taken)
-back_below u t zero top taken low each = each
-back_below u t (suc n) top taken low each =
-    ⊎_elim
-    (λ (it : opens u t taken n ≡ true). rw it (back_below u t n top (n ∷ taken) (omega (arith, low)) (All-cons (λ group. group < top) n taken (omega (arith, low)) each)))
-    (λ (it : opens u t taken n ≡ false). rw it (back_below u t n top taken (omega (arith, low)) each))
-    (cases_Bool (opens u t taken n))
-
-back_few : (u : NodeSet) (t : TopologyValue) (n : ℕ) (taken : List ℕ) → length (groups_taken_back u t n taken) ≤ n + length taken
-back_few u t zero taken = omega arith
-back_few u t (suc n) taken =
-    ⊎_elim
-    (λ (it : opens u t taken n ≡ true).
-    let more : length (groups_taken_back u t n (n ∷ taken)) ≤ n + length (n ∷ taken) = back_few u t n (n ∷ taken) in
-    let one : length (n ∷ taken) ≡ length taken + 1 = omega arith in
-    rw it (omega (arith, more, one)))
-    (λ (it : opens u t taken n ≡ false). let more = back_few u t n taken in rw it (omega (arith, more)))
-    (cases_Bool (opens u t taken n))
+cover_within u t = along_within u t (all_groups t) (all_within t)
 
 pub back_within : (u : NodeSet) (t : TopologyValue) → IsWithin t (cover_back u t)
-back_within u t = record {
-  below = back_below u t (length t.groups) (length t.groups) [] (omega arith) (All-nil (λ group. group < length t.groups));
-  few = omega (arith, back_few u t (length t.groups) []);
-}
+back_within u t = reversed_within t (taken_along u t [] (reverse (all_groups t))) (along_within u t (reverse (all_groups t)) (reversed_within t (all_groups t) (all_within t)))
 
 by_best : (t : TopologyValue) (taken : List ℕ) (f : ℕ → List ℕ) → ((g : ℕ) → IsWithin t (f g)) → (best : Option ℕ) → IsWithin t (option_map_or f best (ascending t taken))
 by_best t taken f each None = ascending_within t taken

@@ -1,6 +1,6 @@
 -- How many chunks have to come into a set of nodes, and how many can in each round; where the first are too many, no schedule of so many rounds solves. This project's own.
-use Rattle.std.specs.Prelude.{◌==◌, ◌&&◌, ℕ, zero, suc, ◌*◌, not, nat_lt, Bool, if◌then◌else◌, List, [], ◌∷◌, ◌++◌, length, filter, find, Option, None, Some, count_by}
-use Rattle.std.specs.{List.{list_any, range_with_len, sum_by}, Option.{option_map, option_map_or}}
+use Rattle.std.specs.Prelude.{◌==◌, ◌&&◌, ℕ, zero, suc, ◌*◌, not, nat_lt, Bool, if◌then◌else◌, List, [], ◌∷◌, ◌++◌, length, filter, find, map, reverse, Option, None, Some, count_by}
+use Rattle.std.specs.{List.{list_any, range_with_len, sum_by}, Option.option_map_or}
 use Rattle.schedule.specs.{Links.{TopologyValue, has_link}, Placed.PlacementValue, Judging.group_at}
 use Rattle.node_cuts.specs.{declared.sets.Sets.{Sets, TheVariants.{Nothing, Listed, All}}, Sides.{NodeSet, node_sets, mask_of}}
 
@@ -32,23 +32,21 @@ is_among t groups link = list_any (λ group. has_link (group_at t group) link) g
 abbrev pub opens : NodeSet → TopologyValue → List ℕ → ℕ → Bool
 opens u t groups group = list_any (λ link. enters u link && not (is_among t groups link)) (group_at t group).links
 
--- of the first groups, each that has a link into the set that stands in no group taken before
-abbrev pub groups_taken : NodeSet → TopologyValue → ℕ → List ℕ
-groups_taken u t zero = []
-groups_taken u t (suc n) = let before = groups_taken u t n in before ++ (if opens u t before n then n ∷ [] else [])
+-- beside groups that were taken, each of these in turn that has a link into the set that stands in no group taken before
+abbrev pub taken_along : NodeSet → TopologyValue → List ℕ → List ℕ → List ℕ
+taken_along u t taken [] = taken
+taken_along u t taken (group ∷ others) = taken_along u t (taken ++ (if opens u t taken group then group ∷ [] else [])) others
+
+abbrev pub all_groups : TopologyValue → List ℕ
+all_groups t = range_with_len 0 (length t.groups)
 
 -- the groups that cover all links into the set, in the topology's order
 abbrev pub cover : NodeSet → TopologyValue → List ℕ
-cover u t = groups_taken u t (length t.groups)
-
--- beside groups that were taken, from the last of the first groups to the first, each that has a link into the set that stands in no group taken before
-abbrev pub groups_taken_back : NodeSet → TopologyValue → ℕ → List ℕ → List ℕ
-groups_taken_back u t zero taken = taken
-groups_taken_back u t (suc n) taken = groups_taken_back u t n (if opens u t taken n then n ∷ taken else taken)
+cover u t = taken_along u t [] (all_groups t)
 
 -- the same in the reverse of that order
 abbrev pub cover_back : NodeSet → TopologyValue → List ℕ
-cover_back u t = groups_taken_back u t (length t.groups) []
+cover_back u t = reverse (taken_along u t [] (reverse (all_groups t)))
 
 -- how many links into the set the group has that stand in none of these groups
 abbrev pub opened : NodeSet → TopologyValue → List ℕ → ℕ → ℕ
@@ -67,9 +65,6 @@ better u t groups (Some best) next = if opens_more u t groups next best then Som
 abbrev pub best_of : NodeSet → TopologyValue → List ℕ → Option ℕ → List ℕ → Option ℕ
 best_of u t groups best [] = best
 best_of u t groups best (next ∷ others) = best_of u t groups (better u t groups best next) others
-
-abbrev pub all_groups : TopologyValue → List ℕ
-all_groups t = range_with_len 0 (length t.groups)
 
 -- these groups, ascending
 abbrev pub ascending : TopologyValue → List ℕ → List ℕ
@@ -103,10 +98,6 @@ width_by sets u t = width_of t (cover_by sets u t)
 
 -- ---- what follows
 
--- more chunks have to come in than can in so many rounds
-abbrev pub cut_refutes : Sets → NodeSet → TopologyValue → PlacementValue → PlacementValue → ℕ → Bool
-cut_refutes sets u t pre post rounds = nat_lt (width_by sets u t * rounds) (need_of u pre post)
-
 -- the nodes of a set as bits, the groups that cover the links into it, and what has to come in and can in one round
 pub record CutValue : Type 0 where
   pub nodes : ℕ
@@ -115,9 +106,10 @@ pub record CutValue : Type 0 where
   pub width : ℕ
 
 abbrev pub cut_of : Sets → TopologyValue → PlacementValue → PlacementValue → NodeSet → CutValue
-cut_of sets t pre post u = record { nodes = mask_of t.nodes u; groups = cover_by sets u t; need = need_of u pre post; width = width_by sets u t }
+cut_of sets t pre post u =
+    let groups = cover_by sets u t in
+    record { nodes = mask_of t.nodes u; groups = groups; need = need_of u pre post; width = width_of t groups }
 
--- the cut of the first set that refutes so many rounds
+-- the cut of the first set into which more chunks have to come than can in so many rounds
 abbrev pub first_cut_of : Sets → TopologyValue → PlacementValue → PlacementValue → ℕ → Option CutValue
-first_cut_of sets t pre post rounds =
-    option_map (cut_of sets t pre post) (find (λ u. cut_refutes sets u t pre post rounds) (node_sets sets t.nodes))
+first_cut_of sets t pre post rounds = find (λ cut. nat_lt (cut.width * rounds) cut.need) (map (cut_of sets t pre post) (node_sets sets t.nodes))

@@ -2,27 +2,21 @@
 use Rattle.std.specs.{Prelude.{ℕ, ◌*◌, ◌==◌, not, nat_lt, Bool, if◌then◌else◌, List, filter, map, find, Option, None, Some}, List.list_any, Option.unwrap_or}
 use Rattle.schedule.specs.Links.{TopologyValue}
 use Rattle.collective_spec.specs.{declared.{kind.Kind.Kind, spec.Spec.Spec}, Collectives.{kind_in, spec_instance}}
-use Rattle.collective_spec.specs.declared.kind.Kind.TheVariants.{Broadcast, Gather, Allgather, Scatter, Alltoall, Reduce, Reducescatter, Allreduce, Custom}
-use Rattle.node_cuts.specs.{declared.{sets.Sets.Sets, floor.Floor.Floor}, Sides.{NodeSet, node_sets, mask_of}, Cuts.{need_of, width_by}}
+use Rattle.collective_spec.specs.declared.kind.Kind.TheVariants.{Alltoall}
+use Rattle.node_cuts.specs.{declared.{sets.Sets.Sets, floor.Floor.Floor}, Sides.{NodeSet, node_sets}, Cuts.cut_of}
 
 -- the least chunk count that the collective may have
 abbrev pub least_count : Kind → ℕ → ℕ
-least_count Broadcast nodes = 1
-least_count Gather nodes = 1
-least_count Allgather nodes = 1
-least_count Scatter nodes = 1
 least_count Alltoall nodes = nodes
-least_count Reduce nodes = 1
-least_count Reducescatter nodes = 1
-least_count Allreduce nodes = 1
-least_count Custom nodes = 1
+least_count kind nodes = 1
 
 -- what has to come into the set at the least chunk count, over what can in one round times that count
 abbrev pub fraction_of : Sets → TopologyValue → Spec → NodeSet → Floor
 fraction_of sets t spec u =
     let least = least_count (kind_in spec) t.nodes in
     let i = spec_instance spec t.nodes least in
-    record { above = need_of u i.pre i.post; below = width_by sets u t * least; nodes = mask_of t.nodes u }
+    let cut = cut_of sets t i.pre i.post u in
+    record { above = cut.need; below = cut.width * least; nodes = cut.nodes }
 
 -- something has to come in
 abbrev pub has_need : Floor → Bool

@@ -6,3 +6,4 @@ pub mod Floors
 pub mod Tables
 pub mod Cutting
 pub mod Rows
+pub mod inner

@@ -6,7 +6,7 @@ ghost use Rattle.node_cuts.specs.{Sides.NodeSet, Cuts.{all_groups, ascending, be
 ghost use Rattle.node_cuts.specs.Opened.{MarksNumbers, MarksOpen, RemovesGroups, choice_of, is_alone, is_open};
 
 use crate::OutOfMemory;
-use crate::covering::group_at;
+use crate::covering::{all_groups, group_at};
 use crate::open_links::OpenLinks;
 use schedule::Topology;
 use std::alloc::Global;
@@ -86,17 +86,6 @@ fn still_open(
         }
     }
     Ok(left)
-}
-
-/// The numbers of all groups.
-fn all_groups(alloc: Global, topology: &Topology) -> Result<Vec<u16>, OutOfMemory>
-    ensures { IfOk result (λ groups. groups.items ≡ all_groups topology.now) }
-{
-    let mut groups = Vec::with_capacity(alloc, topology.groups().len())?;
-    for number in 0..topology.groups().len() as u16 {
-        groups.push(number)?;
-    }
-    Ok(groups)
 }
 
 /// A cell for each number below 256: whether it is one of these.

@@ -3,7 +3,7 @@
 ghost use Rattle.std.specs.{Prelude.{◌≡◌, ◌*◌, ◌/◌, ◌<◌, ◌≤◌, ◌&&◌, ℕ, true, nat_lt}, Option.is_some};
 ghost use Rattle.schedule.specs.{Links.TopologyValue, Placed.PlacementValue, Sends.ScheduleValue, Solving.Solves};
 ghost use Rattle.collective_spec.specs.{declared.{kind.Kind.Kind, spec.Spec.Spec}, Kinds.allows, Collectives.{kind_in, spec_instance}};
-ghost use Rattle.node_cuts.specs.{declared.sets.Sets.Sets, Sides.{NodeSet, has_bit, mask_of}, Cuts.{cut_refutes, first_cut_of, need_of, width_by}};
+ghost use Rattle.node_cuts.specs.{declared.sets.Sets.Sets, Sides.{NodeSet, has_bit, mask_of}, Cuts.{first_cut_of, need_of, width_by}};
 ghost use Rattle.node_cuts.specs.Floors.{floor_of, least_count};
 
 /// What has to come into a set of nodes is at most what can in the rounds of a schedule that
@@ -12,7 +12,7 @@ ghost use Rattle.node_cuts.specs.Floors.{floor_of, least_count};
 pub fn cuts_refute()
     ensures needed { (sets : Sets) (u : NodeSet) (t : TopologyValue) (pre post : PlacementValue) (s : ScheduleValue) (steps rounds : ℕ) → Solves t pre post s steps rounds
         → need_of u pre post ≤ width_by sets u t * rounds }
-    ensures refuted { (sets : Sets) (u : NodeSet) (t : TopologyValue) (pre post : PlacementValue) (s : ScheduleValue) (steps rounds : ℕ) → cut_refutes sets u t pre post rounds ≡ true
+    ensures refuted { (sets : Sets) (u : NodeSet) (t : TopologyValue) (pre post : PlacementValue) (s : ScheduleValue) (steps rounds : ℕ) → width_by sets u t * rounds < need_of u pre post
         → Solves t pre post s steps rounds → ⊥ }
     ensures first { (sets : Sets) (t : TopologyValue) (pre post : PlacementValue) (s : ScheduleValue) (steps rounds : ℕ) → is_some (first_cut_of sets t pre post rounds) ≡ true
         → Solves t pre post s steps rounds → ⊥ }

@@ -1,7 +1,7 @@
 //! What has to come into a set of nodes, and what can.
 
 ghost use Rattle.std.specs.Prelude.{◌≡◌, ◌*◌, ◌<◌, count_by, filter, length, nat_lt, IfOk};
-ghost use Rattle.node_cuts.specs.{Sides.members, Cuts.{all_groups, width_by}, Opened.is_alone, Holders.is_lacking, Tables.IsSmall};
+ghost use Rattle.node_cuts.specs.{inner.Listed.members, Cuts.{all_groups, width_by}, Opened.is_alone, Holders.is_lacking, Tables.IsSmall};
 
 use crate::OutOfMemory;
 use crate::holders::{Holders, need};

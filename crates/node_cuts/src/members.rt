@@ -1,7 +1,7 @@
 //! Sets of nodes, and those that are looked at.
 
 ghost use Rattle.std.specs.{Prelude.{◌≡◌, ◌<◌, ◌≤◌, ◌-◌, ◌^◌, map, IfOk}, List.range_with_len};
-ghost use Rattle.node_cuts.specs.Sides.{listed_sides, mask_of, members, node_sets};
+ghost use Rattle.node_cuts.specs.{Sides.{mask_of, node_sets}, inner.Listed.{listed_sides, members}};
 
 use crate::OutOfMemory;
 use crate::mask::has_any_node;

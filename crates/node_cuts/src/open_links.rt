@@ -2,7 +2,7 @@
 
 ghost use Rattle.std.specs.{Prelude.{◌≡◌, ◌<◌, ◌≤◌, length, count_by, All}, List.list_any};
 ghost use Rattle.schedule.specs.{Links.IsBelow, Placed.same_pair, Tables.{Marks, marked_at}};
-ghost use Rattle.node_cuts.specs.{Sides.members, Cuts.enters, Opened.RemovesLinks};
+ghost use Rattle.node_cuts.specs.{inner.Listed.members, Cuts.enters, Opened.RemovesLinks};
 
 use crate::members::Members;
 

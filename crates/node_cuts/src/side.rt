@@ -1,7 +1,7 @@
 //! The sets of nodes that are looked at: the listed sets.
 
 ghost use Rattle.std.specs.{Prelude.{◌≡◌, ◌<◌, ◌≤◌, ◌+◌, ◌-◌, ◌++◌, map, IfOk, OnOk}, List.range_with_len};
-ghost use Rattle.node_cuts.specs.Sides.{complement, listed_sides, set_of, small_sides, two_sides};
+ghost use Rattle.node_cuts.specs.inner.Listed.{complement, listed_sides, set_of, small_sides, two_sides};
 
 use crate::OutOfMemory;
 use std::alloc::Global;

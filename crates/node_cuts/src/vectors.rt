@@ -3,15 +3,13 @@
 ghost use Rattle.std.specs.Prelude.{◌≡◌, Some, None, [], ◌∷◌, map};
 ghost use Rattle.schedule.specs.Rows.{at_root, back_of_2, everywhere, line_of_3, ring_of_4, twice_grouped, one_node};
 ghost use Rattle.collective_spec.specs.declared.kind.Kind.{Kind};
-ghost use Rattle.node_cuts.specs.{declared.{side.Side.Side, sets.Sets.Sets}, Sides.{has_bit, listed_sides, mask_of, node_sets, set_of}};
+ghost use Rattle.node_cuts.specs.{declared.sets.Sets.Sets, Sides.{has_bit, mask_of, node_sets}};
 ghost use Rattle.node_cuts.specs.Cuts.{cover, cover_back, cover_by, cover_greedily, first_cut_of, need_of, width_by};
 ghost use Rattle.node_cuts.specs.Rows.{cut, cut_at, floor_at, nowhere, one_for_all, switch_in_first, switch_out_first, two_pairs};
 
 /// One node, two nodes, and all but these.
-pub fn sides_of_three_nodes()
-    ensures listed { listed_sides 3 ≡ Side.One 0 ∷ Side.One 1 ∷ Side.One 2 ∷ Side.Two 0 1 ∷ Side.Two 0 2 ∷ Side.Two 1 2
-        ∷ Side.AllButOne 0 ∷ Side.AllButOne 1 ∷ Side.AllButOne 2 ∷ Side.AllButTwo 0 1 ∷ Side.AllButTwo 0 2 ∷ Side.AllButTwo 1 2 ∷ [] }
-    ensures bits { mask_of 3 (set_of (Side.AllButOne 1)) ≡ 5 }
+pub fn sets_of_three_nodes()
+    ensures { map (mask_of 3) (node_sets Sets.Listed 3) ≡ 1 ∷ 2 ∷ 4 ∷ 3 ∷ 5 ∷ 6 ∷ 6 ∷ 5 ∷ 3 ∷ 4 ∷ 2 ∷ 1 ∷ [] }
 {}
 
 /// An allgather on the ring of 4: three chunks of each node have to come to node 0 over two links,
@@ -50,9 +48,9 @@ pub fn a_cover_takes_the_first_of_two_groups()
 /// Nothing has to come to the root of a broadcast, or to a set with the root; and where nothing has
 /// to come into any set, the floor is nothing over 1.
 pub fn nothing_has_to_come_to_the_root()
-    ensures root { need_of (set_of (Side.One 0)) (at_root 2 4) (everywhere 2 4) ≡ 0 }
-    ensures another { need_of (set_of (Side.One 1)) (at_root 2 4) (everywhere 2 4) ≡ 2 }
-    ensures with_root { need_of (set_of (Side.Two 0 1)) (at_root 2 4) (everywhere 2 4) ≡ 0 }
+    ensures root { need_of (has_bit 1) (at_root 2 4) (everywhere 2 4) ≡ 0 }
+    ensures another { need_of (has_bit 2) (at_root 2 4) (everywhere 2 4) ≡ 2 }
+    ensures with_root { need_of (has_bit 3) (at_root 2 4) (everywhere 2 4) ≡ 0 }
     ensures floor { floor_at Sets.Listed one_node Kind.Broadcast ≡ record { above = 0; below = 1; nodes = 0 } }
 {}
 

@@ -1,7 +1,7 @@
 //! How many chunks groups carry together, and the narrowest cover.
 
 ghost use Rattle.std.specs.Prelude.{◌≡◌, ◌<◌, ◌≤◌, filter, length, All, IfOk};
-ghost use Rattle.node_cuts.specs.{Sides.members, Cuts.{all_groups, cover_by, narrower, width_of}, Opened.is_alone};
+ghost use Rattle.node_cuts.specs.{inner.Listed.members, Cuts.{all_groups, cover_by, narrower, width_of}, Opened.is_alone};
 
 use crate::OutOfMemory;
 use crate::covering::{cover, cover_back, group_at};

@@ -1,7 +1,12 @@
 -- A list with an entry for each of the first so many numbers, one of them changed.
-use Rattle.std.proofs.Common.{◌≡◌, ℕ, ◌<◌, false, eqb, length, map, get_or, set, ⊎_elim, sym, ap, ◌∙◌, arith, get_or-set_same, get_or-set_other}
-use Rattle.std.{specs.List.range_with_len, proofs.lemmas.List.{length-set, FromFn.{fill_by_all, get_or-map-range_with_len, length-map-range_with_len}}}
+use Rattle.std.proofs.Common.{◌≡◌, ℕ, ◌<◌, false, eqb, List, [], ◌∷◌, ◌++◌, length, map, get_or, set, ⊎_elim, sym, ap, ◌∙◌, arith, get_or-set_same, get_or-set_other}
+use Rattle.std.{specs.List.{AllByRecursion, range_with_len}, proofs.lemmas.List.{length-set, FromFn.{fill_by_all, get_or-map-range_with_len, length-map-range_with_len}}}
 use Rattle.bag_runs.proofs.Cells.{differ, same_or_not}
+
+-- what holds of each element of two lists holds of each of the first
+pub each_front : {X : Type 0} (P : X → Type 0) (xs ys : List X) → AllByRecursion P (xs ++ ys) → AllByRecursion P xs
+each_front P [] ys each = tt
+each_front P (x ∷ xs) ys each = (each.0, each_front P xs ys each.1)
 
 pub flipped : (a b : ℕ) → eqb a b ≡ false → eqb b a ≡ false
 flipped a b apart =

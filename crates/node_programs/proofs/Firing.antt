@@ -3,7 +3,8 @@ use Rattle.std.proofs.Common.{◌≡◌, ℕ, zero, suc, ◌+◌, ◌*◌, ◌<�
 use Rattle.std.{specs.{Prelude.unwrap_or, List.AllByRecursion}, proofs.lemmas.{Bool.{and_from, eq-eqb}, List.{get_or-map, length-set, map-append, map-set}}}
 use Rattle.std.proofs.lemmas.Nat.{mul-add-lt}
 use Rattle.node_programs.specs.{declared.{op.Op.{Op, TheVariants.{Send, Take}}, message.Message.Message as Parcel}, Below.IsOpBelow}
-use Rattle.node_programs.specs.Machines.{Message, State, event, after_take, after_op, queue_in, after_send, take_from_queue}
+use Rattle.node_programs.specs.Machines.{Message, State, event, after_op}
+use Rattle.node_programs.proofs.Events.{after_take, taken}
 use Rattle.node_programs.specs.Queues.{IsMachine, QueueValue, message_in, messages_in, no_queue, queue_of, sends_to, with_message, without_first}
 use Rattle.bag_runs.specs.{declared.mode.Mode.Mode, Stores.{StoreValue, bag_in, received, with_bag}, Kept.counted}
 use Rattle.bag_runs.proofs.Cells.{cell_below, cell_beside, cell_here, differ, same_or_not}
@@ -139,13 +140,9 @@ same_state a b s c d left queues =
 queue_at : (nodes : ℕ) (queues : List QueueValue) (place : ℕ) → place < length queues → get_or (map (messages_in nodes) queues) place [] ≡ messages_in nodes (get_or queues place no_queue)
 queue_at nodes queues place inside = get_or-map (messages_in nodes) queues place no_queue [] inside
 
-first_dropped : (nodes : ℕ) (ms : List Parcel) → map (message_in nodes) (drop 1 ms) ≡ drop 1 (map (message_in nodes) ms)
-first_dropped nodes [] = refl
-first_dropped nodes (m ∷ ms) = refl
-
-head_mapped : (nodes : ℕ) (ms : List Parcel) (m : Parcel) → slice_get ms 0 ≡ Some m → slice_get (map (message_in nodes) ms) 0 ≡ Some (message_in nodes m)
+head_mapped : (nodes : ℕ) (ms : List Parcel) (m : Parcel) → slice_get ms 0 ≡ Some m → map (message_in nodes) ms ≡ message_in nodes m ∷ map (message_in nodes) (drop 1 ms)
 head_mapped nodes [] m is = absurd cc
-head_mapped nodes (x ∷ xs) m is = let same : x ≡ m = cc in ap (λ y. Some (message_in nodes y)) same
+head_mapped nodes (x ∷ xs) m is = let same : x ≡ m = cc in ap (λ y. message_in nodes y ∷ map (message_in nodes) xs) same
 
 module _ (programs : List (List Op)) (store : StoreValue) (queues : List QueueValue) (node : ℕ) where
   abbrev s : State
@@ -153,47 +150,44 @@ module _ (programs : List (List Op)) (store : StoreValue) (queues : List QueueVa
 
   pub state_sent : (chunk to step : ℕ) (bag : List ℕ) (left : List (List Op)) (new : List QueueValue) → node * store.nodes + to < length queues → left ≡ set programs node (drop 1 (get_or programs node []))
       → new ≡ set queues (node * store.nodes + to) (with_message (get_or queues (node * store.nodes + to) no_queue) (record { chunk = chunk; step = step; bag = bag }))
-      → counted store.nodes bag ≡ bag_in store chunk node → state_of left store new ≡ after_send s node chunk to step
-  state_sent chunk to step bag left new inside is_left is_new is_bag =
+      → counted store.nodes bag ≡ bag_in store chunk node → slice_get (get_or programs node []) 0 ≡ Some (Send chunk to step) → event s node ≡ Some (state_of left store new)
+  state_sent chunk to step bag left new inside is_left is_new is_bag next =
       let place : ℕ = node * store.nodes + to in
       let m : Parcel = record { chunk = chunk; step = step; bag = bag } in
       let message : List ℕ → Message = λ b. record { chunk = chunk; step = step; bag = b } in
-      same_state left (set programs node (drop 1 (get_or programs node []))) store (map (messages_in store.nodes) new) _ is_left
+      ap (option_and_then (after_op s node)) next ∙ ap (λ (x : State). Some x) (sym (same_state left (set programs node (drop 1 (get_or programs node []))) store (map (messages_in store.nodes) new) _ is_left
       (ap (map (messages_in store.nodes)) is_new
       ∙ map-set (messages_in store.nodes) queues place (with_message (get_or queues place no_queue) m)
       ∙ ap (set (map (messages_in store.nodes) queues) place)
       (map-append (message_in store.nodes) (get_or queues place no_queue).messages (m ∷ [])
       ∙ ap (λ b. messages_in store.nodes (get_or queues place no_queue) ++ message b ∷ []) is_bag
-      ∙ ap (λ ms. ms ++ message (bag_in store chunk node) ∷ []) (sym (queue_at store.nodes queues place inside))))
+      ∙ ap (λ ms. ms ++ message (bag_in store chunk node) ∷ []) (sym (queue_at store.nodes queues place inside))))))
 
   module _ (chunk from step : ℕ) (how : Mode) (bag : List ℕ) (inside : from * store.nodes + node < length queues) where
     abbrev place : ℕ
     place = from * store.nodes + node
 
-    state_got : (left : List (List Op)) (after : StoreValue) (new : List QueueValue) → left ≡ set programs node (drop 1 (get_or programs node []))
-        → after ≡ with_bag store chunk node (received how (bag_in store chunk node) (counted store.nodes bag))
-        → new ≡ set queues place (without_first (get_or queues place no_queue)) → state_of left after new ≡ after_take s node chunk from how (counted store.nodes bag)
-    state_got left after new is_left is_after is_new =
-        ap (λ x. state_of left x new) is_after
+    abbrev after : State
+    after = after_take s node chunk from how (counted store.nodes bag) (messages_in store.nodes (without_first (get_or queues place no_queue)))
+
+    state_got : (left : List (List Op)) (kept : StoreValue) (new : List QueueValue) → left ≡ set programs node (drop 1 (get_or programs node []))
+        → kept ≡ with_bag store chunk node (received how (bag_in store chunk node) (counted store.nodes bag))
+        → new ≡ set queues place (without_first (get_or queues place no_queue)) → state_of left kept new ≡ after
+    state_got left kept new is_left is_kept is_new =
+        ap (λ x. state_of left x new) is_kept
         ∙ same_state left (set programs node (drop 1 (get_or programs node []))) (with_bag store chunk node (received how (bag_in store chunk node) (counted store.nodes bag))) (map (messages_in store.nodes) new) _ is_left
-        (ap (map (messages_in store.nodes)) is_new
-        ∙ map-set (messages_in store.nodes) queues place (without_first (get_or queues place no_queue))
-        ∙ ap (set (map (messages_in store.nodes) queues) place)
-        (first_dropped store.nodes (get_or queues place no_queue).messages
-        ∙ ap (drop 1) (sym (queue_at store.nodes queues place inside))))
+        (ap (map (messages_in store.nodes)) is_new ∙ map-set (messages_in store.nodes) queues place (without_first (get_or queues place no_queue)))
 
     event_got : slice_get (get_or programs node []) 0 ≡ Some (Take chunk from step how) → slice_get (get_or queues place no_queue).messages 0 ≡ Some (record { chunk = chunk; step = step; bag = bag })
-        → event s node ≡ Some (after_take s node chunk from how (counted store.nodes bag))
+        → event s node ≡ Some after
     event_got next head =
-        let m : Parcel = record { chunk = chunk; step = step; bag = bag } in
-        let first : slice_get (queue_in s from node) 0 ≡ Some (message_in store.nodes m) = ap (λ ms. slice_get ms 0) (queue_at store.nodes queues place inside) ∙ head_mapped store.nodes (get_or queues place no_queue).messages m head in
         ap (option_and_then (after_op s node)) next
-        ∙ ap (take_from_queue s node chunk from step how) first
-        ∙ ap (λ b. cond b (Some (after_take s node chunk from how (counted store.nodes bag))) None) (and_from _ _ (eq-eqb chunk chunk refl) (eq-eqb step step refl))
+        ∙ ap (taken s node chunk from step how) (queue_at store.nodes queues place inside ∙ head_mapped store.nodes (get_or queues place no_queue).messages (record { chunk = chunk; step = step; bag = bag }) head)
+        ∙ ap (λ b. cond b (Some after) None) (and_from _ _ (eq-eqb chunk chunk refl) (eq-eqb step step refl))
 
-    pub state_taken : (left : List (List Op)) (after : StoreValue) (new : List QueueValue) → slice_get (get_or programs node []) 0 ≡ Some (Take chunk from step how)
+    pub state_taken : (left : List (List Op)) (kept : StoreValue) (new : List QueueValue) → slice_get (get_or programs node []) 0 ≡ Some (Take chunk from step how)
         → slice_get (get_or queues place no_queue).messages 0 ≡ Some (record { chunk = chunk; step = step; bag = bag })
-        → left ≡ set programs node (drop 1 (get_or programs node [])) → after ≡ with_bag store chunk node (received how (bag_in store chunk node) (counted store.nodes bag))
-        → new ≡ set queues place (without_first (get_or queues place no_queue)) → state_of left after new ≡ unwrap_or (event s node) s
-    state_taken left after new next head is_left is_after is_new =
-        state_got left after new is_left is_after is_new ∙ sym (ap (λ e. unwrap_or e s) (event_got next head))
+        → left ≡ set programs node (drop 1 (get_or programs node [])) → kept ≡ with_bag store chunk node (received how (bag_in store chunk node) (counted store.nodes bag))
+        → new ≡ set queues place (without_first (get_or queues place no_queue)) → state_of left kept new ≡ unwrap_or (event s node) s
+    state_taken left kept new next head is_left is_kept is_new =
+        state_got left kept new is_left is_kept is_new ∙ sym (ap (λ e. unwrap_or e s) (event_got next head))

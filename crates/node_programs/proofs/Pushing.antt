@@ -3,8 +3,9 @@ use Rattle.std.proofs.Common.{◌≡◌, ℕ, ◌+◌, ◌<◌, ◌≤◌, Bool,
 use Rattle.std.{specs.List.{flat_map, range_with_len}, proofs.lemmas.{Bool.eq-eqb, Grind.flat_map-append, List.{append-nil, map-append, take_all, map-id}}}
 use Rattle.std.proofs.lemmas.List.{Elements.filter_more, FromFn.{get_or-map-range_with_len, map-range_with_len_more}}
 use Rattle.schedule.specs.{declared.hop.Hop.Hop, Sends.ScheduleValue}
-use Rattle.node_programs.{specs.{declared.op.Op.Op, Programs.{send_of, step_of, take_of}}, proofs.Each.{flipped, set_each}}
+use Rattle.node_programs.{specs.{declared.op.Op.Op, Programs.step_of}, proofs.Each.{flipped, set_each}}
 use Rattle.bag_runs.proofs.{Arrivals.filter_both, Counting.map_alike}
+use Rattle.node_programs.specs.inner.Pushed.{send_of, take_of}
 
 -- a program for each of so many nodes
 abbrev pub each : ℕ → (ℕ → List Op) → List (List Op)

@@ -19,10 +19,7 @@ op_words names (Take chunk from step how) = decimal step ∷ codes "take" ∷ de
 abbrev pub node_lines : List (List ℕ) → List ℕ × List Op → List (List (List ℕ))
 node_lines names node = (codes "node" ∷ node.0 ∷ []) ∷ map (op_words names) node.1
 
--- the tokens of each line: the point's number, each node with its program, and the end
-abbrev pub programs_lines : ℕ → List (List ℕ) → List (List Op) → List (List (List ℕ))
-programs_lines point names programs =
-    (codes "programs" ∷ decimal point ∷ []) ∷ (flat_map (node_lines names) (zip names programs) ++ (codes "end" ∷ []) ∷ [])
-
+-- the point's number, each node with its program, and the end
 unfoldable pub programs_text : ℕ → List (List ℕ) → List (List Op) → List ℕ
-programs_text point names programs = text_of (programs_lines point names programs)
+programs_text point names programs =
+    text_of ((codes "programs" ∷ decimal point ∷ []) ∷ (flat_map (node_lines names) (zip names programs) ++ (codes "end" ∷ []) ∷ []))

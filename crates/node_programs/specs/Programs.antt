@@ -4,17 +4,11 @@ use Rattle.schedule.specs.{declared.hop.Hop.Hop, Sends.ScheduleValue}
 use Rattle.bag_runs.specs.Stores.{mode_at}
 use Rattle.node_programs.specs.declared.op.Op.{Op, TheVariants.{Send, Take}}
 
-abbrev pub send_of : Hop → Op
-send_of h = Send h.chunk h.to h.step
-
-abbrev pub take_of : ℕ → Hop → Op
-take_of adding h = Take h.chunk h.from h.step (mode_at adding h.step)
-
 -- in a step a node first sends, by chunk and receiver, and then takes, by chunk and sender: the order of the schedule's sends
 abbrev pub step_of : List Hop → ℕ → ℕ → ℕ → List Op
 step_of sends adding node step =
-    map send_of (filter (λ h. h.step == step && h.from == node) sends)
-    ++ map (take_of adding) (filter (λ h. h.step == step && h.to == node) sends)
+    map (λ h. Send h.chunk h.to h.step) (filter (λ h. h.step == step && h.from == node) sends)
+    ++ map (λ h. Take h.chunk h.from h.step (mode_at adding h.step)) (filter (λ h. h.step == step && h.to == node) sends)
 
 -- a node's operations, step by step
 abbrev pub program_of : ScheduleValue → ℕ → ℕ → List Op

@@ -1,5 +1,5 @@
 -- Runs of the machine, in any order and in the order that a seed draws (this project's own).
-use Rattle.std.specs.Prelude.{◌≡◌, ℕ, zero, suc, ◌+◌, ◌*◌, ◌/◌, ◌%◌, ◌^◌, List, [], ◌∷◌, length, map, filter, sum, Option, None, Some, slice_index_or}
+use Rattle.std.specs.Prelude.{◌≡◌, ℕ, zero, suc, ◌+◌, ◌*◌, ◌/◌, ◌%◌, ◌^◌, List, [], ◌∷◌, length, map, filter, sum, Option, None, Some, slice_get, unwrap_or}
 use Rattle.std.specs.List.{range_with_len}
 use Rattle.node_programs.specs.Machines.{State, event, is_enabled}
 
@@ -24,22 +24,14 @@ enabled s = filter (is_enabled s) (range_with_len 0 (length s.left))
 abbrev pub next_draw : ℕ → ℕ
 next_draw x = (6364136223846793005 * x + 1442695040888963407) % 2 ^ 64
 
--- what is drawn: the state without its lowest 33 bits
-abbrev pub drawn : ℕ → ℕ
-drawn x = x / 2 ^ 33
-
--- the node of that rank among those that are enabled, if there are any
+-- the node whose rank among those that are enabled is drawn, if there are any: the lowest 33 bits of the state count for nothing
 abbrev pub ranked : List ℕ → ℕ → Option ℕ
-ranked [] x = None
-ranked (node ∷ nodes) x = Some (slice_index_or (node ∷ nodes) (drawn x % length (node ∷ nodes)) node)
+ranked nodes x = slice_get nodes (x / 2 ^ 33 % length nodes)
 
 -- the next so many nodes that the generator picks, until none is enabled
 abbrev pub picked : ℕ → State → ℕ → List ℕ
 picked zero s x = []
-picked (suc n) s x = elim (ranked (enabled s) (next_draw x)) [
-  | None ↦ []
-  | Some node ↦ elim (event s node) [ None ↦ [] | Some next ↦ node ∷ picked n next (next_draw x) ]
-]
+picked (suc n) s x = elim (ranked (enabled s) (next_draw x)) [ None ↦ [] | Some node ↦ node ∷ picked n (unwrap_or (event s node) s) (next_draw x) ]
 
 -- the order that a seed draws: no run has more events than there are operations
 abbrev pub chosen : State → ℕ → List ℕ

@@ -1,7 +1,7 @@
 ghost use Rattle.std.specs.Prelude.{◌≡◌, ◌*◌, ◌+◌, ◌^◌, ◌<◌, ◌≤◌, Some, length, slice_get, if◌then◌else◌, unwrap_or, IfOk, MatchOption};
 ghost use Rattle.node_programs.specs.declared.op.Op.TheVariants as op;
 ghost use Rattle.node_programs.specs.declared.machine.Fired.TheVariants as fired;
-ghost use Rattle.node_programs.specs.{Machines.{State, event, is_enabled, is_finished, ops_left, after_send, start_of}, Runs.operations, Below.AreBelow};
+ghost use Rattle.node_programs.specs.{Machines.{State, event, is_enabled, is_finished, ops_left, start_of}, Runs.operations, Below.AreBelow};
 
 use crate::OutOfMemory;
 use crate::message::Message;
@@ -142,7 +142,7 @@ impl Machine {
     fn send(&mut self, node: u8, chunk: u16, to: u8, step: u8)
         requires node { node < self.old.store.nodes }
         requires next { slice_get (ops_left self.old node) 0 ≡ Some (op.Send chunk to step) }
-        ensures { self.new ≡ after_send self.old node chunk to step }
+        ensures { event self.old node ≡ Some self.new }
     {
         let bag = self.store.bag(chunk, node);
         let place = self.place(node, to);

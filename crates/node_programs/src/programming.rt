@@ -2,7 +2,7 @@
 
 ghost use Rattle.std.specs.{Prelude.{◌≡◌, ◌==◌, ℕ, ◌++◌, ◌∷◌, [], List, length, map, filter, slice_index_or, slice_set, IfOk, OnOk}, List.range_with_len};
 ghost use Rattle.schedule.specs.Sends.{IsInRange};
-ghost use Rattle.node_programs.specs.{declared.op.Op.Op, Programs.{programs_of, send_of, take_of}, Below.AreBelow};
+ghost use Rattle.node_programs.specs.{declared.op.Op.Op, Programs.programs_of, Below.AreBelow, inner.Pushed.{send_of, take_of}};
 
 use crate::OutOfMemory;
 use crate::op::Op;

@@ -1,9 +1,9 @@
 //! Worked programs and runs.
 
-ghost use Rattle.std.specs.{Prelude.{◌≡◌, [], ◌∷◌, true, false, Some, is_some, slice_get, codes}, Option.option_map};
+ghost use Rattle.std.specs.{Prelude.{◌≡◌, ◌/◌, ◌^◌, [], ◌∷◌, true, false, Some, is_some, slice_get, codes}, Option.option_map};
 ghost use Rattle.schedule.specs.Rows.{pair_allreduce, plan, send};
 ghost use Rattle.node_programs.specs.{Programs.programs_of, Printing.programs_text, Machines.{is_enabled, is_finished}, Relay.{exchange, relay}};
-ghost use Rattle.node_programs.specs.Runs.{chosen, drawn, next_draw, machine_run};
+ghost use Rattle.node_programs.specs.Runs.{chosen, next_draw, machine_run};
 
 use crate::op::Op;
 use bag_runs::Mode;
@@ -33,7 +33,7 @@ pub fn relay_and_its_events()
 
 /// What the generator draws first from seed 0.
 pub fn first_draw()
-    ensures { drawn (next_draw 0) ≡ 167951807 }
+    ensures { next_draw 0 / 2 ^ 33 ≡ 167951807 }
 {}
 
 /// Two nodes that send to each other: seed 0 lets node 1 move first.

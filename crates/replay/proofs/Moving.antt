@@ -2,7 +2,7 @@
 use Rattle.std.proofs.Common.{◌≡◌, ℕ, zero, suc, ◌+◌, ◌-◌, ◌<◌, true, List, [], ◌∷◌, ◌++◌, Option, Some, None, refl, sym, ap, ◌∙◌, append_assoc, arith, is_some}
 use Rattle.std.{specs.Prelude.unwrap_or, proofs.lemmas.List.append-nil}
 use Rattle.node_programs.specs.{Machines.{State, event, is_enabled}, Runs.{enabled, next_draw, picked, ranked, machine_run}}
-use Rattle.node_programs.proofs.{Ends.run_by, Legal.{drawn_first, moved}}
+use Rattle.node_programs.proofs.Events.{each_run, run_by}
 
 -- ---- what an event gives
 
@@ -16,23 +16,21 @@ event_some s next node enabled is = given (event s node) s enabled ∙ ap (λ x.
 -- ---- runs
 
 pub run_more : (order : List ℕ) (s now next : State) (node : ℕ) → machine_run s order ≡ Some now → event now node ≡ Some next → machine_run s (order ++ node ∷ []) ≡ Some next
-run_more [] s now next node ran is =
-    let same : s ≡ now = cc in
-    ap (λ x. run_by (event x node) []) same ∙ ap (λ after. run_by after []) is
-run_more (v ∷ order) s now next node ran is = onward (event s v) ran (λ after. run_more order after now next node)
-  where
-    onward : (after : Option State) → run_by after order ≡ Some now → ((x : State) → machine_run x order ≡ Some now → event now node ≡ Some next → machine_run x (order ++ node ∷ []) ≡ Some next) → run_by after (order ++ node ∷ []) ≡ Some next
-    onward None rest later = absurd cc
-    onward (Some x) rest later = later x rest is
+run_more order s now next node ran is =
+    each_run (λ a o b. event b node ≡ Some next → machine_run a (o ++ node ∷ []) ≡ Some next) (λ a last. ap (λ after. run_by after []) last) (λ a onward b v o first later last. ap (λ after. run_by after (o ++ node ∷ [])) first ∙ later last) order s now ran is
 
 -- ---- what the generator picks
 
+-- what comes of one pick
+abbrev picked_by : ℕ → State → ℕ → Option ℕ → List ℕ
+picked_by n s x first = elim first [ None ↦ [] | Some node ↦ node ∷ picked n (unwrap_or (event s node) s) x ]
+
 pub picked_more : (n : ℕ) (s next : State) (x node : ℕ) → Some node ≡ ranked (enabled s) (next_draw x) → event s node ≡ Some next → picked (suc n) s x ≡ node ∷ picked n next (next_draw x)
-picked_more n s next x node drawn is = ap (drawn_first n s x) (sym drawn) ∙ ap (moved n s x node) is
+picked_more n s next x node drawn is = ap (picked_by n s (next_draw x)) (sym drawn) ∙ ap (λ after. node ∷ picked n (unwrap_or after s) (next_draw x)) is
 
 pub picked_none : (n : ℕ) (s : State) (x : ℕ) → None ≡ ranked (enabled s) (next_draw x) → picked n s x ≡ []
 picked_none zero s x none = refl
-picked_none (suc n) s x none = ap (drawn_first n s x) (sym none)
+picked_none (suc n) s x none = ap (picked_by n s (next_draw x)) (sym none)
 
 -- what was picked so far, and what is still to be picked
 abbrev pub IsPicked : ℕ → State → ℕ → List ℕ → ℕ → State → ℕ → Type 0

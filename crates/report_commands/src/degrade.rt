@@ -2,7 +2,7 @@
 
 ghost use Rattle.std.specs.Prelude.{◌≡◌, ◌≢◌, ◌≤◌, length, None, IfOk, IsTrue, OnErr, Ok, Err};
 ghost use Rattle.outer_ports.specs.{Port.{HasCause, Tells}, Shelf.FilesStay, declared.part.Part.TheVariants.Whole};
-ghost use Rattle.report_form.specs.Reports.{question_of};
+ghost use Rattle.report_form.specs.Reports.{IsReport, question_of};
 ghost use Rattle.round_encoding.specs.Candidates.{size_limit};
 ghost use Rattle.candidate_formula.specs.Sizes.{size_of};
 ghost use Rattle.frontier_audit.specs.Rights.{IsRight};
@@ -53,6 +53,7 @@ fn search_anew(alloc: Global, report: &Report, fault: LinkFault) -> Result<Answe
 
 /// The verdict on a report, by an audit over the shelf, of which no file changes.
 fn judged<H: Shelf>(alloc: Global, report: &Report, shelf: &mut H) -> Result<AuditVerdict, Halt>
+    requires valid { IsReport report.now }
     requires small { size_of (question_of report.now.words report.now.topology Whole) ≤ size_limit }
     ensures judged { IfOk result (λ verdict. IsJudged report.now verdict (record { told = H.tells shelf.new; before = H.file shelf.old; after = H.file shelf.new })) }
     ensures right { result ≡ Ok AuditVerdict.Verified → IsRight report.now }
@@ -75,7 +76,7 @@ fn judged_answer(
     requires fault { CanFail report.now fault.group fault.width }
     requires small { size_of (question_of report.now.words report.now.topology Whole) ≤ size_limit }
     requires right { verdict ≡ AuditVerdict.Verified → IsRight report.now }
-    ensures answers { (files : FilesValue) → IsJudged report.now verdict files → IfOk result (λ a. IsAudited report.now (λ _. IsNewSearch report.now fault.group fault.width) files a.status a.text.items) }
+    ensures answers { (files : FilesValue) → IsJudged report.now verdict files → IfOk result (λ a. IsAudited report.now (IsNewSearch report.now fault.group fault.width) files a.status a.text.items) }
     ensures accepted { IfOk result (λ a. ¬ IsRefusal a.status) }
 {
     match verdict {
@@ -92,9 +93,10 @@ fn audited_answer<H: Shelf>(
     fault: LinkFault,
     shelf: &mut H,
 ) -> Result<Answer, Halt>
+    requires valid { IsReport report.now }
     requires fault { CanFail report.now fault.group fault.width }
     requires small { size_of (question_of report.now.words report.now.topology Whole) ≤ size_limit }
-    ensures answers { IfOk result (λ a. IsAudited report.now (λ _. IsNewSearch report.now fault.group fault.width) (record { told = H.tells shelf.new; before = H.file shelf.old; after = H.file shelf.new }) a.status a.text.items) }
+    ensures answers { IfOk result (λ a. IsAudited report.now (IsNewSearch report.now fault.group fault.width) (record { told = H.tells shelf.new; before = H.file shelf.old; after = H.file shelf.new }) a.status a.text.items) }
     ensures stay { IsTrue (H.tells shelf.new) → FilesStay (H.file shelf.old) (H.file shelf.new) }
     ensures accepted { IfOk result (λ a. ¬ IsRefusal a.status) }
     ensures source { result ≢ Err Halt.Source }
@@ -113,6 +115,7 @@ fn refusal_of(
     fault: LinkFault,
 ) -> Result<Option<Answer>, OutOfMemory>
     ensures refuses { IfOk result (IsSearchableAs (refused_first report.now fault.group fault.group_word fault.width fault.width_word)) }
+    ensures valid { IfOk result (λ refused. refused ≡ None → IsReport report.now) }
     ensures takes { IfOk result (λ refused. refused ≡ None → CanFail report.now fault.group fault.width) }
     ensures small { IfOk result (λ refused. refused ≡ None → size_of (question_of report.now.words report.now.topology Whole) ≤ size_limit) }
 {

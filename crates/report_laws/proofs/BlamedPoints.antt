@@ -12,10 +12,10 @@ use Rattle.report_form.specs.{declared.fault.ReportCode.ReportCode, Fields.is_nu
 use Rattle.report_form.specs.Points.{HeadValue, head_from, joined_head_from, may_join, rounds_from, are_rounds, rounds_line, send_from, send_line, may_be_sent, follows, schedule_at, frontier_point_at, joined_point_at}
 use Rattle.report_form.specs.Reading.{part_bytes, refuted_from, refuted_line, unknown_from, unknown_line, frontier_at}
 use Rattle.report_form.proofs.{Gives.{Gives, gives_done, gives_like}, LineTaken.{on_words, ruled_by}}
-use Rattle.report_laws.specs.Shapes.{Token, Word, Any, has_shape, small, candidate_shape, mark_shape, rounds_shape, send_shape, Form, formed, rounds, unknown, refuted, results, forms_after}
+use Rattle.report_laws.specs.Shapes.{Token, Word, Any, has_shape, small, candidate_shape, send_shape, formed, rounds, unknown, refuted, results, forms_after}
 use Rattle.report_laws.proofs.{LocalParts.steady_schedule, SteadyLists.shorter_part}
-use Rattle.report_laws.proofs.ShapesTold.{Told, refuted_told, unknown_told, head_told, joined_head_told, rounds_told, send_told}
-use Rattle.report_laws.proofs.Blaming.{goes_on, or_false, told_code, ruled_goes, fixed_goes, first_of_shape, first_of_front, unbegun, Coded, At, line_goes, lines_go, parts_go, less}
+use Rattle.report_laws.proofs.ShapesTold.{Told, mark_shape, rounds_shape, refuted_told, unknown_told, head_told, joined_head_told, rounds_told, send_told}
+use Rattle.report_laws.proofs.Blaming.{Form, goes_on, or_false, told_code, ruled_goes, fixed_goes, first_of_shape, first_of_front, unbegun, Coded, At, line_goes, lines_go, parts_go, less}
 
 -- ---- the one form that a line with this first word can have
 

@@ -18,9 +18,9 @@ use Rattle.report_form.specs.Reading.{part_bytes, frontiers_from, joined_at, bod
 use Rattle.report_form.proofs.{LineTaken.row_is, ReportTaken.{after_root, after_names, after_same, after_asked, after_head, report_at, report_is}}
 use Rattle.report_form.proofs.Gives.{Gives, gives_done, gives_like}
 use Rattle.report_form.specs.declared.fault.ReportCode.TheVariants as code
-use Rattle.report_laws.specs.Shapes.{has_shape, asked_shape, Form, asked, nodes, results, forms_after, first_word, is_patterned, names_in, is_joined, forms_behind, fits, code_of}
+use Rattle.report_laws.specs.Shapes.{has_shape, asked_shape, asked, nodes, results, forms_after, first_word, is_patterned, names_in, forms_behind, code_of}
 use Rattle.report_laws.proofs.{ShapesTold.asked_told, BlamedPoints.{joined_points_go, IsTitle, title_goes, frontier_goes}}
-use Rattle.report_laws.proofs.Blaming.{last_is, goes_on, gives_fail, choose_gives, at_line_goes, part_goes, or_false, told_code, ruled_goes, first_of_shape, first_of_front, On, Coded, Unfit, code_on, unfit_on, among_goes, Stands, stands_goes, told_on, At, coded_at, onward}
+use Rattle.report_laws.proofs.Blaming.{Form, is_joined, fits, last_is, goes_on, gives_fail, choose_gives, at_line_goes, part_goes, or_false, told_code, ruled_goes, first_of_shape, first_of_front, On, Coded, Unfit, code_on, unfit_on, among_goes, Stands, stands_goes, told_on, At, coded_at, onward}
 
 -- ---- the body
 

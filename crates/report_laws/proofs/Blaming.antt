@@ -7,8 +7,19 @@ use Rattle.topology_text.{specs.{declared.fault.TopologyCode.TopologyCode, Readi
 use Rattle.report_form.specs.{declared.fault.ReportCode.ReportCode, Lines.{whole_line, fixed_line, row_begins, blamed, among, lines_from, parts_from}}
 use Rattle.report_form.proofs.{Gives.{Gives, gives_done, gives_like, gives_then}, LineTaken.{on_words, ruled_by}}
 use Rattle.report_form.specs.declared.fault.ReportCode.TheVariants as code
-use Rattle.report_laws.specs.Shapes.{Token, Word, Any, has_shape, Form, forms_after, first_word, is_patterned, names_in, is_joined, forms_behind, fits, code_of}
+use Rattle.report_laws.specs.Shapes.{Token, Word, Any, has_shape, forms_after, first_word, is_patterned, names_in, forms_behind, code_of}
 use Rattle.report_laws.proofs.ShapesTold.{Told}
+
+-- a test of a line
+abbrev pub Form : Type 0
+Form = Row → Bool
+
+abbrev pub is_joined : List (List ℕ) → Bool
+is_joined firsts = list_any (λ w. bytes_eq w (codes "joined")) firsts
+
+-- the line has a form that may stand behind these lines
+abbrev pub fits : List Row → Form
+fits before row = list_any (λ form. form row) (forms_behind before (last_or None (map first_word before)))
 
 -- ---- results
 

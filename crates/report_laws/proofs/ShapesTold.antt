@@ -12,7 +12,7 @@ use Rattle.report_form.specs.Fields.{is_number, any_number, small_number, next_w
 use Rattle.report_form.specs.Points.{candidate_from, mark_named, head_from, joined_head_from, numbers_from, rounds_from, send_from}
 use Rattle.report_form.specs.SynthLine.{AskedValue, kind_named, kinds_of, limits_from, root_from, said_from, pruning_from, asked_from}
 use Rattle.report_form.proofs.{Shapes.candidate, SynthLineTaken.{found_is, limits, pruned, asked}}
-use Rattle.report_laws.specs.Shapes.{Token, Word, Any, May, has_shape, small, keyed, asked_shape, candidate_shape, is_mark, mark_shape, rounds_shape, send_shape}
+use Rattle.report_laws.specs.Shapes.{Token, Word, Any, May, has_shape, small, keyed, asked_shape, candidate_shape, send_shape}
 use Rattle.report_laws.proofs.SynthLineAgain.{kind_back, rooted}
 
 -- the check passes where the test holds, and else says that the line is bad
@@ -107,6 +107,14 @@ refuted_told words = fixed_told _ _ _ (λ ws. candidate_told _ _ (λ x vs. end_t
 pub unknown_told : (words : List (List ℕ)) → Shaped (candidate_shape (codes "unknown") (Any is_number ∷ [])) words (unknown_from words)
 unknown_told words = fixed_told _ _ _ (λ ws. candidate_told _ _ (λ x vs. word_told any_number is_number _ _ any_passes (λ n us. end_told _ us) vs) ws) words
 
+-- the mark of a point of a frontier
+abbrev is_mark : List ℕ → Bool
+is_mark w = bytes_eq w (codes "optimal") || bytes_eq w (codes "open")
+
+-- what stands behind the candidate of a point
+abbrev pub mark_shape : Bool → List Token
+mark_shape joined = if joined then Word (codes "joined") ∷ small ∷ [] else Any is_mark ∷ []
+
 mark_passes : (w : List ℕ) → is_mark w ≡ is_some (mark_named w)
 mark_passes w = by_tests (bytes_eq w (codes "optimal")) (bytes_eq w (codes "open"))
   where
@@ -122,6 +130,10 @@ pub joined_head_told : (words : List (List ℕ)) → Shaped (candidate_shape (co
 joined_head_told words = fixed_told _ _ _ (λ ws. candidate_told _ _ (λ x vs. fixed_told _ _ _ (λ us. number_told _ _ (λ n ts. end_told _ ts) us) vs) ws) words
 
 -- ---- rounds and sends
+
+-- as many numbers as there are tokens
+abbrev pub rounds_shape : List (List ℕ) → List Token
+rounds_shape words = Word (codes "rounds") ∷ map (λ w. small) (drop 1 words)
 
 numbers_told : (ws : List (List ℕ)) → Shaped (map (λ w. small) ws) ws (numbers_from ws)
 numbers_told [] = record { told = told_ok [] refl }

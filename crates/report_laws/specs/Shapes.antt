@@ -42,52 +42,43 @@ asked_shape kind =
 abbrev pub candidate_shape : List ℕ → List Token → List Token
 candidate_shape word more = Word word ∷ small ∷ small ∷ small ∷ more
 
-abbrev pub is_mark : List ℕ → Bool
-is_mark w = bytes_eq w (codes "optimal") || bytes_eq w (codes "open")
-
--- what stands behind the candidate of a point
-abbrev pub mark_shape : Bool → List Token
-mark_shape joined = if joined then Word (codes "joined") ∷ small ∷ [] else Any is_mark ∷ []
-
--- as many numbers as there are tokens
-abbrev pub rounds_shape : List (List ℕ) → List Token
-rounds_shape words = Word (codes "rounds") ∷ map (λ w. small) (drop 1 words)
-
+-- a chunk, the names of two nodes, and a step
 abbrev pub send_shape : List (List ℕ) → List Token
 send_shape names = let node : Token = Any (λ w. is_some (node_of names w)) in Word (codes "send") ∷ small ∷ node ∷ node ∷ small ∷ []
 
 -- ---- lines that have rules
 
--- a test of a line
-abbrev pub Form : Type 0
-Form = Row → Bool
-
-abbrev pub formed : List Token → Form
+-- the line has this shape
+abbrev pub formed : List Token → Row → Bool
 formed shape row = has_shape shape (words_of row.bytes)
 
 -- the words of a collective that may stand behind the first line
-abbrev pub asked : Bool → Form
+abbrev pub asked : Bool → Row → Bool
 asked patterned row = list_any (λ kind. formed (asked_shape kind) row) (if patterned then every_kind else standard_kinds)
 
 -- a line of names that may be a topology's
-abbrev pub nodes : Form
+abbrev pub nodes : Row → Bool
 nodes row = is_ok (nodes_line (Some row))
 
-abbrev pub rounds : Form
-rounds row = formed (rounds_shape (words_of row.bytes)) row
+-- numbers behind the first word
+abbrev pub rounds : Row → Bool
+rounds row = formed (Word (codes "rounds") ∷ map (λ w. small) (drop 1 (words_of row.bytes))) row
 
-abbrev pub unknown : Form
+-- candidates without a schedule: of an unknown one the conflicts follow
+abbrev pub unknown : Row → Bool
 unknown = formed (candidate_shape (codes "unknown") (Any is_number ∷ []))
 
-abbrev pub refuted : Form
+abbrev pub refuted : Row → Bool
 refuted = formed (candidate_shape (codes "refuted") [])
 
--- of a frontier, or of the joined points
-abbrev pub results : Bool → List Form
-results joined = formed (candidate_shape (codes "point") (mark_shape joined)) ∷ (if joined then [] else refuted ∷ unknown ∷ [])
+-- of a frontier, where a point has a mark, or of the joined points
+abbrev pub results : Bool → List (Row → Bool)
+results joined =
+    formed (candidate_shape (codes "point") (if joined then Word (codes "joined") ∷ small ∷ [] else Any (λ w. bytes_eq w (codes "optimal") || bytes_eq w (codes "open")) ∷ []))
+    ∷ (if joined then [] else refuted ∷ unknown ∷ [])
 
 -- the forms of the lines with rules that may stand behind a line with this first word
-abbrev pub forms_after : Bool → List (List ℕ) → Bool → List ℕ → List Form
+abbrev pub forms_after : Bool → List (List ℕ) → Bool → List ℕ → List (Row → Bool)
 forms_after patterned names joined last =
     if bytes_eq last (codes "sccl") then asked patterned ∷ []
     else if bytes_eq last (codes "topology") then nodes ∷ []
@@ -100,6 +91,7 @@ forms_after patterned names joined last =
 
 -- ---- what the lines before say
 
+-- the first token of a line
 abbrev pub first_word : Row → List ℕ
 first_word row = slice_index_or (words_of row.bytes) 0 []
 
@@ -113,24 +105,17 @@ abbrev pub names_in : List Row → List (List ℕ)
 names_in (a ∷ b ∷ c ∷ row ∷ rows) = drop 1 (words_of row.bytes)
 names_in _ = []
 
-abbrev pub is_joined : List (List ℕ) → Bool
-is_joined firsts = list_any (λ w. bytes_eq w (codes "joined")) firsts
-
--- the forms of the lines with rules that may stand behind these lines
-abbrev pub forms_behind : List Row → Option (List ℕ) → List Form
+-- the forms of the lines with rules that may stand behind these lines, of which the last has this first word; joined points stand behind a line `joined`
+abbrev pub forms_behind : List Row → Option (List ℕ) → List (Row → Bool)
 forms_behind before None = []
-forms_behind before (Some last) = forms_after (is_patterned before) (names_in before) (is_joined (map first_word before)) last
-
--- the line has such a form
-abbrev pub fits : List Row → Form
-fits before row = list_any (λ form. form row) (forms_behind before (last_or None (map first_word before)))
+forms_behind before (Some last) = forms_after (is_patterned before) (names_in before) (list_any (λ w. bytes_eq w (codes "joined")) (map first_word before)) last
 
 -- ---- reading
 
 -- the code of a line that is blamed behind these lines: it is lacking or was not ended; or it breaks a rule; or it has no shape that may stand there
 abbrev pub code_of : List Row → Option Row → ReportCode
 code_of before None = code.Truncated
-code_of before (Some row) = if row.whole then (if fits before row then code.Limits else code.BadLine) else code.Truncated
+code_of before (Some row) = if row.whole then (if list_any (λ form. form row) (forms_behind before (last_or None (map first_word before))) then code.Limits else code.BadLine) else code.Truncated
 
 -- what a text is read as: the report that it spells; or the first line at which it can no longer be a report's, with its code
 abbrev pub ReadsAs : List ℕ → Result ReportValue (ReportCode × ℕ) → Type 0

@@ -3,7 +3,7 @@ use Rattle.std.proofs.Common.{◌≡◌, ℕ, suc, ◌+◌, ◌*◌, ◌<◌, �
 use Rattle.schedule.specs.{Links.{GroupValue, IsGroup}, Sends.IsStep}
 use Rattle.cnf_formula.specs.{Literals.LitValue, Formulas.{FormulaValue, IsClause, with_clauses}}
 use Rattle.cardinality.{specs.{Counting.{CounterValue, with_counter}, Totalizers.totalizer_of}, proofs.Wider.clause_more}
-use Rattle.round_encoding.{specs.{Frames.{Frame, own_variables}, Rounding.{count_of_group, output_at, said_of_group, with_count}}, proofs.Counted.group_counted}
+use Rattle.round_encoding.{specs.{Frames.{Frame, own_variables}, Rounding.{count_of_group, output_at, with_count}, inner.Counts.said_of_group}, proofs.Counted.group_counted}
 use Rattle.send_encoding.{specs.Variables.{sent, number_of}, proofs.Grid.rows_length}
 
 mapped_length : {X Y : Type 0} (g : X → Y) (xs : List X) → length (map g xs) ≡ length xs

@@ -12,7 +12,7 @@ use Rattle.send_encoding.specs.Assigning.{arrival_values, send_values, extra_val
 use Rattle.send_encoding.proofs.{Everywhere.{in_map, in_flat, From, in_range}, About.IsStepOf, Mapped.links_join, Grid.{rows_at, rows_length}}
 use Rattle.send_encoding.proofs.{Assigned.{assigned_length, arrival_value, sent_value, own_length}, Scheduled.schedule_moves}
 use Rattle.send_encoding.proofs.Complete.{sending_holds, if_true, not_true, one_true, passes_flat, passes_map, count_alike}
-use Rattle.round_encoding.specs.Frames.{Frame, frame_of, extra_of, extra_round, own_variables}
+use Rattle.round_encoding.specs.Frames.{Frame, frame_of, extra_round, own_variables}
 use Rattle.round_encoding.specs.Rounding.{count_of_rounds, count_of_group, counts_of, counters_after, extra_in_order, formula_of}
 use Rattle.round_encoding.proofs.{Extras.{sending_about, order_about, extra_about, arrival_about}, Counted.all_counts, Counting.{Allows, counters_extend}}
 use Rattle.round_encoding.proofs.{Loaded.{table_loads, cells, good_cells, Good}, Rounds.{count_rounds, count_flat, beyond, no_fewer, one_step}}
@@ -85,9 +85,9 @@ module _ (t : TopologyValue) (pre post : PlacementValue) (s : ScheduleValue) (st
   rounds_counted_few : true_inputs own (count_of_rounds f).inputs ≤ f.extra
   rounds_counted_few =
       let b : ℕ → ℕ = λ k. get_or s.rounds (k - 1) 0 - 1 in
-      let each = count_flat (is_true own) (λ k. map (extra_round f k) (extra_of f)) b 1 steps (λ k low high.
+      let each = count_flat (is_true own) (λ k. map (extra_round f k) (range_with_len 1 f.extra)) b 1 steps (λ k low high.
       let step : IsStep steps k = record { from = omega (arith, low); to = omega (arith, high) } in
-      let same = count_alike (is_true own) (λ j. leb (j + 1) (rounds_at s k)) (From 1 f.extra) (extra_round f k) (extra_of f) (λ j at. extra_value k j step (step_of_range f.extra j at)) (in_range 1 f.extra) in
+      let same = count_alike (is_true own) (λ j. leb (j + 1) (rounds_at s k)) (From 1 f.extra) (extra_round f k) (range_with_len 1 f.extra) (λ j at. extra_value k j step (step_of_range f.extra j at)) (in_range 1 f.extra) in
       omega (arith, same, count_rounds (rounds_at s k) 1 f.extra)) in
       let all = beyond 1 s.rounds valid.rounds in
       let same : sum_by b (range_with_len 1 (length s.rounds)) ≡ sum_by b (range_with_len 1 steps) = ap (λ n. sum_by b (range_with_len 1 n)) solves.steps_are in
@@ -127,8 +127,8 @@ module _ (t : TopologyValue) (pre post : PlacementValue) (s : ScheduleValue) (st
         says = λ more o outs.
             let w = own ++ more in
             let last : ℕ = group.width * (1 + f.extra) + 1 in
-            let first_part : all_hold w (map (λ j. negation (o (group.width * j + 1)) ∷ extra_round f k j ∷ []) (extra_of f)) ≡ true =
-            passes_map (clause_holds w) (From 1 f.extra) (λ j. negation (o (group.width * j + 1)) ∷ extra_round f k j ∷ []) (extra_of f) (λ j at.
+            let first_part : all_hold w (map (λ j. negation (o (group.width * j + 1)) ∷ extra_round f k j ∷ []) (range_with_len 1 f.extra)) ≡ true =
+            passes_map (clause_holds w) (From 1 f.extra) (λ j. negation (o (group.width * j + 1)) ∷ extra_round f k j ∷ []) (range_with_len 1 f.extra) (λ j at.
             let extra = step_of_range f.extra j at in
             let up : group.width * j ≤ group.width * (1 + f.extra) = mul-le-mul_left group.width (omega (arith, at.1)) in
             if_true w (o (group.width * j + 1)) (extra_round f k j) (λ u.
@@ -138,8 +138,8 @@ module _ (t : TopologyValue) (pre post : PlacementValue) (s : ScheduleValue) (st
             let none : leb last count ≡ false = lt-leb last count (omega (arith, few, least)) in
             let last_part : all_hold w ((negation (o last) ∷ []) ∷ []) ≡ true =
             and_from (clause_holds w (negation (o last) ∷ [])) true (one_true w (negation (o last)) (not_true w (o last) (outs last (omega arith) (omega arith) ∙ none))) refl in
-            list_all-append (clause_holds w) (map (λ j. negation (o (group.width * j + 1)) ∷ extra_round f k j ∷ []) (extra_of f)) ((negation (o last) ∷ []) ∷ [])
-            ∙ and_from (all_hold w (map (λ j. negation (o (group.width * j + 1)) ∷ extra_round f k j ∷ []) (extra_of f))) (all_hold w ((negation (o last) ∷ []) ∷ [])) first_part last_part;
+            list_all-append (clause_holds w) (map (λ j. negation (o (group.width * j + 1)) ∷ extra_round f k j ∷ []) (range_with_len 1 f.extra)) ((negation (o last) ∷ []) ∷ [])
+            ∙ and_from (all_hold w (map (λ j. negation (o (group.width * j + 1)) ∷ extra_round f k j ∷ []) (range_with_len 1 f.extra))) (all_hold w ((negation (o last) ∷ []) ∷ [])) first_part last_part;
       }
 
   counts_allowed : All (Allows own) (counts_of f t)

@@ -6,10 +6,10 @@ use Rattle.schedule.specs.{Links.{GroupValue, TopologyValue, IsTopology, IsBelow
 use Rattle.schedule.proofs.Placing.{holds-placed, pair_itself}
 use Rattle.cnf_formula.{specs.{Literals.{LitValue, yes, negation}, Formulas.{IsAbout, IsClause, IsFormula}}, proofs.Clauses.negation_about}
 use Rattle.cardinality.{specs.{Counting.output, Totalizers.totalizer_of}, proofs.{Totals.totalizer_is_counter, Wider.{clauses_more, clause_more, about_more}}}
-use Rattle.send_encoding.specs.{Variables.{SendMapValue, map_of, chunks_of, steps_of, sent, number_of}, Sending.sending}
+use Rattle.send_encoding.specs.{Variables.{SendMapValue, map_of, steps_of, sent, number_of}, Sending.sending}
 use Rattle.send_encoding.proofs.{Everywhere.{in_map, in_flat, From, in_range, some_in_flat, place_below}, Mapped.links_join}
 use Rattle.send_encoding.proofs.About.{one, two, only_clause, IsStepOf}
-use Rattle.round_encoding.specs.Frames.{Frame, frame_of, extra_of, extra_round, own_variables}
+use Rattle.round_encoding.specs.Frames.{Frame, frame_of, extra_round, own_variables}
 use Rattle.round_encoding.specs.Rounding.{Count, count_of_rounds, count_of_group, counts_of, counters_after, formula_of, extra_in_order}
 use Rattle.round_encoding.proofs.Extras.{sent_about, extra_about, sending_about, order_about}
 
@@ -62,9 +62,9 @@ module _ (f : Frame) where
 
   pub rounds_counted : 0 < m.steps → 0 < f.extra → IsCount v (count_of_rounds f)
   rounds_counted steps extra = record {
-    some = some_in_flat (λ s. map (extra_round f s) (extra_of f)) 1 m.steps steps (λ s. some_range s f.extra extra);
-    about = in_flat (IsAbout v) (IsStepOf m) (λ s. map (extra_round f s) (extra_of f)) (steps_of m)
-        (λ s step. in_map (IsAbout v) (From 1 f.extra) (extra_round f s) (extra_of f) (λ j at. extra_about f s j step at) (in_range 1 f.extra)) (in_range 1 m.steps);
+    some = some_in_flat (λ s. map (extra_round f s) (range_with_len 1 f.extra)) 1 m.steps steps (λ s. some_range s f.extra extra);
+    about = in_flat (IsAbout v) (IsStepOf m) (λ s. map (extra_round f s) (range_with_len 1 f.extra)) (steps_of m)
+        (λ s step. in_map (IsAbout v) (From 1 f.extra) (extra_round f s) (range_with_len 1 f.extra) (λ j at. extra_about f s j step at) (in_range 1 f.extra)) (in_range 1 m.steps);
     says = λ w o le outs. only_clause w (negation (o (f.extra + 1)) ∷ []) (one w (negation (o (f.extra + 1))) (negation_about w (o (f.extra + 1)) (outs (f.extra + 1) (omega arith) (omega arith))));
   }
 
@@ -75,13 +75,13 @@ module _ (f : Frame) where
   pub group_counted : (s : ℕ) (group : GroupValue) → IsStepOf m s → 0 < m.chunks → 0 < length group.links → All (λ link. number_of m link < length m.links) group.links → IsCount v (count_of_group f s group)
   group_counted s group step chunks some places = record {
     some = some_in_flat (λ c. map (λ link. sent m c (number_of m link) s) group.links) 0 m.chunks chunks (λ c. some_links c s group.links some);
-    about = in_flat (IsAbout v) (From 0 m.chunks) (λ c. map (λ link. sent m c (number_of m link) s) group.links) (chunks_of m)
+    about = in_flat (IsAbout v) (From 0 m.chunks) (λ c. map (λ link. sent m c (number_of m link) s) group.links) (range_with_len 0 m.chunks)
         (λ c low. in_map (IsAbout v) (λ link. number_of m link < length m.links) (λ link. sent m c (number_of m link) s) group.links
         (λ link at. sent_about f c (number_of m link) s (omega (arith, low.1)) at step) places) (in_range 0 m.chunks);
     says = λ w o le outs.
         let last : ℕ = group.width * (1 + f.extra) + 1 in
-        All-append (IsClause w) (map (λ j. negation (o (group.width * j + 1)) ∷ extra_round f s j ∷ []) (extra_of f)) ((negation (o last) ∷ []) ∷ [])
-        (in_map (IsClause w) (From 1 f.extra) (λ j. negation (o (group.width * j + 1)) ∷ extra_round f s j ∷ []) (extra_of f)
+        All-append (IsClause w) (map (λ j. negation (o (group.width * j + 1)) ∷ extra_round f s j ∷ []) (range_with_len 1 f.extra)) ((negation (o last) ∷ []) ∷ [])
+        (in_map (IsClause w) (From 1 f.extra) (λ j. negation (o (group.width * j + 1)) ∷ extra_round f s j ∷ []) (range_with_len 1 f.extra)
         (λ j at.
         let product : group.width * j ≤ group.width * (1 + f.extra) = mul-le-mul_left group.width (omega (arith, at.1)) in
         two w (negation (o (group.width * j + 1))) (extra_round f s j)

@@ -2,7 +2,7 @@
 use Rattle.std.proofs.Common.{◌≡◌, ℕ, ◌+◌, ◌-◌, ◌++◌, ap, ◌∙◌}
 use Rattle.schedule.specs.{Links.TopologyValue, Placed.PlacementValue}
 use Rattle.cnf_formula.specs.Formulas.{FormulaValue}
-use Rattle.round_encoding.specs.{declared.encoding.Encoding.Encoding, Frames.{Frame, frame_of, own_variables, extra_from}, inner.Counts.with_counts}
+use Rattle.round_encoding.specs.{declared.encoding.Encoding.Encoding, Frames.{Frame, frame_of, own_variables}, inner.Counts.with_counts}
 use Rattle.round_encoding.specs.Rounding.{extra_in_order, counts_of, formula_of, encoding_of}
 use Rattle.round_encoding.proofs.Countings.{counted_is}
 use Rattle.send_encoding.specs.{Variables.{SendMapValue, map_of, arrivals, sends}, Sending.sending}
@@ -20,5 +20,5 @@ encoded t pre post steps rounds m v f1 f2 em e1 ev e2 =
     e2 ∙ ap (λ k. with_counts (record { vars = own_variables (frame k); clauses = f1.clauses ++ extra_in_order (frame k) }) (counts_of (frame k) t)) em
     ∙ ap (λ (g : FormulaValue). with_counts (record { vars = own_variables f; clauses = g.clauses ++ extra_in_order f }) (counts_of f t)) e1
     ∙ counted_is (record { vars = own_variables f; clauses = sending n pre post ++ extra_in_order f }) (counts_of f t) in
-    let first : v + 1 ≡ extra_from n = ap (λ w. w + 1) (ev ∙ ap (λ (g : FormulaValue). g.vars) e1) in
+    let first : v + 1 ≡ arrivals n + sends n + 1 = ap (λ w. w + 1) (ev ∙ ap (λ (g : FormulaValue). g.vars) e1) in
     ap (λ g. make g m (v + 1)) whole ∙ ap (λ k. make (formula_of t pre post steps rounds) k (v + 1)) em ∙ ap (make (formula_of t pre post steps rounds) n) first

@@ -5,7 +5,7 @@ use Rattle.std.proofs.lemmas.List.{Sums.{sum_by-cons, sum_by-append, sum-map}, F
 use Rattle.schedule.specs.Sends.{IsRound, IsStep}
 use Rattle.cnf_formula.specs.Literals.{is_true}
 use Rattle.cardinality.specs.Counting.{true_inputs}
-use Rattle.round_encoding.specs.{Frames.{Frame, extra_of, extra_round}, Rounding.count_of_rounds, Decoding.{rounds_said, rounds_left, rounds_of}}
+use Rattle.round_encoding.specs.{Frames.{Frame, extra_round}, Rounding.count_of_rounds, Decoding.{rounds_said, rounds_left, rounds_of}}
 use Rattle.send_encoding.{specs.Variables.steps_of, proofs.{Everywhere.{From, in_map, in_range}, Complete.count_alike}}
 
 -- a sum in which one number of a range has so much more
@@ -72,7 +72,7 @@ first_unused p a (suc n) order few =
 
 module _ (f : Frame) (values : List Bool) where
   abbrev pub extra_said : ℕ → ℕ
-  extra_said k = count_by (λ j. is_true values (extra_round f k j)) (extra_of f)
+  extra_said k = count_by (λ j. is_true values (extra_round f k j)) (range_with_len 1 f.extra)
 
   abbrev steps : ℕ
   steps = f.map.steps
@@ -82,9 +82,9 @@ module _ (f : Frame) (values : List Bool) where
 
   pub all_are : true_inputs values (count_of_rounds f).inputs ≡ all_said
   all_are =
-      count_flat_is (is_true values) (λ k. map (extra_round f k) (extra_of f)) (steps_of f.map)
-      ∙ sum_alike_all (λ k. count_by (is_true values) (map (extra_round f k) (extra_of f))) extra_said (steps_of f.map)
-      (λ k. count_alike (is_true values) (λ j. is_true values (extra_round f k j)) (λ j. Unit {0}) (extra_round f k) (extra_of f) (λ j _. refl) (λ i d low. tt))
+      count_flat_is (is_true values) (λ k. map (extra_round f k) (range_with_len 1 f.extra)) (steps_of f.map)
+      ∙ sum_alike_all (λ k. count_by (is_true values) (map (extra_round f k) (range_with_len 1 f.extra))) extra_said (steps_of f.map)
+      (λ k. count_alike (is_true values) (λ j. is_true values (extra_round f k j)) (λ j. Unit {0}) (extra_round f k) (range_with_len 1 f.extra) (λ j _. refl) (λ i d low. tt))
 
   abbrev at_step : ℕ → ℕ
   at_step k = rounds_said f values k + (if eqb k steps then rounds_left f values else 0)

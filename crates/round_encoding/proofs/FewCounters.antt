@@ -5,7 +5,7 @@ use Rattle.std.proofs.lemmas.{List.{Elements.{All-nil, All-cons, All-append}, Su
 use Rattle.schedule.specs.Links.{GroupValue, TopologyValue, IsGroup}
 use Rattle.cnf_formula.specs.Literals.{LitValue, negation}
 use Rattle.send_encoding.{specs.Variables.steps_of, proofs.{Everywhere.{in_map, in_flat, From, in_range}, Grid.rows_length}}
-use Rattle.round_encoding.specs.{inner.Counts.room, Frames.{Frame, extra_of, extra_round}, Rounding.{Count, count_of_rounds, count_of_group, counts_of}}
+use Rattle.round_encoding.specs.{inner.Counts.room, Frames.{Frame, extra_round}, Rounding.{Count, count_of_rounds, count_of_group, counts_of}}
 use Rattle.round_encoding.proofs.{Carried.inputs_length, Counted.rounds_counted, LowCounts.{space, IsLow}}
 
 module _ (f : Frame) (few : f.extra ≤ 8) where
@@ -21,7 +21,7 @@ module _ (f : Frame) (few : f.extra ≤ 8) where
         some = omega (arith, all, links, chunks);
         low = omega (arith, mul-le group.width (1 + f.extra) 16 9 ok.narrow (omega (arith, few)));
         says = λ o.
-            let each : List (List LitValue) = map (λ j. negation (o (group.width * j + 1)) ∷ extra_round f s j ∷ []) (extra_of f) in
+            let each : List (List LitValue) = map (λ j. negation (o (group.width * j + 1)) ∷ extra_round f s j ∷ []) (range_with_len 1 f.extra) in
             let many : length each ≡ f.extra = length-map-range_with_len _ 1 f.extra in
             omega (arith, length-append each ((negation (o (group.width * (1 + f.extra) + 1)) ∷ []) ∷ []), many, carried);
       }
@@ -29,7 +29,7 @@ module _ (f : Frame) (few : f.extra ≤ 8) where
 -- ---- together
 
 space_of_rounds : (f : Frame) → space (count_of_rounds f) ≡ f.map.steps * f.extra * (f.extra + 1)
-space_of_rounds f = ap (λ n. n * (f.extra + 1)) (rows_length (λ s. map (extra_round f s) (extra_of f)) f.extra 1 f.map.steps (λ s. length-map-range_with_len (extra_round f s) 1 f.extra))
+space_of_rounds f = ap (λ n. n * (f.extra + 1)) (rows_length (λ s. map (extra_round f s) (range_with_len 1 f.extra)) f.extra 1 f.map.steps (λ s. length-map-range_with_len (extra_round f s) 1 f.extra))
 
 space_of_groups : (f : Frame) (s : ℕ) (groups : List GroupValue) → sum_by space (map (count_of_group f s) groups) ≡ sum_by (room f) groups
 space_of_groups f s [] = refl

@@ -1,14 +1,15 @@
 -- The counter of extra rounds, in the order in which it is made.
 use Rattle.std.proofs.{Common.{◌≡◌, ℕ, ◌+◌, ◌*◌, ◌<◌, ◌≤◌, List, [], ◌∷◌, length, ap, ◌∙◌, map}, lemmas.List.FromFn.length-map-range_with_len}
+use Rattle.std.specs.List.{range_with_len}
 use Rattle.cnf_formula.specs.{Literals.{LitValue, negation}, Formulas.{FormulaValue, IsClause, with_clauses}}
 use Rattle.cardinality.{specs.{Counting.{CounterValue, with_counter}, Totalizers.totalizer_of}, proofs.Wider.clause_more}
 use Rattle.send_encoding.proofs.Grid.{rows_length}
-use Rattle.round_encoding.specs.{Frames.{Frame, extra_of, extra_round, own_variables}, Rounding.{count_of_rounds, output_at, with_count}}
+use Rattle.round_encoding.specs.{Frames.{Frame, extra_round, own_variables}, Rounding.{count_of_rounds, output_at, with_count}}
 use Rattle.round_encoding.proofs.Counted.{rounds_counted}
 
 module _ (f : Frame) where
   pub extra_length : length (count_of_rounds f).inputs ≡ f.map.steps * f.extra
-  extra_length = rows_length (λ s. map (extra_round f s) (extra_of f)) f.extra 1 f.map.steps (λ s. length-map-range_with_len (extra_round f s) 1 f.extra)
+  extra_length = rows_length (λ s. map (extra_round f s) (range_with_len 1 f.extra)) f.extra 1 f.map.steps (λ s. length-map-range_with_len (extra_round f s) 1 f.extra)
 
   pub extra_some : 0 < f.map.steps → 0 < f.extra → 0 < length (count_of_rounds f).inputs
   extra_some steps extra = (rounds_counted f steps extra).some

@@ -9,7 +9,7 @@ use Rattle.cardinality.specs.Counting.{true_inputs}
 use Rattle.send_encoding.specs.{Variables.{SendMapValue, map_of, steps_of, arrival, sent}, Sending.sending, Moving.Moves, Telling.Tells}
 use Rattle.send_encoding.proofs.{Mapped.links_join, Grid.rows_length, Members.kept, Decoded.sends_tell, Ascending.{links_ascend, sends_ascend}}
 use Rattle.send_encoding.proofs.{Sound.{sending_says, flat_passes, map_passes, at_range, said_one, said_if, said_not}, Tightened.{is_tight, delivers}}
-use Rattle.round_encoding.specs.{Frames.{Frame, frame_of, extra_of, extra_round, own_variables}, Decoding.decoded}
+use Rattle.round_encoding.specs.{Frames.{Frame, frame_of, extra_round, own_variables}, Decoding.decoded}
 use Rattle.round_encoding.specs.Rounding.{count_of_rounds, count_of_group, counts_of, counters_after, extra_in_order, formula_of}
 use Rattle.round_encoding.proofs.{Counted.all_counts, ExtraRounds.{extra_said, first_unused, rounds_many, rounds_sum, rounds_each, rounds_at_least}}
 use Rattle.round_encoding.proofs.{Obeyed.{Obeys, both_hold, counters_obeyed, all_split, all_flat, all_map}, Crossing.load_counted}
@@ -53,7 +53,7 @@ module _ (t : TopologyValue) (pre post : PlacementValue) (steps rounds : ℕ) (v
       (cases_lt f.extra (true_inputs values (count_of_rounds f).inputs)))
       (λ not_less.
       let none : f.extra ≡ 0 = omega (arith, not_less) in
-      let long : length (count_of_rounds f).inputs ≡ steps * f.extra = rows_length (λ k. map (extra_round f k) (extra_of f)) f.extra 1 steps (λ k. length-map-range_with_len (extra_round f k) 1 f.extra) in
+      let long : length (count_of_rounds f).inputs ≡ steps * f.extra = rows_length (λ k. map (extra_round f k) (range_with_len 1 f.extra)) f.extra 1 steps (λ k. length-map-range_with_len (extra_round f k) 1 f.extra) in
       let nothing : steps * f.extra ≡ steps * 0 = ap (λ e. steps * e) none in
       omega (arith, count_by-le-length (is_true values) (count_of_rounds f).inputs, long, nothing))
       (cases_lt 0 f.extra)
@@ -80,14 +80,14 @@ module _ (t : TopologyValue) (pre post : PlacementValue) (steps rounds : ℕ) (v
       let it = group_obeyed k step i d low in
       let q : ℕ = extra_said f values k in
       let last : ℕ = group.width * (1 + f.extra) + 1 in
-      let said = both_hold values (map (λ j. negation (it.outputs (group.width * j + 1)) ∷ extra_round f k j ∷ []) (extra_of f)) ((negation (it.outputs last) ∷ []) ∷ []) it.said in
-      let few : q ≤ f.extra = omega (arith, count_by-le-length (λ j. is_true values (extra_round f k j)) (extra_of f), length-range_with_len 1 f.extra) in
+      let said = both_hold values (map (λ j. negation (it.outputs (group.width * j + 1)) ∷ extra_round f k j ∷ []) (range_with_len 1 f.extra)) ((negation (it.outputs last) ∷ []) ∷ []) it.said in
+      let few : q ≤ f.extra = omega (arith, count_by-le-length (λ j. is_true values (extra_round f k j)) (range_with_len 1 f.extra), length-range_with_len 1 f.extra) in
       ⊎_elim
       (λ less.
       let up : group.width * (1 + q) ≤ group.width * (1 + f.extra) = mul-le-mul_left group.width (omega (arith, few)) in
       let reached = it.reached (group.width * (1 + q) + 1) (omega arith) (omega (arith, up)) (omega (arith, over)) in
       let clause = at_range (λ j. clause_holds values (negation (it.outputs (group.width * j + 1)) ∷ extra_round f k j ∷ []) ≡ true) 1 f.extra (1 + q)
-      (map_passes (clause_holds values) (λ j. negation (it.outputs (group.width * j + 1)) ∷ extra_round f k j ∷ []) (extra_of f) said.0) (omega arith) (omega (arith, less)) in
+      (map_passes (clause_holds values) (λ j. negation (it.outputs (group.width * j + 1)) ∷ extra_round f k j ∷ []) (range_with_len 1 f.extra) said.0) (omega arith) (omega (arith, less)) in
       let used = said_if values (it.outputs (group.width * (1 + q) + 1)) (extra_round f k (1 + q)) clause reached in
       let unused = first_unused (λ j. is_true values (extra_round f k j)) 1 f.extra (λ j from to h. in_order k j step from to h) less in
       false≢true (sym unused ∙ used))

@@ -1,5 +1,5 @@
 -- The variables of extra rounds, which follow those of arrivals and sends (Cai et al., PPoPP 2021, section on the encoding; the numbers are this project's own).
-use Rattle.std.specs.{Prelude.{ℕ, ◌+◌, ◌-◌, ◌*◌, List}, List.range_with_len}
+use Rattle.std.specs.Prelude.{ℕ, ◌+◌, ◌-◌, ◌*◌}
 use Rattle.schedule.specs.{Links.TopologyValue, Placed.PlacementValue}
 use Rattle.cnf_formula.specs.Literals.{LitValue, yes}
 use Rattle.send_encoding.specs.Variables.{SendMapValue, map_of, arrivals, sends}
@@ -12,17 +12,9 @@ pub record Frame : Type 0 where
 abbrev pub frame_of : TopologyValue → PlacementValue → ℕ → ℕ → Frame
 frame_of t pre steps rounds = record { map = map_of t pre steps; extra = rounds - steps }
 
--- extra rounds are numbered from 1
-abbrev pub extra_of : Frame → List ℕ
-extra_of f = range_with_len 1 f.extra
-
--- the number of the first variable of an extra round
-abbrev pub extra_from : SendMapValue → ℕ
-extra_from m = arrivals m + sends m + 1
-
--- the step has at least so many extra rounds
+-- the step has at least so many extra rounds, which are numbered from 1
 abbrev pub extra_round : Frame → ℕ → ℕ → LitValue
-extra_round f step j = yes (extra_from f.map + (step - 1) * f.extra + (j - 1))
+extra_round f step j = yes (arrivals f.map + sends f.map + 1 + (step - 1) * f.extra + (j - 1))
 
 -- how many variables these are; those of the counters follow
 abbrev pub own_variables : Frame → ℕ

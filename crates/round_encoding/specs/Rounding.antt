@@ -3,8 +3,8 @@ use Rattle.std.specs.{Prelude.{ℕ, ◌+◌, ◌-◌, ◌*◌, if◌then◌else�
 use Rattle.schedule.specs.{Links.{GroupValue, TopologyValue}, Placed.PlacementValue}
 use Rattle.cnf_formula.specs.{Literals.{LitValue, yes, negation}, Formulas.FormulaValue}
 use Rattle.cardinality.specs.{Counting.output, Totalizers.totalizer_of}
-use Rattle.round_encoding.specs.{declared.encoding.Encoding.Encoding, Frames.{Frame, frame_of, extra_from, extra_of, extra_round, own_variables}}
-use Rattle.send_encoding.specs.{Variables.{map_of, number_of, chunks_of, steps_of, sent}, Sending.sending}
+use Rattle.round_encoding.specs.{declared.encoding.Encoding.Encoding, Frames.{Frame, frame_of, extra_round, own_variables}}
+use Rattle.send_encoding.specs.{Variables.{map_of, arrivals, number_of, sends, steps_of, sent}, Sending.sending}
 
 -- a step with j + 1 extra rounds has j of them
 abbrev pub extra_in_order : Frame → List (List LitValue)
@@ -19,7 +19,7 @@ pub record Count : Type 0 where
 -- the steps have no more extra rounds together than there are
 abbrev pub count_of_rounds : Frame → Count
 count_of_rounds f = record {
-  inputs = flat_map (λ s. map (extra_round f s) (extra_of f)) (steps_of f.map);
+  inputs = flat_map (λ s. map (extra_round f s) (range_with_len 1 f.extra)) (steps_of f.map);
   bound = f.extra;
   says = λ o. (negation (o (f.extra + 1)) ∷ []) ∷ [];
 }
@@ -28,15 +28,12 @@ count_of_rounds f = record {
 abbrev pub output_at : List LitValue → ℕ → LitValue
 output_at outputs t = slice_index_or outputs (t - 1) (yes 0)
 
-abbrev pub said_of_group : Frame → ℕ → ℕ → (ℕ → LitValue) → List (List LitValue)
-said_of_group f s width o = map (λ j. negation (o (width * j + 1)) ∷ extra_round f s j ∷ []) (extra_of f) ++ (negation (o (width * (1 + f.extra) + 1)) ∷ []) ∷ []
-
 -- a group carries its width in a step's first round, and in each extra round that the step has
 abbrev pub count_of_group : Frame → ℕ → GroupValue → Count
 count_of_group f s group = record {
-  inputs = flat_map (λ c. map (λ link. sent f.map c (number_of f.map link) s) group.links) (chunks_of f.map);
+  inputs = flat_map (λ c. map (λ link. sent f.map c (number_of f.map link) s) group.links) (range_with_len 0 f.map.chunks);
   bound = group.width * (1 + f.extra);
-  says = said_of_group f s group.width;
+  says = λ o. map (λ j. negation (o (group.width * j + 1)) ∷ extra_round f s j ∷ []) (range_with_len 1 f.extra) ++ (negation (o (group.width * (1 + f.extra) + 1)) ∷ []) ∷ [];
 }
 
 abbrev pub counts_of : Frame → TopologyValue → List Count
@@ -68,7 +65,7 @@ abbrev pub encoding_of : TopologyValue → PlacementValue → PlacementValue →
 encoding_of t pre post steps rounds = record {
   formula = formula_of t pre post steps rounds;
   map = map_of t pre steps;
-  extra_from = extra_from (map_of t pre steps);
+  extra_from = arrivals (map_of t pre steps) + sends (map_of t pre steps) + 1;
   steps = steps;
   extra = rounds - steps;
 }

@@ -1,10 +1,10 @@
 //! What a group of links carries in a step.
 
-ghost use Rattle.std.specs.{Prelude.{◌≡◌, ◌+◌, ◌-◌, ◌*◌, ◌<◌, ◌≤◌, ◌∷◌, ◌++◌, [], All, length, map, OnOk, IfOk}, List.flat_map};
+ghost use Rattle.std.specs.{Prelude.{◌≡◌, ◌+◌, ◌-◌, ◌*◌, ◌<◌, ◌≤◌, ◌∷◌, ◌++◌, [], All, length, map, OnOk, IfOk}, List.{flat_map, range_with_len}};
 ghost use Rattle.schedule.specs.Sends.{IsStep};
 ghost use Rattle.cnf_formula.specs.{Literals.negation, Formulas.{IsAbout, IsClause, with_clauses}};
-ghost use Rattle.send_encoding.specs.Variables.{sends, sent, chunks_of, number_of};
-ghost use Rattle.round_encoding.specs.{Frames.{extra_round, own_variables}, Rounding.{count_of_group, output_at, said_of_group, with_count}};
+ghost use Rattle.send_encoding.specs.Variables.{sends, sent, number_of};
+ghost use Rattle.round_encoding.specs.{Frames.{extra_round, own_variables}, Rounding.{count_of_group, output_at, with_count}, inner.Counts.said_of_group};
 
 use crate::OutOfMemory;
 use crate::extra::extra_round;
@@ -42,7 +42,7 @@ fn sends_over_group(
 ) -> Result<Vec<Lit>, OutOfMemory>
     requires step { IsStep variables.now.steps step }
     requires links { All (λ link. number_of variables.now link < length variables.now.links) group.now.links }
-    ensures { IfOk result (λ v. v.items ≡ flat_map (λ c. map (λ link. sent variables.now c (number_of variables.now link) step) group.now.links) (chunks_of variables.now)) }
+    ensures { IfOk result (λ v. v.items ≡ flat_map (λ c. map (λ link. sent variables.now c (number_of variables.now link) step) group.now.links) (range_with_len 0 variables.now.chunks)) }
 {
     let mut inputs = Vec::new(alloc);
     for chunk in 0..variables.chunks() {

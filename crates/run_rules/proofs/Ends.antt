@@ -1,8 +1,7 @@
 -- With which statuses the answer to what is due ends: those of the command's row.
-use Rattle.std.proofs.Common.{◌≡◌, ◌==◌, ◌||◌, ℕ, Bool, true, false, not, IsTrue, nat_lt, slice_get, length, List, [], ◌∷◌, Option, None, Some, Result, Ok, Err, refl, sym, subst, ◌∙◌}
+use Rattle.std.proofs.Common.{◌≡◌, ◌==◌, ◌||◌, ℕ, Bool, true, false, not, IsTrue, nat_lt, slice_get, length, List, [], ◌∷◌, Option, None, Some, Result, Ok, Err, refl, sym, subst, ◌∙◌, codes}
 use Rattle.std.specs.List.{list_any}
-use Rattle.text_lines.specs.Check.{◌>>=◌, refuse, need}
-use Rattle.outer_ports.specs.Files.{Files}
+use Rattle.text_lines.specs.{Check.{◌>>=◌, refuse, need}, Text.line}
 use Rattle.collective_spec.specs.Collectives.{fits_kind}
 use Rattle.candidate_order.specs.Frontiers.{QuestionValue}
 use Rattle.topology_text.specs.{Answer.code_number as topology_number, Reading.topology_of, Spelling.spelling}
@@ -18,10 +17,10 @@ use Rattle.command_words.specs.declared.fault.WordCode.TheVariants.{KeyMissing}
 use Rattle.command_words.specs.declared.command.Command.TheVariants as command
 use Rattle.run_rules.specs.declared.status.Status.{Status, TheVariants.{Done, BadWords, BadTopology, BadReport, Denied, TooLarge, NoCandidate, BadJson}}
 use Rattle.run_rules.specs.{Statuses.number_of, Refusals.{Refusal, refused_as, refused_word}, Audits.{IsAudited, audited}, Degraded.IsNewSearch}
-use Rattle.run_rules.specs.{Commands.{IsOneOf, answers_of, row_of, json_row, point_row, unjson_row}, Said.FilesValue, Answers.{IsAnswer, IsVerified}}
+use Rattle.run_rules.specs.{Commands.{IsOneOf, answers_of, row_of, json_row, point_row, unjson_row}, Said.FilesValue, Answers.{IsAnswer, Says}}
 use Rattle.run_rules.specs.Tasks.{Task, Write, Synthesise, Audit, Try, Bound, Order, Degrade, fault_in, given_sets, is_allreduce, json_programs_in, point_in, programs_value, read_report, root_in, search_asked, searchable, task_of}
 use Rattle.run_rules.specs.Steps.{audit_in, degrade_in, programs_in, replay_in, whole_question, words_for}
-use Rattle.run_rules.proofs.Denied.{denied_by}
+use Rattle.run_rules.proofs.Denied.{denied_by, denied_of, done_of}
 
 -- what is refused is refused with such a status
 abbrev pub With : {A : Type 0} → (Status → Type 0) → Result A Refusal → Type 0
@@ -179,25 +178,25 @@ one_more x xs s there = either (number_of x == number_of s)
     either false = there
 
 -- an audit ends with its denial, or as what is verified is done
-audited_ends : (refusals : List Status) (r : ReportValue) (files : FilesValue) (status : Status) (text : List ℕ) (Then : Files → Status → List ℕ → Type 0) → ((over : Files) → Then over status text → status ≡ Done)
+audited_ends : (refusals : List Status) (r : ReportValue) (files : FilesValue) (status : Status) (text : List ℕ) (Then : Status → List ℕ → Type 0) → (Then status text → status ≡ Done)
     → IsOneOf refusals Denied → IsAudited r Then files status text → IsOneOf (Done ∷ refusals) status
 audited_ends refusals r files status text Then done deny answer = by_verdict (audited r answer.over) refl
   where
     by_verdict : (x : Result (Unit {0}) Refusal) → audited r answer.over ≡ x → IsOneOf (Done ∷ refusals) status
-    by_verdict (Ok u) is = subst (IsOneOf (Done ∷ refusals)) (sym (done answer.over (answer.done is))) refl
-    by_verdict (Err why) is = subst (IsOneOf (Done ∷ refusals)) (sym ((answer.denied why is).status ∙ denied_by r answer.over why is)) (one_more Done refusals Denied deny)
+    by_verdict (Ok u) is = subst (IsOneOf (Done ∷ refusals)) (sym (done (done_of r Then files status text answer is))) refl
+    by_verdict (Err why) is = subst (IsOneOf (Done ∷ refusals)) (sym ((denied_of r Then files status text answer why is).status ∙ denied_by r answer.over why is)) (one_more Done refusals Denied deny)
 
 answer_ends : (refusals : List Status) (due : Result Task Refusal) (files : FilesValue) (status : Status) (text : List ℕ) → With (IsOneOf refusals) due → MayDeny (IsOneOf refusals) due → IsAnswer due files status text → IsOneOf (Done ∷ refusals) status
 answer_ends refusals (Err r) files status text listed deny answer = subst (IsOneOf (Done ∷ refusals)) (sym answer.says.status) (one_more Done refusals r.status listed)
 answer_ends refusals (Ok (Write words)) files status text listed deny answer = subst (IsOneOf (Done ∷ refusals)) (sym answer.says.status) refl
 answer_ends refusals (Ok (Synthesise w t kept)) files status text listed deny answer = subst (IsOneOf (Done ∷ refusals)) (sym answer.says.status) refl
 answer_ends refusals (Ok (Audit r)) files status text listed deny answer =
-    audited_ends refusals r files status text (IsVerified r) (λ over said. said.says.status) deny answer
+    audited_ends refusals r files status text (Says Done (line (codes "verified" ∷ []))) (λ said. said.status) deny answer
 answer_ends refusals (Ok (Try n)) files status text listed deny answer = subst (IsOneOf (Done ∷ refusals)) (sym answer.done) refl
 answer_ends refusals (Ok (Bound w t sets)) files status text listed deny answer = subst (IsOneOf (Done ∷ refusals)) (sym answer.says.status) refl
 answer_ends refusals (Ok (Order w t)) files status text listed deny answer = subst (IsOneOf (Done ∷ refusals)) (sym answer.says.status) refl
 answer_ends refusals (Ok (Degrade r group width)) files status text listed deny answer =
-    audited_ends refusals r files status text (λ _. IsNewSearch r group width) (λ over said. said.says.status) deny answer
+    audited_ends refusals r files status text (IsNewSearch r group width) (λ said. said.says.status) deny answer
 
 pub command_ends : (c : Command) (bytes : List ℕ) (files : FilesValue) (status : Status) (text : List ℕ) → IsAnswer (task_of c bytes) files status text → IsOneOf (answers_of c) status
 command_ends c bytes files status text = answer_ends (row_of c).refusals (task_of c bytes) files status text (refused_in_row c bytes) (denied_in_row c bytes)

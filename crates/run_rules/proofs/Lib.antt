@@ -1,6 +1,8 @@
 pub mod SizeAndCounts
 pub mod ReadReports
 pub mod Sought
+pub mod Claimed
+pub mod OneVerdict
 pub mod Denied
 pub mod Ends
 pub mod Answered

@@ -4,7 +4,7 @@ use Rattle.text_lines.specs.Text.{line}
 use Rattle.outer_ports.specs.{Files.Files, Shelf.FilesStay}
 use Rattle.topology_text.specs.Value.{NamedTopologyValue}
 use Rattle.report_form.specs.{Reports.{WordsValue, ReportValue}, Spelling.report_text}
-use Rattle.frontier_audit.specs.{Rights.{HasLogs, IsRight, IsSearched}, OwedFiles.{BreaksOff, KeepsProofs, Proves, TakesUpProofs}, Shelves.ShelfRight}
+use Rattle.frontier_audit.specs.{Rights.{IsRight, IsSearched}, OwedFiles.{BreaksOff, KeepsProofs, Proves, TakesUpProofs}}
 use Rattle.run_rules.specs.{declared.status.Status.{Status, TheVariants.Done}, Refusals.{Refusal, refusal_line}, Audits.IsAudited, Tries.Tries}
 use Rattle.run_rules.specs.{Tasks.{Task, Write, Synthesise, Audit, Try, Bound, Order, Degrade}, Bounds.IsBoundAnswer, Orders.IsOrderedAnswer}
 use Rattle.run_rules.specs.Degraded.{IsNewSearch}
@@ -23,13 +23,6 @@ pub record IsSearch (w : WordsValue) (t : NamedTopologyValue) (kept : Bool) (fil
   pub keeps : IsTrue kept → IsTrue files.told → KeepsProofs w t files.before files.after
   pub begun : IsTrue files.told → BreaksOff w t files.before files.after
 
--- what a verified report is, whoever made it: it is right, there is a spent log of each candidate that it calls unknown, and the files prove it
-pub record IsVerified (r : ReportValue) (files : Files) (status : Status) (text : List ℕ) : Type 0 where
-  pub says : Says Done (line (codes "verified" ∷ [])) status text
-  pub right : IsRight r
-  pub logs : HasLogs r
-  pub shelf : ShelfRight r files
-
 -- a trial: the summary of a search with files of its own
 pub record IsTrial (n : ℕ) (files : FilesValue) (status : Status) (text : List ℕ) : Type 0 where
   pub done : status ≡ Done
@@ -41,11 +34,11 @@ abbrev pub IsAnswer : Result Task Refusal → FilesValue → Status → List ℕ
 IsAnswer (Err r) = IsSaid r.status (refusal_line r)
 IsAnswer (Ok (Write text)) = IsSaid Done text
 IsAnswer (Ok (Synthesise w t kept)) = IsSearch w t kept
-IsAnswer (Ok (Audit r)) = IsAudited r (IsVerified r)
+IsAnswer (Ok (Audit r)) = IsAudited r (Says Done (line (codes "verified" ∷ [])))
 IsAnswer (Ok (Try n)) = IsTrial n
 IsAnswer (Ok (Bound w t sets)) = IsBoundAnswer w t sets
 IsAnswer (Ok (Order w t)) = IsOrderedAnswer w t
-IsAnswer (Ok (Degrade r group width)) = IsAudited r (λ _. IsNewSearch r group width)
+IsAnswer (Ok (Degrade r group width)) = IsAudited r (IsNewSearch r group width)
 
 -- the same beside any files that stay: of what opens no shelf
 abbrev pub IsAnswerAlone : Result Task Refusal → Status → List ℕ → Type 0

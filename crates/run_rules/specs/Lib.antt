@@ -6,6 +6,7 @@ pub mod Trials
 pub mod Tries
 pub mod Tasks
 pub mod Steps
+pub mod Claims
 pub mod Audits
 pub mod Said
 pub mod Bounds

@@ -16,9 +16,9 @@ ordered_text w t f = text_of ((codes "ordered" ∷ codes "1" ∷ []) ∷ synth_w
 abbrev pub IsFoundInOrder : QuestionValue → FrontierValue → Type 0
 IsFoundInOrder q = IsFoundBy q (ordered_formula_for (searched_question q)) (OrderedFor (searched_question q))
 
--- the frontier is what a search in order finds; the text has it, and no file changed
+-- the frontier is what a search finds by the formulas with the clauses of the order, and each schedule is ordered, or of a reduction its inverse; the text has it, and no file changed
 pub record IsOrderedAnswer (w : WordsValue) (t : NamedTopologyValue) (files : FilesValue) (status : Status) (text : List ℕ) : Type 0 where
   pub frontier : FrontierValue
-  pub found : IsFoundInOrder (question_of w t Whole) frontier
+  pub found : let q : QuestionValue = question_of w t Whole in IsFoundBy q (ordered_formula_for (searched_question q)) (OrderedFor (searched_question q)) frontier
   pub says : Says Done (ordered_text w t frontier) status text
   pub stay : Stay files

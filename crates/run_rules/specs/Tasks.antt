@@ -78,32 +78,12 @@ is_allreduce _ = false
 abbrev pub Reader : Type 0
 Reader = List ℕ → Result ReportValue (ReportCode × ℕ)
 
-abbrev pub report_by : Reader → List ℕ → Result ReportValue Refusal
-report_by read bytes = refused_as BadReport report_number (read bytes)
-
 -- a fault of a group that the report has, and that it narrows
 abbrev pub fault_in : ReportValue → ℕ → ℕ → ℕ → ℕ → Result (Unit {0}) Refusal
 fault_in report group group_word width width_word = do
   _ ← refuse (is_allreduce report.words.collective.kind) (refused_word ReportNotTaken 0)
   old ← need (slice_get report.topology.topology.groups group) (refused_word UnknownGroup group_word)
   refuse (not (nat_lt width old.width)) (refused_word NotNarrower width_word)
-
--- the point that the word asks for
-abbrev pub point_in : ReportValue → PointWord → Result (Part × PointValue) Refusal
-point_in report asked = need (point_at report asked.point) (refused_word UnknownPoint asked.word)
-
--- ---- JSON
-
--- the programs that carry the schedule of a point out
-abbrev pub programs_value : ReportValue → ℕ → Part × PointValue → Data
-programs_value r number p = let s = shown_in r p in programs_json number r.topology.names (programs_of (nodes_of s) p.1.schedule (adding_of s))
-
--- those of the point that the word asks for, which stands there with programs
-abbrev pub json_programs_in : ReportValue → Option PointWord → Result Task Refusal
-json_programs_in report word = do
-  asked ← need word (refused_word KeyMissing 0)
-  point ← point_in report asked
-  Ok (Write (printed (programs_value report asked.point point)))
 
 -- ---- what is due
 
@@ -113,16 +93,16 @@ task_by read (command.Synth kind word limits root kept) bytes = do
   (w, t) ← search_asked (record { kind = kind; kind_word = word; limits = limits; root = root }) bytes
   Ok (Synthesise w t kept)
 task_by read command.Check bytes = do
-  report ← report_by read bytes
+  report ← refused_as BadReport report_number (read bytes)
   _ ← searchable (question_of report.words report.topology Whole)
   Ok (Audit report)
 task_by read (command.Replay number word order) bytes = do
-  report ← report_by read bytes
-  point ← point_in report (record { point = number; word = word })
+  report ← refused_as BadReport report_number (read bytes)
+  point ← need (point_at report number) (refused_word UnknownPoint word)
   Ok (Write (shown_text number (shown_in report point) order))
 task_by read (command.Programs number word) bytes = do
-  report ← report_by read bytes
-  point ← point_in report (record { point = number; word = word })
+  report ← refused_as BadReport report_number (read bytes)
+  point ← need (point_at report number) (refused_word UnknownPoint word)
   Ok (Write (programs_of_point report number point))
 task_by read (command.Family kind size) bytes = Ok (Write (spelling (family_of kind size)))
 task_by read (command.Trial n) bytes = Ok (Try n)
@@ -133,7 +113,7 @@ task_by read (command.Ordered kind word limits root) bytes = do
   (w, t) ← search_asked (record { kind = kind; kind_word = word; limits = limits; root = root }) bytes
   Ok (Order w t)
 task_by read (command.Degrade group group_word width width_word) bytes = do
-  report ← report_by read bytes
+  report ← refused_as BadReport report_number (read bytes)
   _ ← fault_in report group group_word width width_word
   _ ← searchable (question_of report.words report.topology Whole)
   Ok (Degrade report group width)
@@ -141,11 +121,13 @@ task_by read (command.Json what.Topology point) bytes = do
   topology ← refused_as BadTopology topology_number (topology_of bytes)
   Ok (Write (printed ((topology_form topology.names).json topology)))
 task_by read (command.Json what.Report point) bytes = do
-  report ← report_by read bytes
+  report ← refused_as BadReport report_number (read bytes)
   Ok (Write (printed ((report_form report.topology.names).json report)))
 task_by read (command.Json what.Programs point) bytes = do
-  report ← report_by read bytes
-  json_programs_in report point
+  report ← refused_as BadReport report_number (read bytes)
+  asked ← need point (refused_word KeyMissing 0)
+  found ← need (point_at report asked.point) (refused_word UnknownPoint asked.word)
+  let s = shown_in report found in Ok (Write (printed (programs_json asked.point report.topology.names (programs_of (nodes_of s) found.1.schedule (adding_of s)))))
 task_by read (command.Unjson what.Report) bytes = do
   report ← refused_as BadJson json_number (read_json (report_form []) read bytes)
   Ok (Write (report_text report))
@@ -164,6 +146,27 @@ due_by read words bytes = do
   command ← words_asked (command_of words)
   _ ← refuse ((row_of command).reads && nat_lt limit (length bytes)) (refused_at TooLong 0 limit)
   task_by read command bytes
+
+-- ---- steps of what is due, by names of their own
+
+-- the report that the text is read as
+abbrev pub report_by : Reader → List ℕ → Result ReportValue Refusal
+report_by read bytes = refused_as BadReport report_number (read bytes)
+
+-- the point that the word asks for
+abbrev pub point_in : ReportValue → PointWord → Result (Part × PointValue) Refusal
+point_in report asked = need (point_at report asked.point) (refused_word UnknownPoint asked.word)
+
+-- the programs that carry the schedule of a point out, as JSON
+abbrev pub programs_value : ReportValue → ℕ → Part × PointValue → Data
+programs_value r number p = let s = shown_in r p in programs_json number r.topology.names (programs_of (nodes_of s) p.1.schedule (adding_of s))
+
+-- those of the point that the word asks for, which stands there with programs
+abbrev pub json_programs_in : ReportValue → Option PointWord → Result Task Refusal
+json_programs_in report word = do
+  asked ← need word (refused_word KeyMissing 0)
+  point ← point_in report asked
+  Ok (Write (printed (programs_value report asked.point point)))
 
 -- ---- by the checks of a report's text, as the code reads it
 

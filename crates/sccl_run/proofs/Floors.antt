@@ -1,7 +1,7 @@
 -- What the other searches print is right, and no schedule is below the floor.
 use Rattle.std.proofs.Common.{◌≡◌, ◌≢◌, ◌<◌, ◌≤◌, ◌*◌, ◌++◌, inl, inr, ℕ, Bool, true, false, not, nat_lt, Option, None, Some, Ok, refl, sym, subst, ap, ◌∙◌, arith, if◌then◌else◌, slice_get}
 use Rattle.text_lines.specs.Check.{◌>>=◌, need, refuse}
-use Rattle.outer_ports.specs.{declared.part.Part.TheVariants.Whole, Files.Files}
+use Rattle.outer_ports.specs.{declared.part.Part.TheVariants.Whole}
 use Rattle.schedule.specs.{Links.{GroupValue, reversed_of}, Sends.ScheduleValue}
 use Rattle.collective_spec.specs.declared.kind.Kind.TheVariants as kind
 use Rattle.collective_spec.{specs.{Collectives.{IsSpec, adds_up, kind_in}, Kinds.allows}, proofs.Sized.fitting_spec}
@@ -14,11 +14,9 @@ use Rattle.report_form.specs.{Answer.code_number as report_number, Reports.{Repo
 use Rattle.report_laws.proofs.ReportAgain.{report_again}
 use Rattle.node_cuts.{specs.{declared.{floor.Floor.Floor, sets.Sets.Sets}, Floors.floor_of}, proofs.Flooring.floor_bounds}
 use Rattle.cut_bounds.proofs.{Bounded.sums_bound, Turned.floor_same}
-use Rattle.frontier_audit.specs.declared.verdict.AuditVerdict.TheVariants as audit
-use Rattle.frontier_audit.{specs.Auditing.audit_of, proofs.Verified.report_right}
-use Rattle.run_rules.specs.{declared.status.Status.TheVariants.{Done, BadReport}, Audits.audited, Degraded.left_topology, Refusals.{Refusal, refused_as}}
+use Rattle.run_rules.specs.{declared.status.Status.TheVariants.{Done, BadReport}, Degraded.{IsNewSearch, left_topology}, Refusals.{Refusal, refused_as}}
 use Rattle.run_rules.specs.{Tasks.{Task, Bound, Order, Degrade, due, fault_in, given_sets, read_report, searchable, task_of}, Steps.whole_question}
-use Rattle.run_rules.proofs.Denied.{accepted_so, not_denied_done}
+use Rattle.run_rules.proofs.Denied.{accepted_of, done_of, right_of}
 use Rattle.sccl_run.specs.{Headline.{AsksBound, AsksDegraded, AsksOrdered, IsFloor, PrintsBound, PrintsDegraded, PrintsOrdered}, Laws.IsRightRun}
 use Rattle.sccl_run.specs.TopCall.{CountValue, RunValue}
 use Rattle.sccl_run.proofs.{Ended.ended, Printed.{IsJustOr, behind, due_of_done, due_or, found_one, passed, searchable_or, searches_or, unless}}
@@ -85,10 +83,6 @@ faulted : (groups : Option GroupValue) (width : ℕ) (missing wider : Refusal) �
 faulted None width missing wider = inr (missing, refl)
 faulted (Some old) width missing wider = passed (not (nat_lt width old.width)) wider
 
-accepted_by : (r : ReportValue) (files : Files) → audited r files ≡ Ok tt → audit_of r files ≡ audit.Verified
-unfolding audited
-accepted_by r files e = accepted_so (audit_of r files) e
-
 pub degraded_is_true : (x : RunValue) (a b c : CountValue) → IsRightRun x a b c → x.status ≡ Done → (r : ReportValue) (group width : ℕ) → AsksDegraded x.words x.bytes r group width → PrintsDegraded r group width x.before x.now
 degraded_is_true x a b c run done r group width asks =
     let is : command_of x.words ≡ Ok (command.Degrade group 1 width 2) = ap command_of asks.words_are ∙ degrade_asked group width asks.group_fits asks.width_fits in
@@ -99,10 +93,10 @@ degraded_is_true x a b c run done r group width asks =
     let due_task : IsJustOr (task_of (command.Degrade group 1 width 2) x.bytes) task = behind (read_report x.bytes) r _ task (inl read) (behind (fault_in r group 1 width 2) tt _ task fault (behind (searchable q) tt _ task (searchable_or q) (inl refl))) in
     let asked : due x.words x.bytes ≡ Ok task = due_of_done x a b c run done task (due_or x.words x.bytes _ task is due_task) in
     let end = done_answered (Ok task) x (ended x a b c (Ok task) run asked) done in
-    let accepted : audited r end.answer.over ≡ Ok tt = not_denied_done r end.answer.over x.status done (λ why e. (end.answer.denied why e).status) in
-    let new = end.answer.done accepted in
+    let accepted = accepted_of r (IsNewSearch r group width) _ x.status end.text end.answer done in
+    let new = done_of r (IsNewSearch r group width) _ x.status end.text end.answer accepted in
     record {
-      old = report_right r end.answer.over asks.valid (accepted_by r end.answer.over accepted);
+      old = right_of r (IsNewSearch r group width) _ x.status end.text end.answer accepted;
       frontier = new.frontier;
       text = end.written refl ∙ ap (λ text. x.before ++ text) new.says.text;
       searched = found_one (question_of r.words (left_topology r.topology group width) Whole) new.frontier new.found.right new.found.searched new.found.within;

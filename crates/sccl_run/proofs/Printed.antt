@@ -20,7 +20,7 @@ use Rattle.frontier_audit.specs.{Rights.{IsRight, IsSearched}, Parts.{IsRightPar
 use Rattle.run_rules.specs.{declared.status.Status.TheVariants.{Done, BadTopology, BadReport}, Commands.row_of, Rows.{search, two_nodes_text}}
 use Rattle.run_rules.specs.{Refusals.{Refusal, refused_as, refused_at, refused_word}, Steps.{audit_in, whole_question, whole_text}}
 use Rattle.run_rules.specs.Tasks.{Task, Write, Synthesise, Audit, Try, due, limit, root_in, search_asked, searchable, task_of}
-use Rattle.run_rules.proofs.Denied.{verified_where_done}
+use Rattle.run_rules.proofs.Denied.{right_where_done}
 use Rattle.sccl_run.specs.{Headline.{Asks, AsksSynth, Prints, SearchedFrontier, Verifies, search_words}, Laws.IsRightRun, TopCall.{CountValue, RunValue}}
 use Rattle.sccl_run.proofs.{Dues.due_command, Ended.ended, RightRuns.{done_answered, refused_not_done}, SearchWords.{root_word, synth_asked}, Verified.checks}
 
@@ -125,7 +125,7 @@ verified_is_true x a b c run done words = by_reading (report_of x.bytes) refl
     by_reading (Ok r) is =
         let asked : due x.words x.bytes ≡ Ok (Audit r) = audits (Ok r) is (Audit r) (behind (searchable (whole_question r.words r.topology)) tt _ (Audit r) (searchable_or (whole_question r.words r.topology)) (inl refl)) in
         let end = done_answered (Ok (Audit r)) x (ended x a b c (Ok (Audit r)) run asked) done in
-        record { report = r; text = (report_take x.bytes r is).spelled; right = (verified_where_done r _ x.status end.text end.answer done).right }
+        record { report = r; text = (report_take x.bytes r is).spelled; right = right_where_done r _ x.status end.text end.answer done }
     by_reading (Err e) is =
         let refused : (task : Task) → due x.words x.bytes ≡ Ok task = λ task. audits (Err e) is task (inr (refused_at BadReport (report_number e.0) e.1, refl)) in
         let clash : Ok (Write []) ≡ Ok (Try 0) = sym (refused (Write [])) ∙ refused (Try 0) in

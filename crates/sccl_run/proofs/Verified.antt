@@ -1,7 +1,7 @@
 -- What a search wrote, checked over the files that it left.
 use Rattle.std.proofs.Common.{◌≡◌, ◌⊎◌, ◌≤◌, ◌++◌, inl, inr, ℕ, Bool, List, [], ◌∷◌, length, Result, Ok, Err, codes, map, refl, append-nil, sym, subst, ap, ◌∙◌}
 use Rattle.std.{proofs.lemmas.List.{append_cancel_left, Elements.All-contains}, specs.Fmt.digits}
-use Rattle.text_lines.specs.Check.{◌>>=◌, need}
+use Rattle.text_lines.specs.{Check.{◌>>=◌, need}, Text.line}
 use Rattle.outer_ports.specs.{declared.part.Part.Part, Files.Files, Shelf.FilesStay}
 use Rattle.outer_ports.specs.declared.part.Part.TheVariants as part
 use Rattle.collective_spec.specs.declared.kind.Kind.TheVariants as kind
@@ -18,6 +18,7 @@ use Rattle.report_laws.proofs.ReportAgain.{report_again}
 use Rattle.frontier_audit.specs.{Shelves.ShelfRight, Rights.{AreJoined, IsRight}, Parts.{IsRightPart, is_reduce, is_gather, points_of}, OwedFiles.Proves}
 use Rattle.frontier_audit.proofs.{Proved.proves_right, Right.right_verified}
 use Rattle.run_rules.specs.{declared.status.Status.TheVariants.{Done, SinkFailed, BadTopology, BadReport, BadJson}, Refusals.{Refusal, refused_as}}
+use Rattle.run_rules.{specs.Said.Says, proofs.Denied.done_of}
 use Rattle.run_rules.specs.{Commands.row_of, Steps.{fitting, whole_question, words_for, whole_text}, Audits.{audited, not_denied}}
 use Rattle.run_rules.specs.Tasks.{Task, Synthesise, Audit, Degrade, due, fault_in, limit, point_in, read_report, root_in, search_asked, searchable, task_of, words_asked}
 use Rattle.sccl_run.specs.{Laws.IsRightRun, TopCall.{CountValue, IsEnd, IsSilent, RunValue}, Rows.all_tell}
@@ -114,7 +115,7 @@ nothing_denied r files right shelf =
 audit_done : (r : ReportValue) (x : RunValue) → audited r x.files ≡ Ok tt → IsEnd (Ok (Audit r)) x all_tell → (x.status ≡ Done) ⊎ ((x.status ≡ SinkFailed) ⊎ IsSilent x.status)
 audit_done r x accepted (inl end) =
     let over : end.answer.over ≡ x.files = files_are x.files end.answer.over (end.answer.are refl) in
-    inl (end.answer.done (ap (audited r) over ∙ accepted)).says.status
+    inl (done_of r (Says Done (line (codes "verified" ∷ []))) _ x.status end.text end.answer (ap (audited r) over ∙ accepted)).status
 audit_done r x accepted (inr (inl cut)) = inr (inl cut.failed)
 audit_done r x accepted (inr (inr halt)) = inr (inr halt.silent)
 

@@ -1,10 +1,11 @@
 -- The literals of arrivals and sends are about their own variables.
 use Rattle.std.proofs.Common.{ℕ, ◌+◌, ◌-◌, ◌*◌, ◌<◌, ◌≤◌, Bool, true, false, List, [], ◌∷◌, ◌++◌, length, map, arith, if◌then◌else◌, flat_map, filter, All}
+use Rattle.std.specs.List.{range_with_len, enumerate_from}
 use Rattle.std.proofs.lemmas.List.Elements.{All-nil, All-cons, All-head, All-tail, All-append, All-filter}
-use Rattle.schedule.{specs.Placed.{PlacementValue, holds}, proofs.Placing.all_below}
+use Rattle.schedule.{specs.Placed.{all_pairs, PlacementValue, holds}, proofs.Placing.all_below}
 use Rattle.cnf_formula.{specs.{Literals.{LitValue, negation}, Formulas.{IsAbout, IsClause}}, proofs.Clauses.negation_about}
 use Rattle.cardinality.specs.Counting.{at_most_one_of}
-use Rattle.send_encoding.specs.Variables.{SendMapValue, chunks_of, steps_of, pairs_of, numbered_links, links_into, arrival, arrivals, sent, sends}
+use Rattle.send_encoding.specs.Variables.{SendMapValue, steps_of, links_into, arrival, arrivals, sent, sends}
 use Rattle.send_encoding.specs.Sending.{at_start, keeps, at_end, send_over, sends_arrive, sends_into, arrives_by_sends, arrives_once, sending}
 use Rattle.send_encoding.specs.Moving.{JoinsNodes}
 use Rattle.send_encoding.proofs.Everywhere.{by_recursion, in_map, in_flat, From, in_range, Numbered, in_numbers, slot}
@@ -63,8 +64,8 @@ module _ (m : SendMapValue) where
       let place = slot (c * length m.links + e) (s - 1) (m.chunks * length m.links) m.steps row below in
       record { some = omega arith; within = omega (arith, place) }
 
-  grid : All (InGrid m) (pairs_of m)
-  grid = by_recursion (InGrid m) (pairs_of m) (all_below m.chunks m.nodes)
+  grid : All (InGrid m) (all_pairs m.chunks m.nodes)
+  grid = by_recursion (InGrid m) (all_pairs m.chunks m.nodes) (all_below m.chunks m.nodes)
 
   steps : All (IsStepOf m) (steps_of m)
   steps = in_range 1 m.steps
@@ -72,7 +73,7 @@ module _ (m : SendMapValue) where
   -- ---- the clauses
 
   start_about : (pre : PlacementValue) → All Clause (at_start m pre)
-  start_about pre = in_map Clause (InGrid m) (λ (c, n). (if holds pre (c, n) then arrival m c n 0 else negation (arrival m c n 0)) ∷ []) (pairs_of m)
+  start_about pre = in_map Clause (InGrid m) (λ (c, n). (if holds pre (c, n) then arrival m c n 0 else negation (arrival m c n 0)) ∷ []) (all_pairs m.chunks m.nodes)
       (λ x at. one v (if holds pre x then arrival m x.0 x.1 0 else negation (arrival m x.0 x.1 0)) (either (holds pre x) (arrival m x.0 x.1 0) (arrival_about x.0 x.1 0 at.0 at.1 (omega arith)))) grid
     where
       either : (b : Bool) (l : LitValue) → About l → About (if b then l else negation l)
@@ -80,18 +81,18 @@ module _ (m : SendMapValue) where
       either false l a = negation_about v l a
 
   keeps_about : All Clause (keeps m)
-  keeps_about = in_flat Clause (InGrid m) (λ (c, n). map (λ s. negation (arrival m c n (s - 1)) ∷ arrival m c n s ∷ []) (steps_of m)) (pairs_of m)
+  keeps_about = in_flat Clause (InGrid m) (λ (c, n). map (λ s. negation (arrival m c n (s - 1)) ∷ arrival m c n s ∷ []) (steps_of m)) (all_pairs m.chunks m.nodes)
       (λ x at. in_map Clause (IsStepOf m) (λ s. negation (arrival m x.0 x.1 (s - 1)) ∷ arrival m x.0 x.1 s ∷ []) (steps_of m)
       (λ s step. two v (negation (arrival m x.0 x.1 (s - 1))) (arrival m x.0 x.1 s)
       (negation_about v (arrival m x.0 x.1 (s - 1)) (arrival_about x.0 x.1 (s - 1) at.0 at.1 (omega (arith, step.1))))
       (arrival_about x.0 x.1 s at.0 at.1 (omega (arith, step.1)))) steps) grid
 
   end_about : (post : PlacementValue) → All Clause (at_end m post)
-  end_about post = in_map Clause (InGrid m) (λ (c, n). arrival m c n m.steps ∷ []) (filter (holds post) (pairs_of m))
-      (λ x at. one v (arrival m x.0 x.1 m.steps) (arrival_about x.0 x.1 m.steps at.0 at.1 (omega arith))) (All-filter (holds post) (InGrid m) (pairs_of m) grid)
+  end_about post = in_map Clause (InGrid m) (λ (c, n). arrival m c n m.steps ∷ []) (filter (holds post) (all_pairs m.chunks m.nodes))
+      (λ x at. one v (arrival m x.0 x.1 m.steps) (arrival_about x.0 x.1 m.steps at.0 at.1 (omega arith))) (All-filter (holds post) (InGrid m) (all_pairs m.chunks m.nodes) grid)
 
   module _ (links : All (JoinsNodes m) m.links) where
-    numbered : All LinkOf (numbered_links m)
+    numbered : All LinkOf (enumerate_from 0 m.links)
     numbered = in_numbers (JoinsNodes m) m.links 0 (length m.links) (omega arith) links
 
     over_about : (c : ℕ) (x : ℕ × (ℕ × ℕ)) (s : ℕ) → c < m.chunks → LinkOf x → IsStepOf m s → All Clause (send_over m c x s)
@@ -106,15 +107,15 @@ module _ (m : SendMapValue) where
         (only_clause v (no ∷ arrival m c link.1 s ∷ []) (two v no (arrival m c link.1 s) send to)))
 
     sends_about : All Clause (sends_arrive m)
-    sends_about = in_flat Clause (From 0 m.chunks) (λ c. flat_map (λ link. flat_map (send_over m c link) (steps_of m)) (numbered_links m)) (chunks_of m)
-        (λ c low. in_flat Clause LinkOf (λ link. flat_map (send_over m c link) (steps_of m)) (numbered_links m)
+    sends_about = in_flat Clause (From 0 m.chunks) (λ c. flat_map (λ link. flat_map (send_over m c link) (steps_of m)) (enumerate_from 0 m.links)) (range_with_len 0 m.chunks)
+        (λ c low. in_flat Clause LinkOf (λ link. flat_map (send_over m c link) (steps_of m)) (enumerate_from 0 m.links)
         (λ x at. in_flat Clause (IsStepOf m) (send_over m c x) (steps_of m) (λ s step. over_about c x s (omega (arith, low.1)) at step) steps) numbered) (in_range 0 m.chunks)
 
     pub into_about : (c n s : ℕ) → c < m.chunks → IsStepOf m s → Clause (sends_into m c n s)
-    into_about c n s low step = in_map About LinkOf (λ (e, link). sent m c e s) (links_into m n) (λ x at. sent_about c x.0 s low at.0 step) (All-filter _ LinkOf (numbered_links m) numbered)
+    into_about c n s low step = in_map About LinkOf (λ (e, link). sent m c e s) (links_into m n) (λ x at. sent_about c x.0 s low at.0 step) (All-filter _ LinkOf (enumerate_from 0 m.links) numbered)
 
     arrivals_about : All Clause (arrives_by_sends m)
-    arrivals_about = in_flat Clause (InGrid m) (λ (c, n). map (λ s. arrival m c n (s - 1) ∷ negation (arrival m c n s) ∷ sends_into m c n s) (steps_of m)) (pairs_of m)
+    arrivals_about = in_flat Clause (InGrid m) (λ (c, n). map (λ s. arrival m c n (s - 1) ∷ negation (arrival m c n s) ∷ sends_into m c n s) (steps_of m)) (all_pairs m.chunks m.nodes)
         (λ x at. in_map Clause (IsStepOf m) (λ s. arrival m x.0 x.1 (s - 1) ∷ negation (arrival m x.0 x.1 s) ∷ sends_into m x.0 x.1 s) (steps_of m)
         (λ s step.
         All-cons About (arrival m x.0 x.1 (s - 1)) (negation (arrival m x.0 x.1 s) ∷ sends_into m x.0 x.1 s) (arrival_about x.0 x.1 (s - 1) at.0 at.1 (omega (arith, step.1)))
@@ -122,7 +123,7 @@ module _ (m : SendMapValue) where
         (into_about x.0 x.1 s at.0 step))) steps) grid
 
     once_about : All Clause (arrives_once m)
-    once_about = in_flat Clause (InGrid m) (λ (c, n). flat_map (λ s. at_most_one_of (sends_into m c n s)) (steps_of m)) (pairs_of m)
+    once_about = in_flat Clause (InGrid m) (λ (c, n). flat_map (λ s. at_most_one_of (sends_into m c n s)) (steps_of m)) (all_pairs m.chunks m.nodes)
         (λ x at. in_flat Clause (IsStepOf m) (λ s. at_most_one_of (sends_into m x.0 x.1 s)) (steps_of m)
         (λ s step. pairs_about v (sends_into m x.0 x.1 s) (into_about x.0 x.1 s at.0 step)) steps) grid
 

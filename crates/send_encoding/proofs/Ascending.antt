@@ -1,12 +1,13 @@
 -- The usable links ascend, and so do the sends that an assignment says.
 use Rattle.std.proofs.Common.{◌≡◌, ℕ, ◌<◌, Bool, true, false, List, [], ◌∷◌, map, length, get_or, eqb, ltb, refl, sym, ap, ◌∙◌, subst, ◌⊎◌, inl, inr, ⊎_elim, arith, ◌||◌, ◌&&◌, if◌then◌else◌, flat_map, All, AllPairs}
+use Rattle.std.specs.List.{enumerate_from}
 use Rattle.std.{specs.List.{list_any, range_with_len, position_or_len}, proofs.lemmas.List.{Elements.{All-nil, All-cons}, Folds.list_any_at}}
 use Rattle.std.proofs.lemmas.{Bool.{and_parts, and_from, or_left, or_right, or_cases, ltb-true, lt-ltb, eq-eqb, cases_lt}, List.Kept.AllPairs-filter}
 use Rattle.list_laws.proofs.Pairs.{no_pairs}
 use Rattle.schedule.specs.{declared.hop.Hop.Hop, Links.{TopologyValue, is_usable, usable_links}, Placed.{all_pairs, same_pair}, Sends.{hop_before, link_of}}
 use Rattle.schedule.proofs.Placing.{pair_is, pair_itself}
 use Rattle.cnf_formula.specs.Literals.{is_true}
-use Rattle.send_encoding.specs.{Variables.{SendMapValue, chunks_of, steps_of, numbered_links, sent}, Sent.sends_of}
+use Rattle.send_encoding.specs.{Variables.{SendMapValue, steps_of, sent}, Sent.sends_of}
 use Rattle.send_encoding.proofs.{Everywhere.{in_map, in_flat, place_below}, Members.passes_at}
 use Rattle.send_encoding.proofs.Orders.{one_pairs, flat_pairs, map_pairs, range_pairs, numbered_pairs}
 
@@ -81,10 +82,10 @@ module _ (m : SendMapValue) (values : List Bool) (ascend : AllPairs LinkBefore m
   at_link k c (e, link) = if is_true values (sent m c e k) then record { chunk = c; from = link.0; to = link.1; step = k } ∷ [] else []
 
   abbrev of_chunk : ℕ → ℕ → List Hop
-  of_chunk k c = flat_map (at_link k c) (numbered_links m)
+  of_chunk k c = flat_map (at_link k c) (enumerate_from 0 m.links)
 
   abbrev of_step : ℕ → List Hop
-  of_step k = flat_map (of_chunk k) (chunks_of m)
+  of_step k = flat_map (of_chunk k) (range_with_len 0 m.chunks)
 
   if_pairs : (h : Hop) (b : Bool) → AllPairs Before (if b then h ∷ [] else [])
   if_pairs h true = one_pairs Before h
@@ -96,7 +97,7 @@ module _ (m : SendMapValue) (values : List Bool) (ascend : AllPairs LinkBefore m
 
   chunk_all : (P : Hop → Type 0) (k c : ℕ) → ((z : ℕ × (ℕ × ℕ)) → P (hop k c z)) → All P (of_chunk k c)
   chunk_all P k c h =
-      in_flat P (λ z. Unit {0}) (at_link k c) (numbered_links m) (λ z _. if_is P (hop k c z) (h z) (is_true values (sent m c z.0 k))) (all_every (λ z. Unit {0}) (numbered_links m) (λ z. tt))
+      in_flat P (λ z. Unit {0}) (at_link k c) (enumerate_from 0 m.links) (λ z _. if_is P (hop k c z) (h z) (is_true values (sent m c z.0 k))) (all_every (λ z. Unit {0}) (enumerate_from 0 m.links) (λ z. tt))
 
   chunk_ascends : (k c : ℕ) → AllPairs Before (of_chunk k c)
   chunk_ascends k c =
@@ -105,18 +106,18 @@ module _ (m : SendMapValue) (values : List Bool) (ascend : AllPairs LinkBefore m
       (λ y z a b before pa pb.
       by_link a b (ap (λ (h : Hop). h.step) pa ∙ sym (ap (λ (h : Hop). h.step) pb)) (ap (λ (h : Hop). h.chunk) pa ∙ sym (ap (λ (h : Hop). h.chunk) pb))
       (subst (λ l. LinkBefore l (link_of b)) (sym (ap link_of pa)) (subst (LinkBefore y.1) (sym (ap link_of pb)) before)))
-      (numbered_links m) (numbered_pairs LinkBefore 0 m.links ascend)
+      (enumerate_from 0 m.links) (numbered_pairs LinkBefore 0 m.links ascend)
 
   step_ascends : (k : ℕ) → AllPairs Before (of_step k)
   step_ascends k =
       flat_pairs (λ i j. i < j) Before (λ c h. (h.step ≡ k) × (h.chunk ≡ c)) (of_chunk k) (chunk_ascends k)
       (λ c. chunk_all (λ h. (h.step ≡ k) × (h.chunk ≡ c)) k c (λ z. (refl, refl)))
       (λ c d a b less pa pb. by_chunk a b (pa.0 ∙ sym pb.0) (omega (arith, less, pa.1, pb.1)))
-      (chunks_of m) (range_pairs 0 m.chunks)
+      (range_with_len 0 m.chunks) (range_pairs 0 m.chunks)
 
   pub sends_ascend : AllPairs Before (sends_of m values)
   sends_ascend =
       flat_pairs (λ i j. i < j) Before (λ k h. h.step ≡ k) of_step step_ascends
-      (λ k. in_flat (λ h. h.step ≡ k) (λ c. Unit {0}) (of_chunk k) (chunks_of m) (λ c _. chunk_all (λ h. h.step ≡ k) k c (λ z. refl)) (all_every (λ c. Unit {0}) (chunks_of m) (λ c. tt)))
+      (λ k. in_flat (λ h. h.step ≡ k) (λ c. Unit {0}) (of_chunk k) (range_with_len 0 m.chunks) (λ c _. chunk_all (λ h. h.step ≡ k) k c (λ z. refl)) (all_every (λ c. Unit {0}) (range_with_len 0 m.chunks) (λ c. tt)))
       (λ k l a b less pa pb. by_step a b (omega (arith, less, pa, pb)))
       (steps_of m) (range_pairs 1 m.steps)

@@ -1,23 +1,25 @@
 -- Where the tables move chunks, the clauses of arrivals and sends hold.
-use Rattle.std.proofs.Common.{◌≡◌, ℕ, zero, ◌+◌, ◌-◌, ◌<◌, ◌≤◌, Bool, true, false, cond, List, [], ◌∷◌, ◌++◌, map, length, get_or, refl, sym, ap, ◌∙◌, ⊎_elim, arith, ◌||◌, if◌then◌else◌, flat_map, filter, count_by, All}
+use Rattle.std.proofs.Common.{◌≡◌, ℕ, ◌+◌, ◌-◌, ◌<◌, ◌≤◌, Bool, true, false, cond, List, [], ◌∷◌, ◌++◌, map, length, get_or, refl, sym, ap, ◌∙◌, ⊎_elim, arith, ◌||◌, if◌then◌else◌, flat_map, filter, count_by, All}
+use Rattle.std.specs.List.{enumerate_from, range_with_len}
 use Rattle.std.{specs.List.{list_any, list_all}, proofs.lemmas.{Bool.{and_from, or_left, or_right, cases_Bool, not_from_false}, List.Folds.list_all-append}}
 use Rattle.std.proofs.lemmas.List.{Elements.{All-cons, All-head, All-tail, All-filter}, Sums.sum_by-cons, FromFn.{length-enumerate_from, get_or-enumerate_from}}
 use Rattle.std.proofs.lemmas.List.{get_or_default}
-use Rattle.schedule.{specs.{Placed.{PlacementValue, holds}, Sends.IsStep}, proofs.Placing.all_below}
+use Rattle.schedule.{specs.{Placed.{all_pairs, PlacementValue, holds}, Sends.IsStep}, proofs.Placing.all_below}
 use Rattle.cnf_formula.{specs.Literals.{LitValue, negation, is_true, clause_holds, all_hold}, proofs.Clauses.negation_is}
 use Rattle.cardinality.{specs.Counting.at_most_one_of, proofs.Pairs.pairs_decide}
-use Rattle.send_encoding.specs.Variables.{SendMapValue, chunks_of, steps_of, pairs_of, numbered_links, links_into, arrival, sent}
-use Rattle.send_encoding.specs.Sending.{at_start, keeps, at_end, send_over, sends_arrive, sends_into, node_arrives, arrives_by_sends, arrives_once, sending}
+use Rattle.send_encoding.specs.Variables.{SendMapValue, steps_of, links_into, arrival, sent}
+use Rattle.send_encoding.specs.inner.Parts.{node_arrives}
+use Rattle.send_encoding.specs.Sending.{at_start, keeps, at_end, send_over, sends_arrive, sends_into, arrives_by_sends, arrives_once, sending}
 use Rattle.send_encoding.specs.Moving.{IsLinkOf, Moves, JoinsNodes}
 use Rattle.send_encoding.proofs.{Everywhere.{by_recursion, From, in_range, in_numbers}, About.{InGrid, IsStepOf}}
 
-pub numbered_are : (m : SendMapValue) → All (JoinsNodes m) m.links → All (IsLinkOf m) (numbered_links m)
+pub numbered_are : (m : SendMapValue) → All (JoinsNodes m) m.links → All (IsLinkOf m) (enumerate_from 0 m.links)
 numbered_are m links = λ k d h.
     let z = in_numbers (JoinsNodes m) m.links 0 (length m.links) (omega arith) links k d h in
     let low : k < length m.links = omega (arith, h, length-enumerate_from 0 m.links) in
-    let at : get_or (numbered_links m) k d ≡ (0 + k, get_or m.links k d.1) = get_or-enumerate_from 0 m.links k d low in
+    let at : get_or (enumerate_from 0 m.links) k d ≡ (0 + k, get_or m.links k d.1) = get_or-enumerate_from 0 m.links k d low in
     let zero : 0 + k ≡ k = omega arith in
-    let number : (get_or (numbered_links m) k d).0 ≡ k = ap (λ w. w.0) at ∙ zero in
+    let number : (get_or (enumerate_from 0 m.links) k d).0 ≡ k = ap (λ w. w.0) at ∙ zero in
     let same : get_or m.links k d.1 ≡ get_or m.links k (0, 0) = get_or_default m.links k d.1 (0, 0) low in
     record { number = z.0; from = z.1.0; to = z.1.1; is = ap (λ w. w.1) at ∙ same ∙ ap (λ n. get_or m.links n (0, 0)) (sym number) }
 
@@ -60,14 +62,14 @@ module _ (m : SendMapValue) (pre post : PlacementValue) (a x : ℕ → ℕ → �
     (ha : (c n s : ℕ) → c < m.chunks → n < m.nodes → s ≤ m.steps → is_true values (arrival m c n s) ≡ a c n s)
     (hx : (c e s : ℕ) → c < m.chunks → e < length m.links → IsStep m.steps s → is_true values (sent m c e s) ≡ x c e s)
     (moves : Moves m pre post a x) where
-  grid : All (InGrid m) (pairs_of m)
-  grid = by_recursion (InGrid m) (pairs_of m) (all_below m.chunks m.nodes)
+  grid : All (InGrid m) (all_pairs m.chunks m.nodes)
+  grid = by_recursion (InGrid m) (all_pairs m.chunks m.nodes) (all_below m.chunks m.nodes)
 
-  numbered : All (IsLinkOf m) (numbered_links m)
+  numbered : All (IsLinkOf m) (enumerate_from 0 m.links)
   numbered = numbered_are m links
 
   into : (n : ℕ) → All (IsLinkOf m) (links_into m n)
-  into n = All-filter _ (IsLinkOf m) (numbered_links m) numbered
+  into n = All-filter _ (IsLinkOf m) (enumerate_from 0 m.links) numbered
 
   step_is : (s : ℕ) → IsStepOf m s → IsStep m.steps s
   step_is s at = record { from = omega (arith, at.0); to = omega (arith, at.1) }
@@ -76,7 +78,7 @@ module _ (m : SendMapValue) (pre post : PlacementValue) (a x : ℕ → ℕ → �
   steps = in_range 1 m.steps
 
   start_holds : all_hold values (at_start m pre) ≡ true
-  start_holds = passes_map (clause_holds values) (InGrid m) (λ (c, n). (if holds pre (c, n) then arrival m c n 0 else negation (arrival m c n 0)) ∷ []) (pairs_of m)
+  start_holds = passes_map (clause_holds values) (InGrid m) (λ (c, n). (if holds pre (c, n) then arrival m c n 0 else negation (arrival m c n 0)) ∷ []) (all_pairs m.chunks m.nodes)
       (λ p at. starts_as (holds pre p) (arrival m p.0 p.1 0) (ha p.0 p.1 0 at.0 at.1 (omega arith) ∙ moves.starts p.0 p.1 at.0 at.1)) grid
     where
       starts_as : (b : Bool) (l : LitValue) → is_true values l ≡ b → clause_holds values ((if b then l else negation l) ∷ []) ≡ true
@@ -84,15 +86,15 @@ module _ (m : SendMapValue) (pre post : PlacementValue) (a x : ℕ → ℕ → �
       starts_as false l e = one_true values (negation l) (not_true values l e)
 
   keeps_holds : all_hold values (keeps m) ≡ true
-  keeps_holds = passes_flat (clause_holds values) (InGrid m) (λ (c, n). map (λ s. negation (arrival m c n (s - 1)) ∷ arrival m c n s ∷ []) (steps_of m)) (pairs_of m)
+  keeps_holds = passes_flat (clause_holds values) (InGrid m) (λ (c, n). map (λ s. negation (arrival m c n (s - 1)) ∷ arrival m c n s ∷ []) (steps_of m)) (all_pairs m.chunks m.nodes)
       (λ p at. passes_map (clause_holds values) (IsStepOf m) (λ s. negation (arrival m p.0 p.1 (s - 1)) ∷ arrival m p.0 p.1 s ∷ []) (steps_of m) (λ s st.
       let step = step_is s st in
       if_true values (arrival m p.0 p.1 (s - 1)) (arrival m p.0 p.1 s) (λ t.
       ha p.0 p.1 s at.0 at.1 step.to ∙ moves.keeps p.0 p.1 s at.0 at.1 step (sym (ha p.0 p.1 (s - 1) at.0 at.1 (omega (arith, step.to))) ∙ t))) steps) grid
 
   end_holds : all_hold values (at_end m post) ≡ true
-  end_holds = passes_map (clause_holds values) (λ p. InGrid m p × (holds post p ≡ true)) (λ (c, n). arrival m c n m.steps ∷ []) (filter (holds post) (pairs_of m))
-      (λ p at. one_true values (arrival m p.0 p.1 m.steps) (ha p.0 p.1 m.steps at.0.0 at.0.1 (omega arith) ∙ moves.ends p.0 p.1 at.0.0 at.0.1 at.1)) (kept (holds post) (pairs_of m) grid)
+  end_holds = passes_map (clause_holds values) (λ p. InGrid m p × (holds post p ≡ true)) (λ (c, n). arrival m c n m.steps ∷ []) (filter (holds post) (all_pairs m.chunks m.nodes))
+      (λ p at. one_true values (arrival m p.0 p.1 m.steps) (ha p.0 p.1 m.steps at.0.0 at.0.1 (omega arith) ∙ moves.ends p.0 p.1 at.0.0 at.0.1 at.1)) (kept (holds post) (all_pairs m.chunks m.nodes) grid)
     where
       kept : (p : ℕ × ℕ → Bool) (zs : List (ℕ × ℕ)) → All (InGrid m) zs → All (λ z. InGrid m z × (p z ≡ true)) (filter p zs)
       kept p [] all = λ k d h. absurd (omega (arith, h))
@@ -115,12 +117,12 @@ module _ (m : SendMapValue) (pre post : PlacementValue) (a x : ℕ → ℕ → �
       (and_from (clause_holds values (no ∷ arrival m c link.1 s ∷ [])) true third refl))
 
   sends_hold : all_hold values (sends_arrive m) ≡ true
-  sends_hold = passes_flat (clause_holds values) (From 0 m.chunks) (λ c. flat_map (λ link. flat_map (send_over m c link) (steps_of m)) (numbered_links m)) (chunks_of m)
-      (λ c low. passes_flat (clause_holds values) (IsLinkOf m) (λ link. flat_map (send_over m c link) (steps_of m)) (numbered_links m)
+  sends_hold = passes_flat (clause_holds values) (From 0 m.chunks) (λ c. flat_map (λ link. flat_map (send_over m c link) (steps_of m)) (enumerate_from 0 m.links)) (range_with_len 0 m.chunks)
+      (λ c low. passes_flat (clause_holds values) (IsLinkOf m) (λ link. flat_map (send_over m c link) (steps_of m)) (enumerate_from 0 m.links)
       (λ z at. passes_flat (clause_holds values) (IsStepOf m) (send_over m c z) (steps_of m) (λ s st. over_holds c s z (omega (arith, low.1)) at (step_is s st)) steps) numbered) (in_range 0 m.chunks)
 
   arrives_holds : all_hold values (arrives_by_sends m) ≡ true
-  arrives_holds = passes_flat (clause_holds values) (InGrid m) (node_arrives m) (pairs_of m)
+  arrives_holds = passes_flat (clause_holds values) (InGrid m) (node_arrives m) (all_pairs m.chunks m.nodes)
       (λ p at. passes_map (clause_holds values) (IsStepOf m) (λ s. arrival m p.0 p.1 (s - 1) ∷ negation (arrival m p.0 p.1 s) ∷ sends_into m p.0 p.1 s) (steps_of m) (λ s st.
       let step = step_is s st in
       let before = arrival m p.0 p.1 (s - 1) in
@@ -138,7 +140,7 @@ module _ (m : SendMapValue) (pre post : PlacementValue) (a x : ℕ → ℕ → �
       (cases_Bool (is_true values before))) steps) grid
 
   once_holds : all_hold values (arrives_once m) ≡ true
-  once_holds = passes_flat (clause_holds values) (InGrid m) (λ (c, n). flat_map (λ s. at_most_one_of (sends_into m c n s)) (steps_of m)) (pairs_of m)
+  once_holds = passes_flat (clause_holds values) (InGrid m) (λ (c, n). flat_map (λ s. at_most_one_of (sends_into m c n s)) (steps_of m)) (all_pairs m.chunks m.nodes)
       (λ p at. passes_flat (clause_holds values) (IsStepOf m) (λ s. at_most_one_of (sends_into m p.0 p.1 s)) (steps_of m) (λ s st.
       let step = step_is s st in
       let same = count_alike (is_true values) (λ z. x p.0 z.0 s) (IsLinkOf m) (λ (e, link). sent m p.0 e s) (links_into m p.1) (λ z ok. hx p.0 z.0 s at.0 ok.number step) (into p.1) in

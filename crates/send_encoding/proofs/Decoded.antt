@@ -1,10 +1,11 @@
 -- The sends of an assignment tell its table.
 use Rattle.std.proofs.Common.{◌≡◌, ℕ, zero, suc, ◌+◌, ◌-◌, ◌<◌, ◌≤◌, Bool, true, false, List, [], ◌∷◌, length, get_or, eqb, refl, sym, ap, ◌∙◌, arith, ◌&&◌, if◌then◌else◌, flat_map, All}
+use Rattle.std.specs.List.{enumerate_from}
 use Rattle.std.{specs.List.{list_any, range_with_len}, proofs.lemmas.{Bool.{and_from, or_left, or_right, eq-eqb}, List.Elements.{All-nil, All-cons}}}
 use Rattle.std.proofs.lemmas.List.{Folds.list_any-append, FromFn.{length-range_with_len, get_or-range_with_len, length-enumerate_from, get_or-enumerate_from}}
 use Rattle.schedule.{specs.{declared.hop.Hop.Hop, Placed.same_pair, Sends.{IsStep, link_of}}, proofs.Placing.pair_itself}
 use Rattle.cnf_formula.specs.Literals.{is_true}
-use Rattle.send_encoding.specs.{Variables.{SendMapValue, chunks_of, steps_of, numbered_links, sent}, Sent.sends_of, Moving.{IsLinkOf, JoinsNodes}}
+use Rattle.send_encoding.specs.{Variables.{SendMapValue, steps_of, sent}, Sent.sends_of, Moving.{IsLinkOf, JoinsNodes}}
 use Rattle.send_encoding.specs.Telling.{IsTold, Tells}
 use Rattle.send_encoding.proofs.{Everywhere.{From, in_range, in_flat}, Complete.numbered_are}
 
@@ -39,16 +40,16 @@ module _ (m : SendMapValue) (values : List Bool) (links : All (JoinsNodes m) m.l
 
   pub sends_tell : Tells m x (sends_of m values)
   sends_tell = record {
-    told = in_flat (IsTold m x) (From 1 m.steps) (λ k. flat_map (λ c. flat_map (at_link k c) (numbered_links m)) (chunks_of m)) (steps_of m)
-        (λ k st. in_flat (IsTold m x) (From 0 m.chunks) (λ c. flat_map (at_link k c) (numbered_links m)) (chunks_of m)
-        (λ c low. in_flat (IsTold m x) (IsLinkOf m) (at_link k c) (numbered_links m)
+    told = in_flat (IsTold m x) (From 1 m.steps) (λ k. flat_map (λ c. flat_map (at_link k c) (enumerate_from 0 m.links)) (range_with_len 0 m.chunks)) (steps_of m)
+        (λ k st. in_flat (IsTold m x) (From 0 m.chunks) (λ c. flat_map (at_link k c) (enumerate_from 0 m.links)) (range_with_len 0 m.chunks)
+        (λ c low. in_flat (IsTold m x) (IsLinkOf m) (at_link k c) (enumerate_from 0 m.links)
         (λ z at. one_told k c z (record { from = omega (arith, st.0); to = omega (arith, st.1) }) (omega (arith, low.1)) at) (numbered_are m links)) (in_range 0 m.chunks)) (in_range 1 m.steps);
     tells = λ c k z low at step h.
         let p : Hop → Bool = λ h. eqb h.step k && (eqb h.chunk c && same_pair (link_of h) z.1) in
         let passes : p (hop k c z) ≡ true = and_from (eqb k k) (eqb c c && same_pair z.1 z.1) (eq-eqb k k refl) (and_from (eqb c c) (same_pair z.1 z.1) (eq-eqb c c refl) (pair_itself z.1)) in
         let there : list_any p (at_link k c z) ≡ true = ap (λ b. list_any p (if b then hop k c z ∷ [] else [])) h ∙ or_left (p (hop k c z)) false passes in
-        let is : get_or (numbered_links m) z.0 (0, (0, 0)) ≡ z = get_or-enumerate_from 0 m.links z.0 (0, (0, 0)) at.number ∙ ap (λ n. (n, get_or m.links z.0 (0, 0))) (omega arith) ∙ ap (λ l. (z.0, l)) (sym at.is) in
-        any_range p (λ k. flat_map (λ c. flat_map (at_link k c) (numbered_links m)) (chunks_of m)) 1 m.steps k step.from (omega (arith, step.to))
-        (any_range p (λ c. flat_map (at_link k c) (numbered_links m)) 0 m.chunks c (omega arith) (omega (arith, low))
-        (any_flat p (at_link k c) (numbered_links m) z.0 (0, (0, 0)) (omega (arith, at.number, length-enumerate_from 0 m.links)) (ap (λ y. list_any p (at_link k c y)) is ∙ there)));
+        let is : get_or (enumerate_from 0 m.links) z.0 (0, (0, 0)) ≡ z = get_or-enumerate_from 0 m.links z.0 (0, (0, 0)) at.number ∙ ap (λ n. (n, get_or m.links z.0 (0, 0))) (omega arith) ∙ ap (λ l. (z.0, l)) (sym at.is) in
+        any_range p (λ k. flat_map (λ c. flat_map (at_link k c) (enumerate_from 0 m.links)) (range_with_len 0 m.chunks)) 1 m.steps k step.from (omega (arith, step.to))
+        (any_range p (λ c. flat_map (at_link k c) (enumerate_from 0 m.links)) 0 m.chunks c (omega arith) (omega (arith, low))
+        (any_flat p (at_link k c) (enumerate_from 0 m.links) z.0 (0, (0, 0)) (omega (arith, at.number, length-enumerate_from 0 m.links)) (ap (λ y. list_any p (at_link k c y)) is ∙ there)));
   }

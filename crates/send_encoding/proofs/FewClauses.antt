@@ -1,13 +1,13 @@
 -- Arrivals and sends have few clauses.
-use Rattle.std.{proofs.Common.{◌≡◌, ℕ, ◌+◌, ◌*◌, ◌≤◌, List, ◌++◌, length, map, ap, sym, ◌∙◌, arith, length-append, flat_map, filter}, specs.List.range_with_len}
+use Rattle.std.{proofs.Common.{◌≡◌, ℕ, ◌+◌, ◌*◌, ◌≤◌, List, ◌++◌, length, map, ap, sym, ◌∙◌, arith, length-append, flat_map, filter}, specs.List.{range_with_len, enumerate_from}}
 use Rattle.std.proofs.{Math.Nat.{mul_assoc, mul-add}, lemmas.{List.{length-map, Sums.{length-filter, count_by-le-length}}, Nat.mul-le}}
 use Rattle.std.proofs.lemmas.List.FromFn.{length-range_with_len, length-map-range_with_len, length-enumerate_from}
-use Rattle.schedule.specs.{Links.TopologyValue, Placed.{PlacementValue, holds}}
+use Rattle.schedule.specs.{Links.TopologyValue, Placed.{all_pairs, PlacementValue, holds}}
 use Rattle.cnf_formula.specs.Literals.{LitValue}
 use Rattle.cardinality.{specs.Counting.at_most_one_of, proofs.{FewClauses.pairs_are_few, Lengths.flat_length}}
-use Rattle.send_encoding.specs.Variables.{SendMapValue, map_of, chunks_of, steps_of, pairs_of, numbered_links, links_into, sends}
-use Rattle.send_encoding.specs.Sending.{at_start, keeps, at_end, send_over, sends_arrive, sends_into, node_arrives, arrives_by_sends, arrives_once, sending}
-use Rattle.send_encoding.specs.inner.Parts.{node_keeps, node_once}
+use Rattle.send_encoding.specs.Variables.{SendMapValue, map_of, steps_of, links_into, sends}
+use Rattle.send_encoding.specs.Sending.{at_start, keeps, at_end, send_over, sends_arrive, sends_into, arrives_by_sends, arrives_once, sending}
+use Rattle.send_encoding.specs.inner.Parts.{node_arrives, node_keeps, node_once}
 use Rattle.send_encoding.proofs.{Entering.few_enter, Grid.rows_length}
 
 six_lists : {X : Type 0} (a b c d e f : List X) → length (a ++ b ++ c ++ d ++ e ++ f) ≡ length a + length b + length c + length d + length e + length f
@@ -23,35 +23,35 @@ module _ (m : SendMapValue) where
   abbrev cells : ℕ
   cells = m.chunks * m.nodes
 
-  all_cells : length (pairs_of m) ≡ cells
+  all_cells : length (all_pairs m.chunks m.nodes) ≡ cells
   all_cells = rows_length (λ c. map (λ n. (c, n)) (range_with_len 0 m.nodes)) m.nodes 0 m.chunks (λ c. length-map-range_with_len (λ n. (c, n)) 0 m.nodes)
 
   all_steps : length (steps_of m) ≡ m.steps
   all_steps = length-range_with_len 1 m.steps
 
   many_starts : (pre : PlacementValue) → length (at_start m pre) ≡ cells
-  many_starts pre = length-map (pairs_of m) _ ∙ all_cells
+  many_starts pre = length-map (all_pairs m.chunks m.nodes) _ ∙ all_cells
 
   few_keeps : length (keeps m) ≤ cells * m.steps
   few_keeps =
       let same : (x : ℕ × ℕ) → length (node_keeps m x) ≡ length (steps_of m) = λ x. length-map (steps_of m) _ in
       let each : (x : ℕ × ℕ) → length (node_keeps m x) ≤ m.steps = λ x. omega (arith, same x, all_steps) in
-      omega (arith, flat_length (node_keeps m) m.steps (pairs_of m) each, ap (λ n. n * m.steps) all_cells)
+      omega (arith, flat_length (node_keeps m) m.steps (all_pairs m.chunks m.nodes) each, ap (λ n. n * m.steps) all_cells)
 
   few_ends : (post : PlacementValue) → length (at_end m post) ≤ cells
   few_ends post =
-      let wanted : List (ℕ × ℕ) = filter (holds post) (pairs_of m) in
+      let wanted : List (ℕ × ℕ) = filter (holds post) (all_pairs m.chunks m.nodes) in
       let same : length (at_end m post) ≡ length wanted = length-map wanted _ in
-      omega (arith, same, length-filter (holds post) (pairs_of m), count_by-le-length (holds post) (pairs_of m), all_cells)
+      omega (arith, same, length-filter (holds post) (all_pairs m.chunks m.nodes), count_by-le-length (holds post) (all_pairs m.chunks m.nodes), all_cells)
 
   few_sends : length (sends_arrive m) ≤ sends m * 3
   few_sends =
       let links : ℕ = length m.links in
       let over : ℕ → ℕ × (ℕ × ℕ) → List (List LitValue) = λ c link. flat_map (send_over m c link) (steps_of m) in
       let link_few : (c : ℕ) (link : ℕ × (ℕ × ℕ)) → length (over c link) ≤ m.steps * 3 = λ c link. omega (arith, flat_length (send_over m c link) 3 (steps_of m) (λ s. omega arith), all_steps) in
-      let chunk_few : (c : ℕ) → length (flat_map (over c) (numbered_links m)) ≤ links * (m.steps * 3) =
-      λ c. omega (arith, flat_length (over c) (m.steps * 3) (numbered_links m) (link_few c), ap (λ n. n * (m.steps * 3)) (length-enumerate_from 0 m.links)) in
-      let all = flat_length (λ c. flat_map (over c) (numbered_links m)) (links * (m.steps * 3)) (chunks_of m) chunk_few in
+      let chunk_few : (c : ℕ) → length (flat_map (over c) (enumerate_from 0 m.links)) ≤ links * (m.steps * 3) =
+      λ c. omega (arith, flat_length (over c) (m.steps * 3) (enumerate_from 0 m.links) (link_few c), ap (λ n. n * (m.steps * 3)) (length-enumerate_from 0 m.links)) in
+      let all = flat_length (λ c. flat_map (over c) (enumerate_from 0 m.links)) (links * (m.steps * 3)) (range_with_len 0 m.chunks) chunk_few in
       let product : m.chunks * (links * (m.steps * 3)) ≡ sends m * 3 = sym (mul_assoc m.chunks links (m.steps * 3)) ∙ sym (mul_assoc (m.chunks * links) m.steps 3) in
       omega (arith, all, ap (λ n. n * (links * (m.steps * 3))) (length-range_with_len 0 m.chunks), product)
 
@@ -59,7 +59,7 @@ module _ (m : SendMapValue) where
   few_arrivals =
       let same : (x : ℕ × ℕ) → length (node_arrives m x) ≡ length (steps_of m) = λ x. length-map (steps_of m) _ in
       let each : (x : ℕ × ℕ) → length (node_arrives m x) ≤ m.steps = λ x. omega (arith, same x, all_steps) in
-      omega (arith, flat_length (node_arrives m) m.steps (pairs_of m) each, ap (λ n. n * m.steps) all_cells)
+      omega (arith, flat_length (node_arrives m) m.steps (all_pairs m.chunks m.nodes) each, ap (λ n. n * m.steps) all_cells)
 
   module _ (few_into : (n : ℕ) → length (links_into m n) ≤ m.nodes) where
     few_pairs : (c n s : ℕ) → length (at_most_one_of (sends_into m c n s)) ≤ m.nodes * m.nodes
@@ -74,7 +74,7 @@ module _ (m : SendMapValue) where
         let most : ℕ = m.nodes * m.nodes in
         let each : (x : ℕ × ℕ) → length (node_once m x) ≤ m.steps * most =
         λ x. omega (arith, flat_length (λ s. at_most_one_of (sends_into m x.0 x.1 s)) most (steps_of m) (few_pairs x.0 x.1), ap (λ n. n * most) all_steps) in
-        omega (arith, flat_length (node_once m) (m.steps * most) (pairs_of m) each, ap (λ n. n * (m.steps * most)) all_cells)
+        omega (arith, flat_length (node_once m) (m.steps * most) (all_pairs m.chunks m.nodes) each, ap (λ n. n * (m.steps * most)) all_cells)
 
     few_sending : (pre post : PlacementValue) → length (sending m pre post) ≤ cells * (2 + m.steps * (2 + m.nodes * m.nodes)) + sends m * 3
     few_sending pre post =

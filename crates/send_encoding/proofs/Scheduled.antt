@@ -1,11 +1,11 @@
 -- The tables of a schedule that solves move the chunks.
 use Rattle.std.proofs.Common.{◌≡◌, ℕ, suc, ◌+◌, ◌-◌, ◌<◌, ◌≤◌, Bool, true, false, length, get_or, eqb, ltb, refl, sym, ap, ◌∙◌, subst, ⊎_elim, arith, ◌&&◌, ◌||◌, not, count_by, All}
-use Rattle.std.specs.List.{list_any}
+use Rattle.std.specs.List.{enumerate_from, list_any}
 use Rattle.std.proofs.lemmas.Bool.{false≢true, and_parts, and_from, or_left, or_cases, not-true, not_from_false, eqb-true, eq-eqb, ltb-true}
 use Rattle.schedule.specs.{Links.{TopologyValue, is_usable, usable_links}, Placed.{PlacementValue, holds, same_pair}, Running.{after, brings}, Solving.Solves}
 use Rattle.schedule.specs.Sends.{ScheduleValue, IsStep, IsInRange, link_of, is_hop_below}
 use Rattle.schedule.proofs.{Placing.{pair_is, holds-placed}, Stepping.{chunks-after, nodes-after}}
-use Rattle.send_encoding.specs.{Variables.{SendMapValue, map_of, links_into, numbered_links}, Moving.{IsLinkOf, JoinsNodes, Moves}}
+use Rattle.send_encoding.specs.{Variables.{SendMapValue, map_of, links_into}, Moving.{IsLinkOf, JoinsNodes, Moves}}
 use Rattle.send_encoding.specs.Leading.{leads, had, carried, brought}
 use Rattle.send_encoding.proofs.{First.{some_leads, leader, one_leads, passes_once}, Members.{member, any_weaker, numbered_any, filter_any, kept, count_weaker}}
 use Rattle.send_encoding.proofs.Complete.{numbered_are}
@@ -34,7 +34,7 @@ module _ (t : TopologyValue) (pre post : PlacementValue) (s : ScheduleValue) (st
       ∙ ap (λ v. holds before (c, n) || list_any (brings before v (c, n)) s.sends) back
 
   into : (n : ℕ) → All (λ z. IsLinkOf m z × (eqb z.1.1 n ≡ true)) (links_into m n)
-  into n = kept (λ z. eqb z.1.1 n) (IsLinkOf m) (numbered_links m) (numbered_are m links)
+  into n = kept (λ z. eqb z.1.1 n) (IsLinkOf m) (enumerate_from 0 m.links) (numbered_are m links)
 
   keeps_had : (c n k : ℕ) → c < m.chunks → n < m.nodes → IsStep m.steps k → a c n (k - 1) ≡ true → a c n k ≡ true
   keeps_had c n k cl nl step h = grew c n k cl nl step.from ∙ or_left (a c n (k - 1)) (list_any (brings (after pre s (k - 1)) k (c, n)) s.sends) h
@@ -73,7 +73,7 @@ module _ (t : TopologyValue) (pre post : PlacementValue) (s : ScheduleValue) (st
   usable_into : (n : ℕ) (link : ℕ × ℕ) → link.0 < t.nodes → link.1 < t.nodes → link.1 ≡ n → is_usable t link ≡ true → list_any (λ z. same_pair link z.1) (links_into m n) ≡ true
   usable_into n link fl tl e u =
       let listed : list_any (same_pair link) (usable_links t) ≡ true = holds-placed t.nodes t.nodes (is_usable t) link fl tl ∙ u in
-      filter_any (λ z. eqb z.1.1 n) (λ z. same_pair link z.1) (numbered_links m)
+      filter_any (λ z. eqb z.1.1 n) (λ z. same_pair link z.1) (enumerate_from 0 m.links)
       (λ z h. eq-eqb z.1.1 n (ap (λ l. l.1) (sym (pair_is link z.1 h)) ∙ e)) (numbered_any (same_pair link) 0 (usable_links t) listed)
 
   some_carry : (c n k : ℕ) → c < m.chunks → n < m.nodes → list_any (brings (after pre s (k - 1)) k (c, n)) s.sends ≡ true → list_any (carried pre s c k) (links_into m n) ≡ true

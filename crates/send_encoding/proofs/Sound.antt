@@ -1,13 +1,15 @@
 -- Where the clauses of arrivals and sends hold, the tables of an assignment move the chunks.
 use Rattle.std.proofs.Common.{◌≡◌, ℕ, ◌+◌, ◌-◌, ◌<◌, ◌≤◌, Bool, true, false, List, [], ◌∷◌, ◌++◌, map, get_or, refl, sym, ap, ◌∙◌, subst, ⊎_elim, arith, if◌then◌else◌, flat_map, filter, All}
+use Rattle.std.specs.List.{enumerate_from}
 use Rattle.std.{specs.List.{list_any, list_all, range_with_len}, proofs.lemmas.Bool.{false≢true, and_parts, or_cases, not-true, not_from_true}}
 use Rattle.std.proofs.lemmas.List.{Elements.{All-nil, All-cons}, Folds.list_all-append}
 use Rattle.std.proofs.lemmas.List.FromFn.{length-range_with_len, get_or-range_with_len, length-enumerate_from, get_or-enumerate_from}
-use Rattle.schedule.{specs.{Placed.{PlacementValue, holds, same_pair}, Sends.IsStep}, proofs.Placing.{pair_is, among_all}}
+use Rattle.schedule.{specs.{Placed.{all_pairs, PlacementValue, holds, same_pair}, Sends.IsStep}, proofs.Placing.{pair_is, among_all}}
 use Rattle.cnf_formula.{specs.Literals.{LitValue, negation, is_true, clause_holds, all_hold}, proofs.Clauses.negation_is}
 use Rattle.cardinality.{specs.Counting.at_most_one_of, proofs.Pairs.pairs_decide}
-use Rattle.send_encoding.specs.{Variables.{SendMapValue, chunks_of, steps_of, pairs_of, numbered_links, links_into, arrival, sent}, Moving.{IsLinkOf, Moves}}
-use Rattle.send_encoding.specs.Sending.{at_start, keeps, at_end, send_over, sends_arrive, sends_into, node_arrives, arrives_by_sends, arrives_once, sending}
+use Rattle.send_encoding.specs.{Variables.{SendMapValue, steps_of, links_into, arrival, sent}, Moving.{IsLinkOf, Moves}}
+use Rattle.send_encoding.specs.inner.Parts.{node_arrives}
+use Rattle.send_encoding.specs.Sending.{at_start, keeps, at_end, send_over, sends_arrive, sends_into, arrives_by_sends, arrives_once, sending}
 use Rattle.send_encoding.proofs.{Members.{member, filter_any}, Complete.{any_alike, count_alike}}
 
 -- ---- what holds everywhere holds at each
@@ -62,17 +64,17 @@ module _ (m : SendMapValue) (pre post : PlacementValue) (values : List Bool) (al
       let p1 = split (at_start m pre) (keeps m) p2.0 in
       (p1.0, p1.1, p2.1, p3.1, p4.1, p5.1)
 
-  at_pair : (P : ℕ × ℕ → Type 0) → All P (pairs_of m) → (c n : ℕ) → c < m.chunks → n < m.nodes → P (c, n)
+  at_pair : (P : ℕ × ℕ → Type 0) → All P (all_pairs m.chunks m.nodes) → (c n : ℕ) → c < m.chunks → n < m.nodes → P (c, n)
   at_pair P ps c n cl nl =
-      let found = member (same_pair (c, n)) P (pairs_of m) ps (among_all m.chunks m.nodes (c, n) cl nl) in
+      let found = member (same_pair (c, n)) P (all_pairs m.chunks m.nodes) ps (among_all m.chunks m.nodes (c, n) cl nl) in
       subst P (sym (pair_is (c, n) found.0 found.1)) found.3
 
   at_step : (P : ℕ → Type 0) → All P (steps_of m) → (k : ℕ) → IsStep m.steps k → P k
   at_step P ps k step = at_range P 1 m.steps k ps (omega (arith, step.from)) (omega (arith, step.to))
 
-  at_link : (P : ℕ × (ℕ × ℕ) → Type 0) → All P (numbered_links m) → (z : ℕ × (ℕ × ℕ)) → IsLinkOf m z → P z
+  at_link : (P : ℕ × (ℕ × ℕ) → Type 0) → All P (enumerate_from 0 m.links) → (z : ℕ × (ℕ × ℕ)) → IsLinkOf m z → P z
   at_link P ps z at =
-      let is : get_or (numbered_links m) z.0 (0, (0, 0)) ≡ z = get_or-enumerate_from 0 m.links z.0 (0, (0, 0)) at.number ∙ ap (λ n. (n, get_or m.links z.0 (0, 0))) zero_more ∙ ap (λ l. (z.0, l)) (sym at.is) in
+      let is : get_or (enumerate_from 0 m.links) z.0 (0, (0, 0)) ≡ z = get_or-enumerate_from 0 m.links z.0 (0, (0, 0)) at.number ∙ ap (λ n. (n, get_or m.links z.0 (0, 0))) zero_more ∙ ap (λ l. (z.0, l)) (sym at.is) in
       subst P is (ps z.0 (0, (0, 0)) (omega (arith, at.number, length-enumerate_from 0 m.links)))
     where
       zero_more : 0 + z.0 ≡ z.0
@@ -81,9 +83,9 @@ module _ (m : SendMapValue) (pre post : PlacementValue) (values : List Bool) (al
   over : (c k : ℕ) (z : ℕ × (ℕ × ℕ)) → c < m.chunks → IsLinkOf m z → IsStep m.steps k → Holds (send_over m c z k)
   over c k z cl at step =
       at_step (λ k. Holds (send_over m c z k)) (flat_passes (clause_holds values) (send_over m c z) (steps_of m)
-      (at_link (λ z. Holds (flat_map (send_over m c z) (steps_of m))) (flat_passes (clause_holds values) (λ z. flat_map (send_over m c z) (steps_of m)) (numbered_links m)
-      (at_range (λ c. Holds (flat_map (λ z. flat_map (send_over m c z) (steps_of m)) (numbered_links m))) 0 m.chunks c
-      (flat_passes (clause_holds values) (λ c. flat_map (λ z. flat_map (send_over m c z) (steps_of m)) (numbered_links m)) (chunks_of m) parts.3) (omega arith) (omega (arith, cl)))) z at)) k step
+      (at_link (λ z. Holds (flat_map (send_over m c z) (steps_of m))) (flat_passes (clause_holds values) (λ z. flat_map (send_over m c z) (steps_of m)) (enumerate_from 0 m.links)
+      (at_range (λ c. Holds (flat_map (λ z. flat_map (send_over m c z) (steps_of m)) (enumerate_from 0 m.links))) 0 m.chunks c
+      (flat_passes (clause_holds values) (λ c. flat_map (λ z. flat_map (send_over m c z) (steps_of m)) (enumerate_from 0 m.links)) (range_with_len 0 m.chunks) parts.3) (omega arith) (omega (arith, cl)))) z at)) k step
 
   three : (c k : ℕ) (z : ℕ × (ℕ × ℕ)) → Holds (send_over m c z k) → x c z.0 k ≡ true → (a c z.1.0 (k - 1) ≡ true) × (a c z.1.1 (k - 1) ≡ false) × (a c z.1.1 k ≡ true)
   three c k (e, link) h t =
@@ -99,16 +101,16 @@ module _ (m : SendMapValue) (pre post : PlacementValue) (values : List Bool) (al
   pub sending_says : Moves m pre post a x
   sending_says = record {
     starts = λ c n cl nl.
-        let h = at_pair (λ (c, n). clause_holds values ((if holds pre (c, n) then arrival m c n 0 else negation (arrival m c n 0)) ∷ []) ≡ true) (map_passes (clause_holds values) (λ (c, n). (if holds pre (c, n) then arrival m c n 0 else negation (arrival m c n 0)) ∷ []) (pairs_of m) parts.0) c n cl nl in
+        let h = at_pair (λ (c, n). clause_holds values ((if holds pre (c, n) then arrival m c n 0 else negation (arrival m c n 0)) ∷ []) ≡ true) (map_passes (clause_holds values) (λ (c, n). (if holds pre (c, n) then arrival m c n 0 else negation (arrival m c n 0)) ∷ []) (all_pairs m.chunks m.nodes) parts.0) c n cl nl in
         starts_as (holds pre (c, n)) (arrival m c n 0) h;
     keeps = λ c n k cl nl step t.
         said_if values (arrival m c n (k - 1)) (arrival m c n k)
         (at_step (λ k. clause_holds values (negation (arrival m c n (k - 1)) ∷ arrival m c n k ∷ []) ≡ true) (map_passes (clause_holds values) (λ k. negation (arrival m c n (k - 1)) ∷ arrival m c n k ∷ []) (steps_of m)
-        (at_pair (λ (c, n). Holds (map (λ k. negation (arrival m c n (k - 1)) ∷ arrival m c n k ∷ []) (steps_of m))) (flat_passes (clause_holds values) (λ (c, n). map (λ k. negation (arrival m c n (k - 1)) ∷ arrival m c n k ∷ []) (steps_of m)) (pairs_of m) parts.1) c n cl nl)) k step) t;
+        (at_pair (λ (c, n). Holds (map (λ k. negation (arrival m c n (k - 1)) ∷ arrival m c n k ∷ []) (steps_of m))) (flat_passes (clause_holds values) (λ (c, n). map (λ k. negation (arrival m c n (k - 1)) ∷ arrival m c n k ∷ []) (steps_of m)) (all_pairs m.chunks m.nodes) parts.1) c n cl nl)) k step) t;
     ends = λ c n cl nl h.
-        let here : list_any (same_pair (c, n)) (filter (holds post) (pairs_of m)) ≡ true =
-        filter_any (holds post) (same_pair (c, n)) (pairs_of m) (λ p same. ap (holds post) (sym (pair_is (c, n) p same)) ∙ h) (among_all m.chunks m.nodes (c, n) cl nl) in
-        let found = member (same_pair (c, n)) (λ (c, n). clause_holds values (arrival m c n m.steps ∷ []) ≡ true) (filter (holds post) (pairs_of m)) (map_passes (clause_holds values) (λ (c, n). arrival m c n m.steps ∷ []) (filter (holds post) (pairs_of m)) parts.2) here in
+        let here : list_any (same_pair (c, n)) (filter (holds post) (all_pairs m.chunks m.nodes)) ≡ true =
+        filter_any (holds post) (same_pair (c, n)) (all_pairs m.chunks m.nodes) (λ p same. ap (holds post) (sym (pair_is (c, n) p same)) ∙ h) (among_all m.chunks m.nodes (c, n) cl nl) in
+        let found = member (same_pair (c, n)) (λ (c, n). clause_holds values (arrival m c n m.steps ∷ []) ≡ true) (filter (holds post) (all_pairs m.chunks m.nodes)) (map_passes (clause_holds values) (λ (c, n). arrival m c n m.steps ∷ []) (filter (holds post) (all_pairs m.chunks m.nodes)) parts.2) here in
         said_one values (arrival m c n m.steps) (subst (λ (p : ℕ × ℕ). clause_holds values (arrival m p.0 p.1 m.steps ∷ []) ≡ true) (sym (pair_is (c, n) found.0 found.1)) found.3);
     sender = λ c k z cl at step t. (three c k z (over c k z cl at step) t).0;
     receiver = λ c k z cl at step t. (three c k z (over c k z cl at step) t).1;
@@ -116,14 +118,14 @@ module _ (m : SendMapValue) (pre post : PlacementValue) (values : List Bool) (al
     sent = λ c n k cl nl step has lacks.
         let clause = at_step (λ k. clause_holds values (arrival m c n (k - 1) ∷ negation (arrival m c n k) ∷ sends_into m c n k) ≡ true)
         (map_passes (clause_holds values) (λ k. arrival m c n (k - 1) ∷ negation (arrival m c n k) ∷ sends_into m c n k) (steps_of m)
-        (at_pair (λ p. Holds (node_arrives m p)) (flat_passes (clause_holds values) (node_arrives m) (pairs_of m) parts.4) c n cl nl)) k step in
+        (at_pair (λ p. Holds (node_arrives m p)) (flat_passes (clause_holds values) (node_arrives m) (all_pairs m.chunks m.nodes) parts.4) c n cl nl)) k step in
         let rest = ⊎_elim (λ t. absurd (false≢true (sym lacks ∙ t))) (λ r. r) (or_cases (a c n (k - 1)) (clause_holds values (negation (arrival m c n k) ∷ sends_into m c n k)) clause) in
         let some : clause_holds values (sends_into m c n k) ≡ true =
         ⊎_elim (λ t. absurd (false≢true (sym (said_not values (arrival m c n k) t) ∙ has))) (λ r. r) (or_cases (is_true values (negation (arrival m c n k))) (clause_holds values (sends_into m c n k)) rest) in
         sym (any_alike (is_true values) (λ z. x c z.0 k) (λ z. Unit {0}) (λ (e, link). sent m c e k) (links_into m n) (λ z _. refl) (λ i d low. tt)) ∙ some;
     once = λ c n k cl nl step.
         let h = at_step (λ k. Holds (at_most_one_of (sends_into m c n k))) (flat_passes (clause_holds values) (λ k. at_most_one_of (sends_into m c n k)) (steps_of m)
-        (at_pair (λ (c, n). Holds (flat_map (λ k. at_most_one_of (sends_into m c n k)) (steps_of m))) (flat_passes (clause_holds values) (λ (c, n). flat_map (λ k. at_most_one_of (sends_into m c n k)) (steps_of m)) (pairs_of m) parts.5) c n cl nl)) k step in
+        (at_pair (λ (c, n). Holds (flat_map (λ k. at_most_one_of (sends_into m c n k)) (steps_of m))) (flat_passes (clause_holds values) (λ (c, n). flat_map (λ k. at_most_one_of (sends_into m c n k)) (steps_of m)) (all_pairs m.chunks m.nodes) parts.5) c n cl nl)) k step in
         let same = count_alike (is_true values) (λ z. x c z.0 k) (λ z. Unit {0}) (λ (e, link). sent m c e k) (links_into m n) (λ z _. refl) (λ i d low. tt) in
         omega (arith, same, (pairs_decide values (sends_into m c n k)).0 h);
   }

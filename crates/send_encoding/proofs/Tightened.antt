@@ -1,12 +1,13 @@
 -- Where tables move the chunks, a schedule that tells the sends in ascending order wastes none of them, and delivers.
 use Rattle.std.proofs.Common.{◌≡◌, ℕ, zero, suc, ◌+◌, ◌-◌, ◌<◌, ◌≤◌, Bool, true, false, cond, List, [], ◌∷◌, length, get_or, eqb, refl, sym, ap, ◌∙◌, subst, ⊎_elim, arith, ◌&&◌, count_by, All, AllPairs}
+use Rattle.std.specs.List.{enumerate_from}
 use Rattle.std.{specs.List.list_any, proofs.lemmas.List.{Elements.All-filter, Folds.list_any_at, Sums.sum_by-cons}}
 use Rattle.std.proofs.lemmas.Bool.{false≢true, false_from_ne_true, and_parts, and_from, or_left, or_right, or_cases, cases_lt, eqb-true, eq-eqb}
 use Rattle.std.proofs.lemmas.List.FromFn.{length-enumerate_from, get_or-enumerate_from}
 use Rattle.schedule.specs.{declared.hop.Hop.Hop, Placed.{PlacementValue, IsPlacement, holds, same_pair, all_pairs}, Sends.{ScheduleValue, IsStep, hop_before}}
 use Rattle.schedule.specs.{Running.after, Solving.Tight}
 use Rattle.schedule.proofs.{Placing.{IsBelow, pair_is, pair_itself, all_below}, Steps.steps_ordered}
-use Rattle.send_encoding.specs.{Variables.{SendMapValue, links_into, numbered_links}, Moving.{IsLinkOf, JoinsNodes, Moves}, Telling.Tells}
+use Rattle.send_encoding.specs.{Variables.{SendMapValue, links_into}, Moving.{IsLinkOf, JoinsNodes, Moves}, Telling.Tells}
 use Rattle.send_encoding.proofs.{Everywhere.by_recursion, Members.{member, filter_any}, Running.run_is, Ascending.never_twice}
 
 module _ {X : Type 0} (p q r : X → Bool) where
@@ -88,11 +89,11 @@ module _ (m : SendMapValue) (pre post : PlacementValue) (a x : ℕ → ℕ → �
   listed_into : (z : ℕ × (ℕ × ℕ)) (n : ℕ) → IsLinkOf m z → z.1.1 ≡ n → list_any (is_it z) (links_into m n) ≡ true
   listed_into z n at node =
       let zero_more : 0 + z.0 ≡ z.0 = omega arith in
-      let is : get_or (numbered_links m) z.0 (0, (0, 0)) ≡ z = get_or-enumerate_from 0 m.links z.0 (0, (0, 0)) at.number ∙ ap (λ n. (n, get_or m.links z.0 (0, 0))) zero_more ∙ ap (λ l. (z.0, l)) (sym at.is) in
+      let is : get_or (enumerate_from 0 m.links) z.0 (0, (0, 0)) ≡ z = get_or-enumerate_from 0 m.links z.0 (0, (0, 0)) at.number ∙ ap (λ n. (n, get_or m.links z.0 (0, 0))) zero_more ∙ ap (λ l. (z.0, l)) (sym at.is) in
       let itself : is_it z z ≡ true = and_from (eqb z.0 z.0) (same_pair z.1 z.1) (eq-eqb z.0 z.0 refl) (pair_itself z.1) in
-      filter_any (λ y. eqb y.1.1 n) (is_it z) (numbered_links m)
+      filter_any (λ y. eqb y.1.1 n) (is_it z) (enumerate_from 0 m.links)
       (λ y h. eq-eqb y.1.1 n (ap (λ l. l.1) (pair_is y.1 z.1 (and_parts (eqb y.0 z.0) (same_pair y.1 z.1) h).1) ∙ node))
-      (list_any_at (is_it z) (numbered_links m) z.0 (0, (0, 0)) (omega (arith, at.number, length-enumerate_from 0 m.links)) (ap (is_it z) is ∙ itself))
+      (list_any_at (is_it z) (enumerate_from 0 m.links) z.0 (0, (0, 0)) (omega (arith, at.number, length-enumerate_from 0 m.links)) (ap (is_it z) is ∙ itself))
 
   -- two links that bring a chunk to a node at a step are one
   one_link : (c n k : ℕ) (y z : ℕ × (ℕ × ℕ)) → c < m.chunks → n < m.nodes → IsStep m.steps k → IsLinkOf m y → IsLinkOf m z → y.1.1 ≡ n → z.1.1 ≡ n → x c y.0 k ≡ true → x c z.0 k ≡ true → y.1 ≡ z.1

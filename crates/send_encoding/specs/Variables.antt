@@ -1,7 +1,7 @@
 -- The variables of arrivals and sends, in the order of their numbers (Cai et al., PPoPP 2021, section on the encoding; the numbers are this project's own).
 use Rattle.std.specs.Prelude.{ℕ, ◌+◌, ◌-◌, ◌*◌, ◌/◌, ◌%◌, ◌==◌, ◌<◌, ◌≤◌, List, length, map, filter, All}
 use Rattle.std.specs.List.{range_with_len, enumerate_from, position_or_len}
-use Rattle.schedule.specs.{Links.{TopologyValue, IsBelow, usable_links}, Placed.{PlacementValue, all_pairs, same_pair}}
+use Rattle.schedule.specs.{Links.{TopologyValue, IsBelow, usable_links}, Placed.{PlacementValue, same_pair}}
 use Rattle.cnf_formula.specs.Literals.{LitValue, yes}
 
 -- so many chunks and nodes, the usable links in ascending order, and so many steps
@@ -15,22 +15,12 @@ abbrev pub map_of : TopologyValue → PlacementValue → ℕ → SendMapValue
 map_of t pre steps = record { chunks = pre.chunks; nodes = t.nodes; links = usable_links t; steps = steps }
 
 -- chunks, nodes and links are numbered from 0, and steps from 1
-abbrev pub chunks_of : SendMapValue → List ℕ
-chunks_of m = range_with_len 0 m.chunks
-
 abbrev pub steps_of : SendMapValue → List ℕ
 steps_of m = range_with_len 1 m.steps
 
--- each chunk with each node, by chunk
-abbrev pub pairs_of : SendMapValue → List (ℕ × ℕ)
-pairs_of m = all_pairs m.chunks m.nodes
-
--- the links with their numbers, and those of them that lead into a node
-abbrev pub numbered_links : SendMapValue → List (ℕ × (ℕ × ℕ))
-numbered_links m = enumerate_from 0 m.links
-
+-- the links that lead into a node, with their numbers
 abbrev pub links_into : SendMapValue → ℕ → List (ℕ × (ℕ × ℕ))
-links_into m node = filter (λ (e, link). link.1 == node) (numbered_links m)
+links_into m node = filter (λ (e, link). link.1 == node) (enumerate_from 0 m.links)
 
 -- the node has the chunk after the step; step 0 is the start
 abbrev pub arrival : SendMapValue → ℕ → ℕ → ℕ → LitValue

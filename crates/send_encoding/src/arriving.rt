@@ -1,10 +1,11 @@
 //! The clauses that tie sends and arrivals.
 
-ghost use Rattle.std.specs.{Prelude.{◌≡◌, ◌+◌, ◌<◌, ◌≤◌, ◌-◌, ◌∷◌, ◌++◌, [], length, OnOk}, List.{flat_map, range_with_len}};
+ghost use Rattle.std.specs.{Prelude.{◌≡◌, ◌+◌, ◌<◌, ◌≤◌, ◌-◌, ◌∷◌, ◌++◌, [], length, OnOk}, List.{enumerate_from, flat_map, range_with_len}};
 ghost use Rattle.schedule.specs.{Links.IsBelow, Sends.IsStep};
 ghost use Rattle.cnf_formula.specs.{Literals.negation, Formulas.with_clauses};
-ghost use Rattle.send_encoding.specs.Variables.{arrival, arrivals, sends, steps_of, numbered_links};
-ghost use Rattle.send_encoding.specs.Sending.{send_over, sends_arrive, sends_into, node_arrives, arrives_by_sends};
+ghost use Rattle.send_encoding.specs.Variables.{arrival, arrivals, sends, steps_of};
+ghost use Rattle.send_encoding.specs.inner.Parts.{node_arrives};
+ghost use Rattle.send_encoding.specs.Sending.{send_over, sends_arrive, sends_into, arrives_by_sends};
 
 use crate::OutOfMemory;
 use crate::send_map::SendMap;
@@ -57,7 +58,7 @@ fn sends_over(
 fn sends_of_chunk(formula: &mut Formula, map: &SendMap, chunk: u16) -> Result<(), OutOfMemory>
     requires vars { arrivals map.now + sends map.now ≤ formula.old.vars }
     requires chunk { chunk < map.now.chunks }
-    ensures { OnOk result (formula.new ≡ with_clauses formula.old (flat_map (λ link. flat_map (send_over map.now chunk link) (steps_of map.now)) (numbered_links map.now))) }
+    ensures { OnOk result (formula.new ≡ with_clauses formula.old (flat_map (λ link. flat_map (send_over map.now chunk link) (steps_of map.now)) (enumerate_from 0 map.now.links))) }
 {
     for (number, link) in map.links().iter().enumerate() {
         sends_over(formula, map, chunk, number, *link)?;

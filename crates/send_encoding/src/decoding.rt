@@ -1,8 +1,8 @@
 //! The sends that an assignment says.
 
-ghost use Rattle.std.specs.{Prelude.{◌≡◌, ◌+◌, ◌<◌, ◌≤◌, ◌++◌, length, OnOk, IfOk}, List.flat_map};
+ghost use Rattle.std.specs.{Prelude.{◌≡◌, ◌+◌, ◌<◌, ◌≤◌, ◌++◌, length, OnOk, IfOk}, List.{range_with_len, flat_map, enumerate_from}};
 ghost use Rattle.schedule.specs.{declared.hop.Hop.Hop, Sends.IsStep};
-ghost use Rattle.send_encoding.specs.{Variables.{arrivals, sends, chunks_of, numbered_links}, Sent.{sends_of, hop_over}};
+ghost use Rattle.send_encoding.specs.{Variables.{arrivals, sends}, Sent.{sends_of, hop_over}};
 
 use crate::OutOfMemory;
 use crate::send_map::SendMap;
@@ -51,7 +51,7 @@ fn push_sends_of(
     requires vars { arrivals map.now + sends map.now ≤ length assignment.now }
     requires chunk { chunk < map.now.chunks }
     requires step { IsStep map.now.steps step }
-    ensures { OnOk result (hops.new.items ≡ hops.old.items ++ flat_map (hop_over map.now assignment.now step chunk) (numbered_links map.now)) }
+    ensures { OnOk result (hops.new.items ≡ hops.old.items ++ flat_map (hop_over map.now assignment.now step chunk) (enumerate_from 0 map.now.links)) }
 {
     for (number, link) in map.links().iter().enumerate() {
         push_send(hops, map, assignment, step, chunk, number, *link)?;
@@ -68,7 +68,7 @@ fn push_sends_at(
 ) -> Result<(), OutOfMemory>
     requires vars { arrivals map.now + sends map.now ≤ length assignment.now }
     requires step { IsStep map.now.steps step }
-    ensures { OnOk result (hops.new.items ≡ hops.old.items ++ flat_map (λ c. flat_map (hop_over map.now assignment.now step c) (numbered_links map.now)) (chunks_of map.now)) }
+    ensures { OnOk result (hops.new.items ≡ hops.old.items ++ flat_map (λ c. flat_map (hop_over map.now assignment.now step c) (enumerate_from 0 map.now.links)) (range_with_len 0 map.now.chunks)) }
 {
     for chunk in 0..map.chunks() {
         push_sends_of(hops, map, assignment, step, chunk)?;

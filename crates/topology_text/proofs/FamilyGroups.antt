@@ -1,13 +1,13 @@
 -- The groups of families.
-use Rattle.std.proofs.Common.{◌≡◌, ◌≢◌, ℕ, zero, suc, ◌+◌, ◌*◌, ◌/◌, ◌%◌, ◌<◌, ◌≤◌, Bool, true, false, ◌&&◌, cond, eqb, not, List, [], ◌∷◌, ◌++◌, map, length, get_or, refl, sym, ap, ◌∙◌, subst, append_assoc, arith}
-use Rattle.std.{specs.List.{All, filter, range_with_len}, proofs.lemmas.{Bool.{eq-eqb, ne_eqb}, Nat.{div-mul-add, mod-mul-add, mul-le}}}
+use Rattle.std.proofs.Common.{◌≡◌, ◌≢◌, ℕ, zero, suc, ◌+◌, ◌*◌, ◌/◌, ◌%◌, ◌<◌, ◌≤◌, Bool, true, false, ◌&&◌, ◌||◌, cond, eqb, not, List, [], ◌∷◌, ◌++◌, map, length, get_or, refl, sym, ap, ◌∙◌, subst, append_assoc, arith}
+use Rattle.std.{specs.List.{All, filter, list_any, range_with_len}, proofs.lemmas.{Bool.{eq-eqb, ne_eqb}, Nat.{div-mul-add, mod-mul-add, mul-le}}}
 use Rattle.std.proofs.lemmas.List.{length-append, length-map, Elements.{All-nil, All-cons, All-append, All-map, All-filter, All-weaker, All-from_get_or}}
 use Rattle.std.proofs.lemmas.List.FromFn.{get_or-range_with_len, map-range_with_len_more, length-map-range_with_len, length-range_with_len}
 use Rattle.std.proofs.lemmas.List.Kept.{AllPairs-filter}
 use Rattle.list_laws.proofs.Tests.{few_kept}
-use Rattle.schedule.specs.Links.{GroupValue, IsLink, IsBelow, IsGroup}
-use Rattle.topology_text.specs.declared.family_kind.FamilyKind.{FamilyKind, TheVariants.{Line, Ring, Complete, Cube, Shared, Torus, Mesh, Switch, Boxes}}
-use Rattle.topology_text.specs.Family.{is_allowed, is_family_link, pairs, family_links, one_wide, single, is_double, mesh_group, box_of, is_inside, port_out, port_in, cable, family_groups}
+use Rattle.schedule.specs.{Links.{GroupValue, IsLink, IsBelow, IsGroup, turned}, Placed.same_pair}
+use Rattle.topology_text.specs.declared.family_kind.FamilyKind.{FamilyKind, TheVariants.{Complete, Shared, Mesh, Switch, Boxes}}
+use Rattle.topology_text.specs.Family.{is_allowed, is_family_link, pairs, family_links, one_wide, single, double_ring, mesh_group, is_inside, port, cable, family_groups}
 use Rattle.topology_text.proofs.{Groups.Groups, FamilyLinks.{at_three, within, length-pairs, pair_at, FamilyLinks, family_links_are}}
 
 -- ---- links that share a group
@@ -67,7 +67,7 @@ single_is_group link apart = alone_is_group link 1 (omega arith) (omega arith) a
 
 pub mesh_is_group : (link : ℕ × ℕ) → IsLink link → IsGroup (mesh_group link)
 mesh_is_group link apart =
-    elim (is_double link) as (λ b. IsGroup (record { links = link ∷ []; width = cond b 2 1 })) [
+    elim (list_any (same_pair link) double_ring || list_any (same_pair (turned link)) double_ring) as (λ b. IsGroup (record { links = link ∷ []; width = cond b 2 1 })) [
       | true ↦ alone_is_group link 2 (omega arith) (omega arith) apart
       | false ↦ alone_is_group link 1 (omega arith) (omega arith) apart
     ]
@@ -82,12 +82,12 @@ in_some : (size node : ℕ) → 2 ≤ size → node < size → 0 < length (filte
 in_some size zero large low = some_pass Switch size 1 0 (λ link. eqb link.1 0) (omega arith) (omega arith) refl refl
 in_some size (suc node) large low = some_pass Switch size 0 (suc node) (λ link. eqb link.1 (suc node)) (omega arith) low (ap not (ne_eqb 0 (suc node) (λ e. omega arith))) (eq-eqb (suc node) (suc node) refl)
 
-pub ports_out : (size : ℕ) → is_allowed Switch size ≡ true → (node : ℕ) → node < size → IsGroup (port_out (family_links Switch size) node)
+pub ports_out : (size : ℕ) → is_allowed Switch size ≡ true → (node : ℕ) → node < size → IsGroup (port (λ link. link.0) (family_links Switch size) node)
 ports_out size ok node low =
     let (large, few) = within 2 16 size ok in
     part_is_group size (family_links Switch size) (λ link. eqb link.0 node) (family_links_are Switch size ok) (out_some size node large low)
 
-pub ports_in : (size : ℕ) → is_allowed Switch size ≡ true → (node : ℕ) → node < size → IsGroup (port_in (family_links Switch size) node)
+pub ports_in : (size : ℕ) → is_allowed Switch size ≡ true → (node : ℕ) → node < size → IsGroup (port (λ link. link.1) (family_links Switch size) node)
 ports_in size ok node low =
     let (large, few) = within 2 16 size ok in
     part_is_group size (family_links Switch size) (λ link. eqb link.1 node) (family_links_are Switch size ok) (in_some size node large low)
@@ -117,7 +117,7 @@ pub cables_allowed : (size : ℕ) → is_allowed Boxes size ≡ true → is_allo
 cables_allowed size ok = at_three (λ s. is_allowed Complete (s / 4) ≡ true) 8 12 16 size refl refl refl ok
 
 -- the first nodes of two boxes are joined by their cable
-cable_some : (size : ℕ) (boxes : ℕ × ℕ) → IsLink boxes → IsBelow (size / 4) boxes → 0 < length (filter (λ link. eqb (box_of link.0) boxes.0 && eqb (box_of link.1) boxes.1) (family_links Boxes size))
+cable_some : (size : ℕ) (boxes : ℕ × ℕ) → IsLink boxes → IsBelow (size / 4) boxes → 0 < length (filter (λ link. eqb (link.0 / 4) boxes.0 && eqb (link.1 / 4) boxes.1) (family_links Boxes size))
 cable_some size boxes link below =
     let a = boxes.0 in
     let b = boxes.1 in
@@ -125,12 +125,12 @@ cable_some size boxes link below =
     let high = below.to in
     let from : a * 4 / 4 ≡ a = omega arith in
     let to : b * 4 / 4 ≡ b = omega arith in
-    some_pass Boxes size (a * 4) (b * 4) (λ link. eqb (box_of link.0) a && eqb (box_of link.1) b) (omega (arith, low)) (omega (arith, high)) (ap not (ne_eqb (a * 4) (b * 4) (λ e. link.apart (omega (arith, e))))) (rw (from, to) (rw (eq-eqb a a refl, eq-eqb b b refl) refl))
+    some_pass Boxes size (a * 4) (b * 4) (λ link. eqb (link.0 / 4) a && eqb (link.1 / 4) b) (omega (arith, low)) (omega (arith, high)) (ap not (ne_eqb (a * 4) (b * 4) (λ e. link.apart (omega (arith, e))))) (rw (from, to) (rw (eq-eqb a a refl, eq-eqb b b refl) refl))
 
 pub cables_are : (size : ℕ) → is_allowed Boxes size ≡ true → All (λ boxes. IsGroup (cable (family_links Boxes size) boxes)) (family_links Complete (size / 4))
 cables_are size ok =
     let few = family_links_are Complete (size / 4) (cables_allowed size ok) in
-    λ i d h. part_is_group size (family_links Boxes size) (λ link. eqb (box_of link.0) (get_or (family_links Complete (size / 4)) i d).0 && eqb (box_of link.1) (get_or (family_links Complete (size / 4)) i d).1) (family_links_are Boxes size ok) (cable_some size (get_or (family_links Complete (size / 4)) i d) (few.each i d h) (few.below i d h))
+    λ i d h. part_is_group size (family_links Boxes size) (λ link. eqb (link.0 / 4) (get_or (family_links Complete (size / 4)) i d).0 && eqb (link.1 / 4) (get_or (family_links Complete (size / 4)) i d).1) (family_links_are Boxes size ok) (cable_some size (get_or (family_links Complete (size / 4)) i d) (few.each i d h) (few.below i d h))
 
 -- ---- the groups of a family
 
@@ -155,11 +155,11 @@ ports_are size ok =
     let links = family_links Switch size in
     let nodes = range_with_len 0 size in
     let are = family_links_are Switch size ok in
-    let outs = map (port_out links) nodes in
-    let ins = map (port_in links) nodes in
+    let outs = map (port (λ link. link.0) links) nodes in
+    let ins = map (port (λ link. link.1) links) nodes in
     record {
-      few = omega (arith, length-append outs ins, length-map-range_with_len (port_out links) 0 size, length-map-range_with_len (port_in links) 0 size, small);
-      each = All-append IsGroup outs ins (All-map IsGroup (port_out links) nodes (at_nodes (λ node. IsGroup (port_out links node)) size (ports_out size ok))) (All-map IsGroup (port_in links) nodes (at_nodes (λ node. IsGroup (port_in links node)) size (ports_in size ok)));
+      few = omega (arith, length-append outs ins, length-map-range_with_len (port (λ link. link.0) links) 0 size, length-map-range_with_len (port (λ link. link.1) links) 0 size, small);
+      each = All-append IsGroup outs ins (All-map IsGroup (port (λ link. link.0) links) nodes (at_nodes (λ node. IsGroup (port (λ link. link.0) links node)) size (ports_out size ok))) (All-map IsGroup (port (λ link. link.1) links) nodes (at_nodes (λ node. IsGroup (port (λ link. link.1) links node)) size (ports_in size ok)));
       below = All-append (λ g. All (IsBelow size) g.links) outs ins (parts_below size links (λ node link. eqb link.0 node) nodes are) (parts_below size links (λ node link. eqb link.1 node) nodes are);
     }
 
@@ -186,15 +186,10 @@ boxes_are size ok =
     record {
       few = few_boxes size ok;
       each = All-append IsGroup (map single (filter is_inside links)) (map (cable links) boxes) inside.each (All-map IsGroup (cable links) boxes (cables_are size ok));
-      below = All-append (λ g. All (IsBelow size) g.links) (map single (filter is_inside links)) (map (cable links) boxes) inside.below (parts_below size links (λ ends link. eqb (box_of link.0) ends.0 && eqb (box_of link.1) ends.1) boxes (family_links_are Boxes size ok));
+      below = All-append (λ g. All (IsBelow size) g.links) (map single (filter is_inside links)) (map (cable links) boxes) inside.below (parts_below size links (λ ends link. eqb (link.0 / 4) ends.0 && eqb (link.1 / 4) ends.1) boxes (family_links_are Boxes size ok));
     }
 
 pub family_groups_are : (kind : FamilyKind) (size : ℕ) → is_allowed kind size ≡ true → Groups size (family_groups kind size)
-family_groups_are Line size ok = singles size (family_links Line size) (family_links_are Line size ok)
-family_groups_are Ring size ok = singles size (family_links Ring size) (family_links_are Ring size ok)
-family_groups_are Complete size ok = singles size (family_links Complete size) (family_links_are Complete size ok)
-family_groups_are Cube size ok = singles size (family_links Cube size) (family_links_are Cube size ok)
-family_groups_are Torus size ok = singles size (family_links Torus size) (family_links_are Torus size ok)
 family_groups_are Mesh size ok = alones size (family_links Mesh size) mesh_group (family_links_are Mesh size ok) (λ l. refl) mesh_is_group
 family_groups_are Switch size ok = ports_are size ok
 family_groups_are Boxes size ok = boxes_are size ok
@@ -205,3 +200,4 @@ family_groups_are Shared size ok =
       each = All-cons IsGroup (one_wide (family_links Shared size)) [] (shared_is_group size ok) (All-nil IsGroup);
       below = All-cons (λ g. All (IsBelow size) g.links) (one_wide (family_links Shared size)) [] links.below (All-nil (λ g. All (IsBelow size) g.links));
     }
+family_groups_are kind size ok = singles size (family_links kind size) (family_links_are kind size ok)

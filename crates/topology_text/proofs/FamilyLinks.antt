@@ -1,6 +1,6 @@
 -- The sizes of families and their links.
-use Rattle.std.proofs.Common.{◌≡◌, ◌≢◌, ℕ, ◌+◌, ◌*◌, ◌/◌, ◌%◌, ◌<◌, ◌≤◌, true, false, ◌&&◌, ◌||◌, cond, eqb, leb, not, List, [], ◌∷◌, ◌++◌, map, length, get_or, ◌⊎◌, inl, inr, refl, sym, ap, ◌∙◌, subst, arith, bit_xor}
-use Rattle.std.{specs.{Int.Bits.xor_self, List.{All, filter, list_any, range_with_len}}, proofs.lemmas.List.{append-nil, length-map, Kept.AllPairs-filter}}
+use Rattle.std.proofs.Common.{◌≡◌, ◌≢◌, ℕ, ◌+◌, ◌*◌, ◌/◌, ◌%◌, ◌<◌, ◌≤◌, Bool, true, false, ◌&&◌, ◌||◌, cond, eqb, leb, not, List, [], ◌∷◌, ◌++◌, map, length, get_or, ◌⊎◌, inl, inr, refl, sym, ap, ◌∙◌, subst, arith, bit_xor}
+use Rattle.std.{specs.{Int.Bits.xor_self, List.{All, filter, list_any, range_with_len}}, proofs.lemmas.List.{length-map, Kept.AllPairs-filter}}
 use Rattle.std.proofs.Math.Nat.{div-lt_iff_lt-mul, mod-eq-sub-div-mul, div-mul-le_self, mod-eq_of_lt, mod_self, mul-le-mul_left}
 use Rattle.std.proofs.lemmas.Bool.{cases_lt, and_parts, or_cases, leb-true, eqb-true, eqb-false, not-true}
 use Rattle.std.proofs.lemmas.List.Elements.{All-filter, All-from_get_or, filter_passes}
@@ -9,7 +9,7 @@ use Rattle.list_laws.proofs.Tests.{few_kept}
 use Rattle.text_lines.proofs.Distinct.{AreDistinct}
 use Rattle.schedule.specs.Links.{IsLink, IsBelow}
 use Rattle.topology_text.specs.declared.family_kind.FamilyKind.{FamilyKind, TheVariants.{Line, Ring, Complete, Cube, Shared, Torus, Mesh, Switch, Boxes}}
-use Rattle.topology_text.specs.Family.{is_allowed, are_next, rows, columns, is_torus_link, is_inside, place_in_box, is_family_link, pairs, family_links}
+use Rattle.topology_text.specs.Family.{is_allowed, are_next, rows, columns, is_torus_link, is_inside, is_family_link, pairs, family_links}
 
 -- ---- sizes
 
@@ -67,15 +67,11 @@ torus_grid size e = at_three IsGrid 9 12 16 size (record { tall = omega arith; w
 
 -- ---- links
 
-pub link_kept : (kind : FamilyKind) (size n : ℕ) → is_family_link kind size (n / size, n % size) ≡ true → filter (is_family_link kind size) (map (λ k. (k / size, k % size)) (range_with_len 0 (n + 1))) ≡ filter (is_family_link kind size) (map (λ k. (k / size, k % size)) (range_with_len 0 n)) ++ (n / size, n % size) ∷ []
-link_kept kind size n passes =
+-- the links up to one pair more
+pub links_more : (kind : FamilyKind) (size n : ℕ) (b : Bool) → is_family_link kind size (n / size, n % size) ≡ b → filter (is_family_link kind size) (map (λ k. (k / size, k % size)) (range_with_len 0 (n + 1))) ≡ filter (is_family_link kind size) (map (λ k. (k / size, k % size)) (range_with_len 0 n)) ++ cond b ((n / size, n % size) ∷ []) []
+links_more kind size n b test =
     let before : List (ℕ × ℕ) = filter (is_family_link kind size) (map (λ k. (k / size, k % size)) (range_with_len 0 n)) in
-    filter_of_map_range_with_len_more (is_family_link kind size) (λ k. (k / size, k % size)) 0 n n (omega arith) ∙ ap (λ t. before ++ cond t ((n / size, n % size) ∷ []) []) passes
-
-pub link_skipped : (kind : FamilyKind) (size n : ℕ) → is_family_link kind size (n / size, n % size) ≡ false → filter (is_family_link kind size) (map (λ k. (k / size, k % size)) (range_with_len 0 (n + 1))) ≡ filter (is_family_link kind size) (map (λ k. (k / size, k % size)) (range_with_len 0 n))
-link_skipped kind size n fails =
-    let before : List (ℕ × ℕ) = filter (is_family_link kind size) (map (λ k. (k / size, k % size)) (range_with_len 0 n)) in
-    filter_of_map_range_with_len_more (is_family_link kind size) (λ k. (k / size, k % size)) 0 n n (omega arith) ∙ ap (λ t. before ++ cond t ((n / size, n % size) ∷ []) []) fails ∙ append-nil before
+    filter_of_map_range_with_len_more (is_family_link kind size) (λ k. (k / size, k % size)) 0 n n (omega arith) ∙ ap (λ t. before ++ cond t ((n / size, n % size) ∷ []) []) test
 
 pub pair_at : (size i : ℕ) (d : ℕ × ℕ) → i < size * size → get_or (pairs size) i d ≡ (i / size, i % size)
 pair_at size i d within = get_or-map-range_with_len (λ n. (n / size, n % size)) 0 (size * size) i i d within (omega arith)
@@ -153,18 +149,15 @@ torus_differs tall wide a b rows_some columns_some low high t same =
 differs : (kind : FamilyKind) (size a b : ℕ) → is_allowed kind size ≡ true → a < size → b < size → is_family_link kind size (a, b) ≡ true → a ≢ b
 differs Line size a b ok low high t = next_differs a b t
 differs Ring size a b ok low high t = let (large, few) = within 3 16 size ok in ring_differs size a b large low high t
-differs Complete size a b ok low high t = eqb-false a b (not-true (eqb a b) t)
 differs Cube size a b ok low high t = cube_differs a b t
-differs Shared size a b ok low high t = eqb-false a b (not-true (eqb a b) t)
 differs Torus size a b ok low high t =
     let grid = torus_grid size ok in
     let filled = grid.filled in
     torus_differs (rows size) (columns size) a b grid.tall grid.wide (omega (arith, filled, low)) (omega (arith, filled, high)) t
 differs Mesh size a b ok low high t =
-    let (apart, near) = and_parts (not (eqb a b)) (is_inside (a, b) || eqb (place_in_box a) (place_in_box b)) t in
+    let (apart, near) = and_parts (not (eqb a b)) (is_inside (a, b) || eqb (a % 4) (b % 4)) t in
     eqb-false a b (not-true (eqb a b) apart)
-differs Switch size a b ok low high t = eqb-false a b (not-true (eqb a b) t)
-differs Boxes size a b ok low high t = eqb-false a b (not-true (eqb a b) t)
+differs kind size a b ok low high t = eqb-false a b (not-true (eqb a b) t)
 
 -- the links of a family
 pub record FamilyLinks (size : ℕ) (links : List (ℕ × ℕ)) : Type 0 where

@@ -1,7 +1,7 @@
 -- Where the checks of a topology text fail, some topology has the lines before the one that is blamed.
 use Rattle.std.proofs.Common.{◌≡◌, ℕ, zero, suc, ◌+◌, ◌≤◌, Bool, true, false, List, [], ◌∷◌, ◌++◌, map, length, Option, None, Some, Result, Ok, Err, inl, inr, refl, sym, ap, ◌∙◌, subst, append_assoc, arith, codes, if◌then◌else◌, IfSome}
 use Rattle.std.{specs.Option.is_some, proofs.lemmas.List.{append-nil, length-map, Elements.{All-nil, All-cons}}}
-use Rattle.text_lines.specs.{Text.{Row, Place}, Check.{◌>>=◌, at_line, first, line_part}}
+use Rattle.text_lines.specs.{Text.{Row, Place}, Check.{◌>>=◌, first, line_part}}
 use Rattle.text_lines.proofs.{Checks.{bind_err, part_ok, part_err_at, line_err, at_line_ok}, Rows.row_of}
 use Rattle.schedule.specs.Links.{GroupValue}
 use Rattle.collective_spec.specs.Patterns.{PatternValue, IsPattern}

@@ -3,9 +3,9 @@ use Rattle.std.proofs.Common.{◌≡◌, ◌≢◌, ℕ, ◌+◌, ◌-◌, ◌�
 use Rattle.std.proofs.lemmas.List.{append-nil, length-map}
 use Rattle.text_lines.{specs.{Text.{Place, start}, Check.line_part}, proofs.{Checks.{bind_err, part_err_at}, Rows.row_of}}
 use Rattle.topology_text.specs.{declared.fault.{TopologyCode.{TopologyCode, TheVariants.OutOfMemory}, TopologyFault.TopologyFault}, Answer.Answers}
-use Rattle.topology_text.specs.{Value.{NamedTopologyValue, IsNamed}, Spelling.{lines_of, spelling}, Reading.{topology_at, no_line, topology_of}}
+use Rattle.topology_text.specs.{Value.{NamedTopologyValue, IsNamed}, Spelling.{lines_of, spelling}, Reading.{topology_at, topology_of}}
 use Rattle.topology_text.specs.First.{Agrees, FailsFirstAt}
-use Rattle.topology_text.proofs.{Laws.{topology_take, rows_of_spelling, after_topology, all_again}, Local.Same, SteadyParts.{whole_at, settles_topology}}
+use Rattle.topology_text.proofs.{Laws.{topology_take, rows_of_spelling, no_line, after_topology, all_again}, Local.Same, SteadyParts.{whole_at, settles_topology}}
 use Rattle.topology_text.proofs.{Cuts.{Cut, cut_here, cut_after, cut_agrees}, Filled.{TopologyFilled, fill_topology}}
 
 -- ---- a topology has the lines before the one that is blamed

@@ -9,7 +9,7 @@ use Rattle.text_lines.proofs.{Rows.{row_of, row_back, words_again}, Words.{IsWor
 use Rattle.collective_spec.specs.Patterns.{PatternValue}
 use Rattle.topology_text.specs.declared.fault.TopologyCode.{TopologyCode, TheVariants.{BadHeader, BadLine, BadName, NameTwice, TooManyNodes, NoNodes}}
 use Rattle.topology_text.specs.{Names.{is_name_byte, is_name, name_of, AreNames}, Spelling.{header_words, nodes_words, head_words}}
-use Rattle.topology_text.specs.Reading.{begins, has_empty, version_of, header_line, names_from, nodes_row, nodes_line}
+use Rattle.topology_text.specs.Reading.{begins, has_empty, version_of, header_line, names_from, nodes_line}
 
 -- ---- line 1
 
@@ -140,8 +140,9 @@ nodes_are_words names ok = (literal (codes "nodes") refl, names_are_words names 
 
 -- ---- line 2
 
-pub nodes_take : (r : Row) (names : List (List ℕ)) → nodes_row r ≡ Ok names → (r ≡ row_of (nodes_words names)) × AreNames names
-nodes_take r names e =
+pub nodes_line_take : (o : Option Row) (names : List (List ℕ)) → nodes_line o ≡ Ok names → (o ≡ Some (row_of (nodes_words names))) × AreNames names
+nodes_line_take None names e = absurd (cc)
+nodes_line_take (Some r) names e =
     let listed : Unit {0} → Result (List (List ℕ)) TopologyCode = λ u. names_from [] (drop 1 (words_of r.bytes)) in
     let shape : Bool = not (begins (codes "nodes ") r.bytes) || has_empty (words_of r.bytes) in
     let shaped : Unit {0} → Result (List (List ℕ)) TopologyCode = λ u. refuse shape BadLine >>= listed in
@@ -155,17 +156,11 @@ nodes_take r names e =
     let words : words_of r.bytes ≡ codes "nodes" ∷ words_of rest = begins_is (codes "nodes") r.bytes refl (not-false (begins (codes "nodes ") r.bytes) front) in
     let named : names ≡ words_of rest = all ∙ ap (drop 1) words in
     let some : 0 < length names = omega (arith, ap length named, length-slice_split (λ b. eqb b 32) rest) in (
-      row_back r (nodes_words names) (not-false r.whole whole) (words ∙ ap (λ n. codes "nodes" ∷ n) (sym named)),
+      ap (λ x. Some x) (row_back r (nodes_words names) (not-false r.whole whole) (words ∙ ap (λ n. codes "nodes" ∷ n) (sym named))),
       record { some = some; few = ok.few; each = ok.each; distinct = ok.distinct },
     )
 
-pub nodes_line_take : (o : Option Row) (names : List (List ℕ)) → nodes_line o ≡ Ok names → (o ≡ Some (row_of (nodes_words names))) × AreNames names
-nodes_line_take None names e = absurd (cc)
-nodes_line_take (Some r) names e =
-    let (row, ok) = nodes_take r names e in
-    (ap (λ x. Some x) row, ok)
-
-nodes_at : (r : Row) (names : List (List ℕ)) → r.whole ≡ true → begins (codes "nodes ") r.bytes ≡ true → words_of r.bytes ≡ nodes_words names → AreNames names → nodes_row r ≡ Ok names
+nodes_at : (r : Row) (names : List (List ℕ)) → r.whole ≡ true → begins (codes "nodes ") r.bytes ≡ true → words_of r.bytes ≡ nodes_words names → AreNames names → nodes_line (Some r) ≡ Ok names
 nodes_at r names whole front words ok =
     let long : (bytes_eq r.bytes (codes "nodes") ≡ true) → ⊥ = λ t.
     let alone : words_of r.bytes ≡ codes "nodes" ∷ [] = ap words_of ((bytes_eq-Decides r.bytes (codes "nodes")).0 t) in
@@ -176,6 +171,6 @@ nodes_at r names whole front words ok =
     let listed : names_from [] (drop 1 (words_of r.bytes)) ≡ Ok names = ap (λ w. names_from [] (drop 1 w)) words ∙ names_again [] names (record { few = ok.few; each = ok.each; distinct = ok.distinct }) in
     rw (whole, other, front, full) listed
 
-pub nodes_again : (names : List (List ℕ)) → AreNames names → nodes_row (row_of (nodes_words names)) ≡ Ok names
+pub nodes_again : (names : List (List ℕ)) → AreNames names → nodes_line (Some (row_of (nodes_words names))) ≡ Ok names
 nodes_again [] ok = let some = ok.some in absurd (omega arith)
 nodes_again (name ∷ names) ok = nodes_at (row_of (nodes_words (name ∷ names))) (name ∷ names) refl refl (words_again (nodes_words (name ∷ names)) (tokens_from (nodes_words (name ∷ names)) (omega arith) (nodes_are_words (name ∷ names) ok))) ok

@@ -6,9 +6,9 @@ use Rattle.text_lines.specs.{Text.{Row, Place, words_of}, Check.{◌>>=◌, refu
 use Rattle.text_lines.proofs.{Checks.{bind_ok, refuse_ok, at_line_ok, ok_is, first_is, part_ok}, Distinct.next_has, Rows.{row_of, row_back, words_again}}
 use Rattle.text_lines.proofs.Words.{IsWord, AreWords, literal, tokens_from, none_empty, begins_is, decimal_word, token-append}
 use Rattle.schedule.specs.Links.{GroupValue, IsBelow, IsGroup}
-use Rattle.topology_text.specs.{declared.fault.TopologyCode.{TopologyCode, TheVariants.{BadLine, TooManyGroups}}, Names.is_name}
-use Rattle.topology_text.specs.{Spelling.{name_at, link_word, group_words}, Reading.{begins, has_empty, width_of, links_from, group_row, groups_from}}
-use Rattle.topology_text.proofs.{Front.{Names, name_word}, Links.{links_nil, links_take, links_again, width_take, width_again}}
+use Rattle.topology_text.specs.{declared.fault.TopologyCode.{TopologyCode, TheVariants.{BadLine, TooManyGroups, WidthRange}}, Names.is_name}
+use Rattle.topology_text.specs.{Spelling.{name_at, link_word, group_words}, Reading.{begins, has_empty, one_to_16, links_from, group_row, groups_from}}
+use Rattle.topology_text.proofs.{Front.{Names, name_word}, Links.{links_nil, links_take, links_again, small_take, small_again}}
 
 -- ---- words of links
 
@@ -49,7 +49,7 @@ abbrev is_misshapen : Row → Bool
 is_misshapen r = not r.whole || has_empty (words_of r.bytes) || ltb (length (words_of r.bytes)) 3
 
 abbrev after_room : List (List ℕ) → Row → Unit {0} → Result GroupValue TopologyCode
-after_room names r u = width_of (slice_index_or (words_of r.bytes) 1 []) >>= after_width names r
+after_room names r u = one_to_16 WidthRange (slice_index_or (words_of r.bytes) 1 []) >>= after_width names r
 
 abbrev after_shape : List (List ℕ) → ℕ → Row → Unit {0} → Result GroupValue TopologyCode
 after_shape names before r u = refuse (leb 256 before) TooManyGroups >>= after_room names r
@@ -64,7 +64,7 @@ pub group_take : (names : List (List ℕ)) (before : ℕ) (r : Row) (g : GroupVa
 group_take names before r g front e =
     let (shaped, e1) = refuse_ok (is_misshapen r) BadLine (after_shape names before r) g e in
     let (room, e2) = refuse_ok (leb 256 before) TooManyGroups (after_room names r) g e1 in
-    let (width, wide, e3) = bind_ok (width_of (slice_index_or (words_of r.bytes) 1 [])) (after_width names r) g e2 in
+    let (width, wide, e3) = bind_ok (one_to_16 WidthRange (slice_index_or (words_of r.bytes) 1 [])) (after_width names r) g e2 in
     let (links, read, e4) = bind_ok (links_from names [] (drop 2 (words_of r.bytes))) (λ l. Ok (made width l)) g e3 in
     let same : made width links ≡ g = ok_is {C = TopologyCode} (made width links) g e4 in
     let (halves, enough) = or_parts (not r.whole || has_empty (words_of r.bytes)) (ltb (length (words_of r.bytes)) 3) shaped in
@@ -72,9 +72,9 @@ group_take names before r g front e =
     let (a, b, rest, words, some) = parted (words_of r.bytes) (ltb-false (length (words_of r.bytes)) 3 enough) in
     let head = begins_is (codes "group") r.bytes refl front in
     let named : a ≡ codes "group" = ap (λ ws. slice_index_or ws 0 []) (sym words ∙ head) in
-    let wide_too : width_of b ≡ Ok width = ap (λ ws. width_of (slice_index_or ws 1 [])) (sym words) ∙ wide in
+    let wide_too : one_to_16 WidthRange b ≡ Ok width = ap (λ ws. one_to_16 WidthRange (slice_index_or ws 1 [])) (sym words) ∙ wide in
     let read_too : links_from names [] rest ≡ Ok links = ap (λ ws. links_from names [] (drop 2 ws)) (sym words) ∙ read in
-    let (spelled, positive, narrow) = width_take b width wide_too in
+    let (spelled, positive, narrow) = small_take WidthRange b width wide_too in
     let (all, valid) = links_take names [] rest links read_too (links_nil (length names)) in
     let line : words_of r.bytes ≡ group_words names (made width links) =
     words ∙ ap (λ w. w ∷ b ∷ rest) named ∙ ap (λ w. codes "group" ∷ w ∷ rest) spelled ∙ ap (λ ws. codes "group" ∷ decimal width ∷ ws) (sym all) in
@@ -93,7 +93,7 @@ group_again_at names before r g whole words ok valid below room =
     let long : ltb (length (words_of r.bytes)) 3 ≡ false = le-ltb (length (words_of r.bytes)) 3 (omega (arith, ap length words, length-map g.links (link_word names))) in
     let shaped : is_misshapen r ≡ false = or_from (not r.whole || has_empty (words_of r.bytes)) (ltb (length (words_of r.bytes)) 3) (or_from (not r.whole) (has_empty (words_of r.bytes)) (not_from_true r.whole whole) full) long in
     let space : leb 256 before ≡ false = lt-leb 256 before room in
-    let wide : width_of (slice_index_or (words_of r.bytes) 1 []) ≡ Ok g.width = ap (λ ws. width_of (slice_index_or ws 1 [])) words ∙ width_again g.width valid.positive valid.narrow in
+    let wide : one_to_16 WidthRange (slice_index_or (words_of r.bytes) 1 []) ≡ Ok g.width = ap (λ ws. one_to_16 WidthRange (slice_index_or ws 1 [])) words ∙ small_again WidthRange g.width valid.positive valid.narrow in
     let read : links_from names [] (drop 2 (words_of r.bytes)) ≡ Ok g.links = ap (λ ws. links_from names [] (drop 2 ws)) words ∙ links_again names [] g.links ok (record { each = valid.each; below = below; distinct = valid.distinct }) in
     ap (λ t. refuse t BadLine >>= after_shape names before r) shaped ∙ ap (λ t. refuse t TooManyGroups >>= after_room names r) space
     ∙ ap (λ w. w >>= after_width names r) wide ∙ ap (λ l. l >>= (λ links. Ok (made g.width links))) read

@@ -2,14 +2,14 @@
 use Rattle.std.proofs.Common.{◌≡◌, ℕ, ◌+◌, Bool, List, [], ◌∷◌, ◌++◌, map, length, Option, None, Some, Result, Ok, Err, refl, sym, ap, ◌∙◌, subst, append_assoc, arith, IfOk, IfSome, codes}
 use Rattle.std.{specs.{Option.is_some, List.{All, AllByRecursion}}, proofs.lemmas.List.{append-nil, length-append, length-map, map-append}}
 use Rattle.std.proofs.lemmas.List.Elements.{All-head, All-tail}
-use Rattle.text_lines.specs.{Text.{Row, Place, rows_of, start}, Check.{◌>>=◌, first, line_part}}
+use Rattle.text_lines.specs.{Text.{Row, Place, rows_of, start}, Check.{◌>>=◌, refuse, first, line_part}}
 use Rattle.text_lines.proofs.{Checks.{bind_ok, ok_is, part_ok}, Rows.{AreTokens, row_of, rows_again, text_back}, Words.{literal, tokens_from}}
 use Rattle.schedule.{specs.Links.{GroupValue, IsGroup, IsBelow}, proofs.First.each_append}
 use Rattle.collective_spec.specs.Patterns.{PatternValue, IsPattern}
-use Rattle.topology_text.specs.{declared.fault.{TopologyCode.TopologyCode, TopologyFault.TopologyFault}, Names.AreNames, Answer.Answers}
+use Rattle.topology_text.specs.{declared.fault.{TopologyCode.{TopologyCode, TheVariants.BadLine}, TopologyFault.TopologyFault}, Names.AreNames, Answer.Answers}
 use Rattle.topology_text.specs.Value.{NamedTopologyValue, IsNamed, named_with}
 use Rattle.topology_text.specs.Spelling.{header_words, nodes_words, group_words, custom_lines, lines_of, spelling, head_words}
-use Rattle.topology_text.specs.Reading.{header_line, nodes_line, groups_at, pattern_at, named_at, topology_at, no_line, topology_of}
+use Rattle.topology_text.specs.Reading.{header_line, nodes_line, groups_at, pattern_at, named_at, topology_at, topology_of}
 use Rattle.topology_text.proofs.Front.{Names, head_is, header_takes, header_again, nodes_line_take, nodes_again, nodes_are_words}
 use Rattle.topology_text.proofs.Groups.{Groups, groups_nil, group_rows, place, line_taken, part_again, EndsGroups, groups_take, groups_again, group_is_words}
 use Rattle.topology_text.proofs.Patterns.{pattern_take, pattern_again, pattern_ends, custom_are_words}
@@ -50,10 +50,7 @@ named_are q names groups custom rest ok e2 pattern =
     named_valid names groups custom ok taken.valid pattern
 
 pub parts_are : (p q : Place) (names : List (List ℕ)) (groups : List GroupValue) (custom : Option PatternValue) (rest : Place) → line_part nodes_line p ≡ Ok (names, q) → groups_at names q ≡ Ok (groups, rest) → IfSome custom (IsPattern (length names)) → IsNamed (named_with names groups custom)
-parts_are p q names groups custom rest e1 e2 pattern =
-    let ok = names_taken p (names, q) e1 in
-    let taken = groups_take names [] q.number q.rows groups rest e2 (groups_nil (length names)) in
-    named_valid names groups custom ok taken.valid pattern
+parts_are p q names groups custom rest e1 e2 pattern = named_are q names groups custom rest (names_taken p (names, q) e1) e2 pattern
 
 -- ---- a topology and what follows
 
@@ -187,6 +184,10 @@ lines_are_words t ok =
 pub rows_of_spelling : (t : NamedTopologyValue) → IsNamed t → rows_of (spelling t) ≡ topology_rows t
 unfolding spelling
 rows_of_spelling t ok = rows_again (lines_of t) (lines_are_words t ok)
+
+-- nothing follows the topology
+abbrev pub no_line : Option Row → Result (Unit {0}) TopologyCode
+no_line next = refuse (is_some next) BadLine
 
 unfoldable pub after_topology : NamedTopologyValue × Place → Result NamedTopologyValue (TopologyCode × ℕ)
 after_topology found = line_part no_line found.1 >>= (λ u. Ok found.0)

@@ -9,7 +9,7 @@ use Rattle.text_lines.proofs.{Checks.{bind_ok, refuse_ok, need_ok, ok_is}, Disti
 use Rattle.text_lines.proofs.Numbers.{up_to_found, up_to_some}
 use Rattle.schedule.specs.{Links.{IsLink, IsBelow, IsGroup}, Placed.same_pair}
 use Rattle.topology_text.specs.{declared.fault.TopologyCode.{TopologyCode, TheVariants.{UnknownNode, SelfLink, LinkTwice, WidthRange}}, Names.is_name}
-use Rattle.topology_text.specs.{Spelling.{name_at, link_word}, Reading.{both_sides, node_of, link_of, links_from, width_of}}
+use Rattle.topology_text.specs.{Spelling.{name_at, link_word}, Reading.{both_sides, node_of, link_of, links_from, one_to_16}}
 use Rattle.topology_text.proofs.{Front.{Names, name_free}, Sides.{pieces, sides}}
 
 -- ---- nodes
@@ -137,28 +137,28 @@ links_again names before (link ∷ rest) ok valid =
     ∙ ap (λ t. refuse t LinkTwice >>= (λ u. links_from names (before ++ link ∷ []) (map (link_word names) rest))) fresh
     ∙ more ∙ ap (λ l. Ok l) (append_assoc before (link ∷ []) rest)
 
--- ---- the width
+-- ---- a number from 1 to 16
 
-pub width_take : (word : List ℕ) (w : ℕ) → width_of word ≡ Ok w → (word ≡ decimal w) × (0 < w) × (w ≤ 16)
-width_take word w e =
-    let checked : ℕ → Result ℕ TopologyCode = λ n. refuse (eqb n 0) WidthRange >>= (λ u. Ok n) in
-    let (n, found, e1) = need_ok (number_up_to 16 word) WidthRange checked w e in
-    let (positive, e2) = refuse_ok (eqb n 0) WidthRange (λ u. Ok n) w e1 in
-    let same : n ≡ w = ok_is {C = TopologyCode} n w e2 in
-    let (spelled, small) = up_to_found 16 n word found in
-    let some = eqb-false n 0 positive in
+pub small_take : (code : TopologyCode) (word : List ℕ) (n : ℕ) → one_to_16 code word ≡ Ok n → (word ≡ decimal n) × (0 < n) × (n ≤ 16)
+small_take code word n e =
+    let checked : ℕ → Result ℕ TopologyCode = λ k. refuse (eqb k 0) code >>= (λ u. Ok k) in
+    let (k, found, e1) = need_ok (number_up_to 16 word) code checked n e in
+    let (positive, e2) = refuse_ok (eqb k 0) code (λ u. Ok k) n e1 in
+    let same : k ≡ n = ok_is {C = TopologyCode} k n e2 in
+    let (spelled, small) = up_to_found 16 k word found in
+    let some = eqb-false k 0 positive in
     (spelled ∙ ap decimal same, omega arith, omega arith)
 
-pub width_again : (w : ℕ) → 0 < w → w ≤ 16 → width_of (decimal w) ≡ Ok w
-width_again w some small =
-    let found = up_to_some 16 w (decimal w) (omega arith) refl small in
-    let positive : eqb w 0 ≡ false = ne_eqb w 0 (λ e. omega arith) in
-    ap (λ o. need o WidthRange >>= (λ n. refuse (eqb n 0) WidthRange >>= (λ u. Ok n))) found ∙ ap (λ t. refuse t WidthRange >>= (λ u. Ok w)) positive
+pub small_again : (code : TopologyCode) (n : ℕ) → 0 < n → n ≤ 16 → one_to_16 code (decimal n) ≡ Ok n
+small_again code n some small =
+    let found = up_to_some 16 n (decimal n) (omega arith) refl small in
+    let positive : eqb n 0 ≡ false = ne_eqb n 0 (λ e. omega arith) in
+    ap (λ o. need o code >>= (λ k. refuse (eqb k 0) code >>= (λ u. Ok k))) found ∙ ap (λ t. refuse t code >>= (λ u. Ok n)) positive
 
 -- ---- what was read is a group
 
-pub group_valid : (names : List (List ℕ)) (word : List ℕ) (words : List (List ℕ)) (w : ℕ) (links : List (ℕ × ℕ)) → width_of word ≡ Ok w → links_from names [] words ≡ Ok links → 0 < length words → IsGroup (record { links = links; width = w })
+pub group_valid : (names : List (List ℕ)) (word : List ℕ) (words : List (List ℕ)) (w : ℕ) (links : List (ℕ × ℕ)) → one_to_16 WidthRange word ≡ Ok w → links_from names [] words ≡ Ok links → 0 < length words → IsGroup (record { links = links; width = w })
 group_valid names word words w links wide read some =
-    let (spelled, positive, narrow) = width_take word w wide in
+    let (spelled, positive, narrow) = small_take WidthRange word w wide in
     let (all, valid) = links_take names [] words links read (links_nil (length names)) in
     record { positive = positive; narrow = narrow; some = omega (arith, ap length all, length-map links (link_word names)); each = valid.each; distinct = valid.distinct }

@@ -1,31 +1,15 @@
 -- The lines of a pattern: what is read stands there, and what stands there is read.
 use Rattle.std.proofs.Common.{◌≡◌, ℕ, ◌+◌, ◌^◌, ◌<◌, ◌≤◌, Bool, true, false, ◌||◌, not, eqb, List, [], ◌∷◌, ◌++◌, map, length, get_or, drop, Option, None, Some, Result, Ok, Err, refl, sym, ap, ◌∙◌, subst, append_assoc, arith, bytes_eq, codes, decimal, nat_lt, slice_index_or}
-use Rattle.std.{specs.List.list_all, proofs.lemmas.Bool.{and_parts, and_from, eqb-true, eqb-false, ne_eqb, false_from_ne_true, not-false, or_parts}}
+use Rattle.std.{specs.List.list_all, proofs.lemmas.Bool.{and_parts, and_from, eqb-true, eqb-false, false_from_ne_true, not-false, or_parts}}
 use Rattle.std.proofs.lemmas.{Fmt.decimal_injective, List.{append-nil, map_push, Elements.All-get_or}, Slice.Eq.bytes_eq-Decides}
-use Rattle.text_lines.specs.{Text.{Row, words_of}, Check.{◌>>=◌, refuse, need}, Number.number_up_to}
-use Rattle.text_lines.proofs.{Checks.{refuse_ok, need_ok, ok_is}, Numbers.{up_to_found, up_to_some}, Rows.{row_of, row_back, words_again}}
+use Rattle.text_lines.specs.{Text.{Row, words_of}, Check.{◌>>=◌, refuse, need}}
+use Rattle.text_lines.proofs.{Checks.{refuse_ok, need_ok, ok_is}, Rows.{row_of, row_back, words_again}}
 use Rattle.text_lines.proofs.Words.{IsWord, AreWords, literal, tokens_from, none_empty, begins_is, decimal_word}
 use Rattle.topology_text.specs.{declared.fault.TopologyCode.{TopologyCode, TheVariants.{BadLine, UnknownNode, BaseRange, NameOrder}}, Names.is_name}
-use Rattle.topology_text.specs.{Spelling.name_at, Reading.{begins, has_empty, node_of, base_of, custom_line, holders_from, has_front, holders_line}}
-use Rattle.topology_text.proofs.{Front.{Names, name_word}, Links.{node_is, node_again}, Held.{Ascends, ascends_push, ascends_next, ascends_above}}
+use Rattle.topology_text.specs.{Spelling.name_at, Reading.{begins, has_empty, node_of, one_to_16, custom_line, holders_from, has_front, holders_line}}
+use Rattle.topology_text.proofs.{Front.{Names, name_word}, Links.{node_is, node_again, small_take, small_again}, Held.{Ascends, ascends_push, ascends_next, ascends_above}}
 
 -- ---- the number of chunks
-
-pub base_take : (word : List ℕ) (base : ℕ) → base_of word ≡ Ok base → (word ≡ decimal base) × (0 < base) × (base ≤ 16)
-base_take word base e =
-    let checked : ℕ → Result ℕ TopologyCode = λ n. refuse (eqb n 0) BaseRange >>= (λ u. Ok n) in
-    let (n, found, e1) = need_ok (number_up_to 16 word) BaseRange checked base e in
-    let (positive, e2) = refuse_ok (eqb n 0) BaseRange (λ u. Ok n) base e1 in
-    let same : n ≡ base = ok_is {C = TopologyCode} n base e2 in
-    let (spelled, small) = up_to_found 16 n word found in
-    let some = eqb-false n 0 positive in
-    (spelled ∙ ap decimal same, omega arith, omega arith)
-
-pub base_again : (base : ℕ) → 0 < base → base ≤ 16 → base_of (decimal base) ≡ Ok base
-base_again base some small =
-    let found = up_to_some 16 base (decimal base) (omega arith) refl small in
-    let positive : eqb base 0 ≡ false = ne_eqb base 0 (λ e. omega arith) in
-    ap (λ o. need o BaseRange >>= (λ n. refuse (eqb n 0) BaseRange >>= (λ u. Ok n))) found ∙ ap (λ t. refuse t BaseRange >>= (λ u. Ok base)) positive
 
 abbrev pub base_words : ℕ → List (List ℕ)
 base_words base = codes "custom" ∷ decimal base ∷ []
@@ -51,10 +35,10 @@ custom_take (Some r) base e =
     let words = words_of r.bytes in
     let front : Bool = begins (codes "custom ") r.bytes in
     let two : Bool = eqb (length words) 2 in
-    let (shape, e1) = refuse_ok (not r.whole || not front || not two) BadLine (λ u. base_of (slice_index_or words 1 [])) base e in
+    let (shape, e1) = refuse_ok (not r.whole || not front || not two) BadLine (λ u. one_to_16 BaseRange (slice_index_or words 1 [])) base e in
     let (early, pair) = or_parts (not r.whole || not front) (not two) shape in
     let (whole, begun) = or_parts (not r.whole) (not front) early in
-    let (spelled, some, few) = base_take (slice_index_or words 1 []) base e1 in
+    let (spelled, some, few) = small_take BaseRange (slice_index_or words 1 []) base e1 in
     let parts = two_words words (not-false two pair) in
     let rest = drop 7 r.bytes in
     let first : words ≡ codes "custom" ∷ words_of rest = begins_is (codes "custom") r.bytes refl (not-false front begun) in
@@ -64,7 +48,7 @@ custom_take (Some r) base e =
 custom_at : (r : Row) (base : ℕ) → r.whole ≡ true → begins (codes "custom ") r.bytes ≡ true → words_of r.bytes ≡ base_words base → 0 < base → base ≤ 16 → custom_line (Some r) ≡ Ok base
 custom_at r base whole front words some few =
     let two : eqb (length (words_of r.bytes)) 2 ≡ true = ap (λ w. eqb (length w) 2) words in
-    let read : base_of (slice_index_or (words_of r.bytes) 1 []) ≡ Ok base = ap (λ w. base_of (slice_index_or w 1 [])) words ∙ base_again base some few in
+    let read : one_to_16 BaseRange (slice_index_or (words_of r.bytes) 1 []) ≡ Ok base = ap (λ w. one_to_16 BaseRange (slice_index_or w 1 [])) words ∙ small_again BaseRange base some few in
     rw (whole, front, two) read
 
 pub custom_begins : (base : ℕ) → begins (codes "custom ") (row_of (base_words base)).bytes ≡ true

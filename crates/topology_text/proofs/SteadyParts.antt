@@ -4,8 +4,8 @@ use Rattle.text_lines.{specs.{Text.{Row, Place}, Check.{◌>>=◌, first, line_p
 use Rattle.schedule.specs.Links.{GroupValue}
 use Rattle.collective_spec.specs.Patterns.{PatternValue}
 use Rattle.topology_text.specs.{declared.fault.TopologyCode.{TopologyCode, TheVariants.BadLine}, Value.{NamedTopologyValue, named_with}}
-use Rattle.topology_text.specs.Reading.{begins, header_line, nodes_line, group_row, groups_from, groups_at, custom_line, holders_line, Pairs, holders_at, pattern_of, pattern_at, named_at, topology_at, no_line}
-use Rattle.topology_text.proofs.{Groups.place, HolderLines.{pushed, no_pairs}, Laws.after_topology}
+use Rattle.topology_text.specs.Reading.{begins, header_line, nodes_line, group_row, groups_from, groups_at, custom_line, holders_line, Pairs, holders_at, pattern_of, pattern_at, named_at, topology_at}
+use Rattle.topology_text.proofs.{Groups.place, HolderLines.{pushed, no_pairs}, Laws.{no_line, after_topology}}
 use Rattle.topology_text.proofs.Steady.{Moves, Alike, moves_line, alike_line, moves_bind, alike_bind, found, moves_found, alike_stop, alike_choose, moves_choose, Steady, Settles, steady_line, steady_found, steady_then, settles_ok, settles_then}
 
 -- ---- groups

@@ -1,6 +1,6 @@
 -- The checks of a topology text (this project's own), line by line, each line's from left to right. The first that fails
 -- gives the code and the line.
-use Rattle.std.specs.Prelude.{ℕ, ◌+◌, ◌==◌, ◌||◌, ◌&&◌, not, Bool, true, false, if◌then◌else◌, List, [], ◌∷◌, ◌++◌, length, drop, slice_index_or, position, Option, Some, None, Result, Ok, Err, nat_eq, nat_lt, nat_le, bytes_eq, codes, decimal, map, zero, suc}
+use Rattle.std.specs.Prelude.{ℕ, ◌+◌, ◌==◌, ◌||◌, ◌&&◌, not, Bool, true, false, if◌then◌else◌, List, [], ◌∷◌, ◌++◌, length, drop, slice_index_or, position, Option, Some, None, Result, Ok, Err, nat_eq, nat_lt, nat_le, bytes_eq, codes, decimal, is_some, map, zero, suc}
 use Rattle.std.specs.List.{list_any, list_all, starts_with, slice_split}
 use Rattle.text_lines.specs.{Text.{Row, Place, words_of, start}, Check.{◌>>=◌, refuse, need, at_line, line_part}, Number.number_up_to}
 use Rattle.schedule.specs.{Links.GroupValue, Placed.same_pair}
@@ -40,16 +40,13 @@ names_from before (word ∷ words) = do
   names_from (before ++ name ∷ []) words
 
 -- `nodes` and the names
-abbrev pub nodes_row : Row → Result (List (List ℕ)) TopologyCode
-nodes_row row = do
+abbrev pub nodes_line : Option Row → Result (List (List ℕ)) TopologyCode
+nodes_line None = Err NoNodes
+nodes_line (Some row) = do
   _ ← refuse (not row.whole) BadLine
   _ ← refuse (bytes_eq row.bytes (codes "nodes")) NoNodes
   _ ← refuse (not (begins (codes "nodes ") row.bytes) || has_empty (words_of row.bytes)) BadLine
   names_from [] (drop 1 (words_of row.bytes))
-
-abbrev pub nodes_line : Option Row → Result (List (List ℕ)) TopologyCode
-nodes_line None = Err NoNodes
-nodes_line (Some row) = nodes_row row
 
 -- ---- later lines
 
@@ -79,19 +76,19 @@ links_from names before (word ∷ words) = do
   _ ← refuse (list_any (same_pair link) before) LinkTwice
   links_from names (before ++ link ∷ []) words
 
--- a number from 1 to 16
-abbrev pub width_of : List ℕ → Result ℕ TopologyCode
-width_of word = do
-  width ← need (number_up_to 16 word) WidthRange
-  _ ← refuse (width == 0) WidthRange
-  Ok width
+-- a number from 1 to 16, or else this code
+abbrev pub one_to_16 : TopologyCode → List ℕ → Result ℕ TopologyCode
+one_to_16 code word = do
+  number ← need (number_up_to 16 word) code
+  _ ← refuse (number == 0) code
+  Ok number
 
 -- a line that begins `group `, after so many groups
 abbrev pub group_row : List (List ℕ) → ℕ → Row → Result GroupValue TopologyCode
 group_row names before row = do
   _ ← refuse (not row.whole || has_empty (words_of row.bytes) || nat_lt (length (words_of row.bytes)) 3) BadLine
   _ ← refuse (nat_le 256 before) TooManyGroups
-  width ← width_of (slice_index_or (words_of row.bytes) 1 [])
+  width ← one_to_16 WidthRange (slice_index_or (words_of row.bytes) 1 [])
   links ← links_from names [] (drop 2 (words_of row.bytes))
   Ok (record { links = links; width = width })
 
@@ -107,19 +104,12 @@ groups_at names p = groups_from names [] p.number p.rows
 
 -- ---- the pattern
 
--- a number from 1 to 16
-abbrev pub base_of : List ℕ → Result ℕ TopologyCode
-base_of word = do
-  base ← need (number_up_to 16 word) BaseRange
-  _ ← refuse (base == 0) BaseRange
-  Ok base
-
 -- a line of two tokens that begins `custom `: how many chunks the pattern has
 abbrev pub custom_line : Option Row → Result ℕ TopologyCode
 custom_line None = Err BadLine
 custom_line (Some row) = do
   _ ← refuse (not row.whole || not (begins (codes "custom ") row.bytes) || not (length (words_of row.bytes) == 2)) BadLine
-  base_of (slice_index_or (words_of row.bytes) 1 [])
+  one_to_16 BaseRange (slice_index_or (words_of row.bytes) 1 [])
 
 -- the nodes that were read before, ascending, and the tokens that are left
 abbrev pub holders_from : List (List ℕ) → List ℕ → List (List ℕ) → Result (List ℕ) TopologyCode
@@ -146,17 +136,13 @@ pub record Pairs : Type 0 where
   pub before : List (ℕ × ℕ)
   pub after : List (ℕ × ℕ)
 
--- the pairs of one chunk
-abbrev pub row_of_pairs : ℕ → List ℕ → List (ℕ × ℕ)
-row_of_pairs g nodes = map (λ n. (g, n)) nodes
-
 -- the two lines of each of so many chunks, from chunk g on, behind the pairs that were read before
 abbrev pub holders_at : List (List ℕ) → ℕ → ℕ → Pairs → Place → Result (Pairs × Place) (TopologyCode × ℕ)
 holders_at names zero g found p = Ok (found, p)
 holders_at names (suc left) g found p = do
   x ← line_part (holders_line names (codes "before") g) p
   y ← line_part (holders_line names (codes "after") g) x.1
-  holders_at names left (g + 1) (record { before = found.before ++ row_of_pairs g x.0; after = found.after ++ row_of_pairs g y.0 }) y.1
+  holders_at names left (g + 1) (record { before = found.before ++ map (λ n. (g, n)) x.0; after = found.after ++ map (λ n. (g, n)) y.0 }) y.1
 
 -- the pattern of so many chunks at so many nodes
 abbrev pub pattern_of : ℕ → ℕ → Pairs → PatternValue
@@ -176,27 +162,34 @@ pattern_at true names p = do
 
 -- ---- a topology at a place, and the place behind it
 
+unfoldable pub topology_at : Place → Result (NamedTopologyValue × Place) (TopologyCode × ℕ)
+topology_at p = do
+  header ← line_part header_line p
+  names ← line_part nodes_line header.1
+  groups ← groups_at names.0 names.1
+  pattern ← pattern_at header.0 names.0 groups.1
+  Ok (named_with names.0 groups.0 pattern.0, pattern.1)
+
+-- a topology, and no line behind it
+unfoldable pub topology_of : List ℕ → Result NamedTopologyValue (TopologyCode × ℕ)
+topology_of text = do
+  found ← topology_at (start text)
+  _ ← line_part (λ next. refuse (is_some next) BadLine) found.1
+  Ok found.0
+
+-- ---- names of parts of these, by which code and proofs go
+
+-- how many chunks a pattern has
+abbrev pub base_of : List ℕ → Result ℕ TopologyCode
+base_of word = one_to_16 BaseRange word
+
+-- the pairs of one chunk
+abbrev pub row_of_pairs : ℕ → List ℕ → List (ℕ × ℕ)
+row_of_pairs g nodes = map (λ n. (g, n)) nodes
+
 -- the rest of a topology, behind its names
 unfoldable pub named_at : Bool → List (List ℕ) → Place → Result (NamedTopologyValue × Place) (TopologyCode × ℕ)
 named_at patterned names p = do
   groups ← groups_at names p
   pattern ← pattern_at patterned names groups.1
   Ok (named_with names groups.0 pattern.0, pattern.1)
-
-unfoldable pub topology_at : Place → Result (NamedTopologyValue × Place) (TopologyCode × ℕ)
-topology_at p = do
-  header ← line_part header_line p
-  names ← line_part nodes_line header.1
-  named_at header.0 names.0 names.1
-
--- nothing follows the topology
-abbrev pub no_line : Option Row → Result (Unit {0}) TopologyCode
-no_line None = Ok tt
-no_line (Some row) = Err BadLine
-
--- a topology and nothing else
-unfoldable pub topology_of : List ℕ → Result NamedTopologyValue (TopologyCode × ℕ)
-topology_of text = do
-  found ← topology_at (start text)
-  _ ← line_part no_line found.1
-  Ok found.0

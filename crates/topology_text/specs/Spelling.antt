@@ -23,12 +23,6 @@ abbrev pub head_words : Bool → List (List ℕ)
 head_words false = codes "topology" ∷ codes "1" ∷ []
 head_words true = codes "topology" ∷ codes "2" ∷ []
 
-abbrev pub header_words : Option PatternValue → List (List ℕ)
-header_words custom = codes "topology" ∷ version_word custom ∷ []
-
-abbrev pub nodes_words : List (List ℕ) → List (List ℕ)
-nodes_words names = codes "nodes" ∷ names
-
 abbrev pub group_words : List (List ℕ) → GroupValue → List (List ℕ)
 group_words names group = codes "group" ∷ decimal group.width ∷ map (link_word names) group.links
 
@@ -45,7 +39,15 @@ custom_lines names (Some p) =
 
 -- the tokens of each line
 abbrev pub lines_of : NamedTopologyValue → List (List (List ℕ))
-lines_of t = header_words t.custom ∷ nodes_words t.names ∷ map (group_words t.names) t.topology.groups ++ custom_lines t.names t.custom
+lines_of t = (codes "topology" ∷ version_word t.custom ∷ []) ∷ (codes "nodes" ∷ t.names) ∷ map (group_words t.names) t.topology.groups ++ custom_lines t.names t.custom
 
 unfoldable pub spelling : NamedTopologyValue → List ℕ
 spelling t = text_of (lines_of t)
+
+-- ---- the first two lines, by which code and proofs go
+
+abbrev pub header_words : Option PatternValue → List (List ℕ)
+header_words custom = codes "topology" ∷ version_word custom ∷ []
+
+abbrev pub nodes_words : List (List ℕ) → List (List ℕ)
+nodes_words names = codes "nodes" ∷ names

@@ -2,7 +2,7 @@
 
 ghost use Rattle.std.specs.Prelude.{◌≡◌, ◌<◌, ◌≤◌, [], length, IfOk, nat_le};
 ghost use Rattle.text_lines.specs.{Text.words_of, Line.{IsIn, row_at}, Check.Gives};
-ghost use Rattle.topology_text.specs.Reading.{links_from, width_of, group_row};
+ghost use Rattle.topology_text.specs.Reading.{links_from, one_to_16, group_row};
 
 use crate::fault::TopologyCode;
 use crate::link_word::link_of;
@@ -15,9 +15,6 @@ use text_lines::{Line, Stop, Tokens, read_number, tokens_of};
 
 /// The most groups that a topology has.
 const GROUPS: usize = 256;
-
-/// The greatest width of a group.
-const WIDTH: u64 = 16;
 
 fn has_three_tokens(text: &[u8], line: Line) -> bool
     requires { IsIn text.now line }
@@ -48,12 +45,13 @@ fn links_of(
     Ok(links)
 }
 
-fn width_of(word: &[u8]) -> Result<u8, TopologyCode>
-    ensures { result ≡ width_of word.now }
+/// A number from 1 to 16, or else this code.
+pub(crate) fn one_to_16(word: &[u8], code: TopologyCode) -> Result<u8, TopologyCode>
+    ensures { result ≡ one_to_16 code word.now }
 {
-    match read_number(word, WIDTH) {
-        Some(width) if width > 0 => Ok(width as u8),
-        _ => Err(TopologyCode::WidthRange),
+    match read_number(word, 16) {
+        Some(number) if number > 0 => Ok(number as u8),
+        _ => Err(code),
     }
 }
 
@@ -78,7 +76,8 @@ pub(crate) fn group_on(
     }
     let mut tokens = tokens_of(text, line);
     let _ = tokens.next_word();
-    let width = width_of(tokens.next_word().unwrap_or(&[])).map_err(Stop::Refused)?;
+    let word = tokens.next_word().unwrap_or(&[]);
+    let width = one_to_16(word, TopologyCode::WidthRange).map_err(Stop::Refused)?;
     let links = links_of(alloc, names, &mut tokens)?;
     Ok(Group::new(links, width))
 }

@@ -2,7 +2,7 @@
 
 ghost use Rattle.std.specs.{Prelude.{◌≡◌, ◌==◌, ◌<◌, ◌++◌, [], ◌∷◌, ℕ, All, map, filter, IfOk, OnOk}, List.{list_any, range_with_len}};
 ghost use Rattle.schedule.specs.{Links.{IsLink, IsGroup}, Placed.same_pair};
-ghost use Rattle.topology_text.specs.Family.{cable, double_ring, is_inside, mesh_group, port_in, port_out, single};
+ghost use Rattle.topology_text.specs.Family.{cable, double_ring, is_inside, mesh_group, port, single};
 
 use crate::family_kind::is_inside;
 use schedule::Group;
@@ -84,8 +84,8 @@ fn entering(alloc: Global, links: &[(u8, u8)], node: u8) -> Result<Vec<(u8, u8)>
 }
 
 fn push_ports_out(groups: &mut Vec<Group>, links: &[(u8, u8)], size: u8) -> Result<(), AllocError>
-    requires { (node : ℕ) → node < size → IsGroup (port_out links.now node) }
-    ensures { OnOk result (groups.new.items ≡ groups.old.items ++ map (port_out links.now) (range_with_len 0 size)) }
+    requires { (node : ℕ) → node < size → IsGroup (port (λ link. link.0) links.now node) }
+    ensures { OnOk result (groups.new.items ≡ groups.old.items ++ map (port (λ link. link.0) links.now) (range_with_len 0 size)) }
 {
     for node in 0..size {
         let out = leaving(*groups.allocator(), links, node)?;
@@ -95,8 +95,8 @@ fn push_ports_out(groups: &mut Vec<Group>, links: &[(u8, u8)], size: u8) -> Resu
 }
 
 fn push_ports_in(groups: &mut Vec<Group>, links: &[(u8, u8)], size: u8) -> Result<(), AllocError>
-    requires { (node : ℕ) → node < size → IsGroup (port_in links.now node) }
-    ensures { OnOk result (groups.new.items ≡ groups.old.items ++ map (port_in links.now) (range_with_len 0 size)) }
+    requires { (node : ℕ) → node < size → IsGroup (port (λ link. link.1) links.now node) }
+    ensures { OnOk result (groups.new.items ≡ groups.old.items ++ map (port (λ link. link.1) links.now) (range_with_len 0 size)) }
 {
     for node in 0..size {
         let into = entering(*groups.allocator(), links, node)?;
@@ -111,9 +111,9 @@ pub(crate) fn port_groups(
     links: &[(u8, u8)],
     size: u8,
 ) -> Result<Vec<Group>, AllocError>
-    requires out { (node : ℕ) → node < size → IsGroup (port_out links.now node) }
-    requires into { (node : ℕ) → node < size → IsGroup (port_in links.now node) }
-    ensures { IfOk result (λ v. v.items ≡ map (port_out links.now) (range_with_len 0 size) ++ map (port_in links.now) (range_with_len 0 size)) }
+    requires out { (node : ℕ) → node < size → IsGroup (port (λ link. link.0) links.now node) }
+    requires into { (node : ℕ) → node < size → IsGroup (port (λ link. link.1) links.now node) }
+    ensures { IfOk result (λ v. v.items ≡ map (port (λ link. link.0) links.now) (range_with_len 0 size) ++ map (port (λ link. link.1) links.now) (range_with_len 0 size)) }
 {
     let mut groups = Vec::new(alloc);
     push_ports_out(&mut groups, links, size)?;

@@ -1,8 +1,8 @@
 //! The line of the nodes' names, and what it shares with the lines of groups.
 
-ghost use Rattle.std.specs.Prelude.{◌≡◌, ◌≤◌, [], length, IfOk};
+ghost use Rattle.std.specs.Prelude.{◌≡◌, ◌≤◌, [], length, Some, IfOk};
 ghost use Rattle.text_lines.specs.{Text.words_of, Line.{IsIn, row_at}, Check.Gives};
-ghost use Rattle.topology_text.specs.Reading.{has_empty, names_from, nodes_row};
+ghost use Rattle.topology_text.specs.Reading.{has_empty, names_from, nodes_line};
 
 use crate::fault::TopologyCode;
 use crate::name::Name;
@@ -52,7 +52,7 @@ pub(crate) fn nodes_on(
     line: Line,
 ) -> Result<IndexSet<Name>, Stop<TopologyCode>>
     requires { IsIn text.now line }
-    ensures read { Gives (λ s. s.keys) result (nodes_row (row_at text.now line)) }
+    ensures read { Gives (λ s. s.keys) result (nodes_line (Some (row_at text.now line))) }
     ensures few { IfOk result (λ s. length s.keys ≤ 16) }
 {
     if !line.whole {

@@ -2,9 +2,10 @@
 
 ghost use Rattle.std.specs.{Prelude.{◌≡◌, ◌≤◌, ◌==◌, [], length, Some, bytes_eq, decimal, nat_lt}, List.list_all};
 ghost use Rattle.text_lines.specs.{Text.words_of, Line.{IsIn, row_at}, Check.Gives};
-ghost use Rattle.topology_text.specs.Reading.{base_of, custom_line, holders_from, has_front, holders_line};
+ghost use Rattle.topology_text.specs.Reading.{custom_line, holders_from, has_front, holders_line};
 
 use crate::fault::TopologyCode;
+use crate::group_line::one_to_16;
 use crate::link_word::node_of;
 use crate::name::Name;
 use crate::nodes_line::has_empty_token;
@@ -12,24 +13,12 @@ use indexmap::IndexSet;
 use std::alloc::Global;
 use text_lines::{Line, Stop, Tokens, read_number, tokens_of};
 
-/// The most chunks that a pattern has.
-const BASE: u64 = 16;
-
 fn has_two_tokens(text: &[u8], line: Line) -> bool
     requires { IsIn text.now line }
     ensures { result ≡ (length (words_of (row_at text.now line).bytes) == 2) }
 {
     let mut tokens = tokens_of(text, line);
     tokens.next_word().is_some() && tokens.next_word().is_some() && tokens.next_word().is_none()
-}
-
-fn base_of(word: &[u8]) -> Result<u8, TopologyCode>
-    ensures { result ≡ base_of word.now }
-{
-    match read_number(word, BASE) {
-        Some(base) if base > 0 => Ok(base as u8),
-        _ => Err(TopologyCode::BaseRange),
-    }
 }
 
 /// Reads the line with the number of the pattern's chunks.
@@ -43,7 +32,7 @@ pub(crate) fn custom_on(text: &[u8], line: Line) -> Result<u8, TopologyCode>
     }
     let mut tokens = tokens_of(text, line);
     let _ = tokens.next_word();
-    base_of(tokens.next_word().unwrap_or(&[]))
+    one_to_16(tokens.next_word().unwrap_or(&[]), TopologyCode::BaseRange)
 }
 
 /// Whether the word is the number in decimal.

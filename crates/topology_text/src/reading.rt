@@ -35,7 +35,7 @@ fn named_part(
 }
 
 /// Takes a topology off the front of the lines.
-#[tactic(auto, unfolding(crate::specs::Reading::topology_at))]
+#[tactic(auto, unfolding(crate::specs::Reading::topology_at, crate::specs::Reading::named_at))]
 pub fn topology_part(
     alloc: Global,
     lines: &mut Lines<'_>,

@@ -5,7 +5,7 @@ use Rattle.std.proofs.lemmas.List.{get_or_past, get_or_append_left, get_or_push,
 use Rattle.std.proofs.lemmas.List.Elements.{All-push, Contains-push, Contains-append_left}
 use Rattle.cnf_formula.{specs.Literals.{LitValue, negation, code_of}, proofs.Codes.same_code}
 use Rattle.trail_core.specs.{Assigned.{IsFalse, level_at}, Trails.{StepValue, TrailValue, lits_of}, Search.{IsSatisfied, IsUnit, clauses_of, CanScan}}
-use Rattle.trail_core.specs.Watching.{RowValue, ListsValue, no_row, watch_count, occurrences, spare, row_at, list_at, IsWatched, IsRow, AreRows, AreLists, HasRoom, AreBlocked}
+use Rattle.trail_core.specs.Watching.{RowValue, ListsValue, no_row, watch_count, occurrences, row_at, list_at, IsWatched, IsRow, AreRows, AreLists, HasRoom, AreBlocked}
 use Rattle.trail_core.specs.Kept.{Excused, IsDue, IsGrounded, IsShort, IsKept, IsRecent}
 use Rattle.trail_core.proofs.{Watching.{count_long, count_short, watch_which, occurs}, Keeping.{lits_length, in_front}, Levels.kept_assert}
 use Rattle.list_laws.proofs.Places.{by_place_push}
@@ -33,14 +33,7 @@ exact_add rows lists lists' r exact put e k = grind (arith, exact e k, put k, na
 
 pub watched_add : (rows : List RowValue) (w w' : ListsValue) (r : RowValue) → IsWatched rows w → ((k : ℕ) → Put w.lists w'.lists r (length rows) k) → ((k : ℕ) → get_or w.uses k 0 + occurrences r k ≤ get_or w'.uses k 0) → ((k : ℕ) → get_or w'.uses k 0 ≤ get_or w'.rooms k 0)
     → ((k : ℕ) → watch_count r k ≤ occurrences r k) → IsWatched (rows ++ r ∷ []) w'
-watched_add rows w w' r i put uses fits own = record {
-  exact = exact_add rows w.lists w'.lists r i.exact put;
-  room = λ k. ⊎_elim
-      (λ p. omega (arith, ap length p.0, p.1, sum_by_push (spare k) rows r, i.room k, uses k, own k))
-      (λ p. omega (arith, ap length p.0, length_push (list_at w.lists k) (length rows), p.1, sum_by_push (spare k) rows r, i.room k, uses k, own k))
-      (put k);
-  fits = fits;
-}
+watched_add rows w w' r i put uses fits own = grind (arith, exact_add rows w.lists w'.lists r i.exact put, sum_by_push, length_push)
 
 -- a clause watches no literal more often than it stands in it
 pub own_count : (r : RowValue) (k : ℕ) → (1 < length r.lits → Contains r.lits r.first) → (1 < length r.lits → Contains r.lits r.second) → (1 < length r.lits → r.first ≢ r.second) → watch_count r k ≤ occurrences r k
@@ -74,10 +67,7 @@ recent_not_below t o m once r j v h f = grind (arith, counted_all t.limits r.pla
 
 -- neither of the two watched literals is false
 pub unseen_by : (r : RowValue) (falses : List LitValue) → (IsFalse falses r.first → ⊥) → (IsFalse falses r.second → ⊥) → (l : LitValue) → 0 < watch_count r (code_of l) → IsFalse falses l → ⊥
-unseen_by r falses first second l h f = ⊎_elim
-    (λ a. first (subst (IsFalse falses) (sym (same_code r.first l a)) f))
-    (λ b. second (subst (IsFalse falses) (sym (same_code r.second l b)) f))
-    (watch_which r (code_of l) h)
+unseen_by r falses first second l h f = grind (arith, same_code, watch_which r (code_of l) h)
 
 -- the short clauses are known still
 pub known_add : (rows : List RowValue) (r : RowValue) (short short' : List ℕ) → ((e : ℕ) → e < length rows → length (row_at rows e).lits ≤ 1 → Contains short e) → ((e : ℕ) → Contains short e → Contains short' e) → (length r.lits ≤ 1 → Contains short' (length rows))
@@ -125,41 +115,22 @@ kept_add rows w w' t head head' short short' r k can long below above unseen mor
         g
 
 pub watched_more : (rows : List RowValue) (w w' : ListsValue) → IsWatched rows w → w'.lists ≡ w.lists → ((k : ℕ) → get_or w.uses k 0 ≤ get_or w'.uses k 0) → HasRoom w' → IsWatched rows w'
-watched_more rows w w' i e more has = record {
-  exact = subst (λ ls. (n k : ℕ) → count_by (λ x. x == n) (list_at ls k) ≡ watch_count (row_at rows n) k) (sym e) i.exact;
-  room = λ k. omega (arith, ap (λ ls. length (list_at ls k)) e, i.room k, more k);
-  fits = has.fits;
-}
+watched_more rows w w' i e more has = grind arith
 
 pub kept_lists : (rows : List RowValue) (w w' : ListsValue) (t : TrailValue) (head : ℕ) (short : List ℕ) → IsKept rows w t head short → AreLists t.vars w' → IsWatched rows w' → w'.watches ≡ w.watches → IsKept rows w' t head short
-kept_lists rows w w' t head short k a i same = record {
-  can = record { are_lists = a; are_rows = k.can.are_rows; watched = i; blocked = subst (AreBlocked (clauses_of rows)) (sym same) k.can.blocked };
-  head_within = k.head_within;
-  excused = k.excused;
-  head_above = k.head_above;
-  settled = k.settled;
-  short_known = k.short_known;
-  short_within = k.short_within;
-  grounded = k.grounded;
-  short_true = k.short_true;
-}
+kept_lists rows w w' t head short k a i same =
+    let blocked = subst (AreBlocked (clauses_of rows)) (sym same) k.can.blocked in
+    assumption (k, a, i, blocked)
 
 -- the clause makes a literal true, and so nothing waits on its account
 pub kept_learned : (rows : List RowValue) (r : RowValue) (w w' : ListsValue) (t : TrailValue) (head below : ℕ) (short short' : List ℕ) (x : LitValue) → IsKept rows w t head short → IsKept (rows ++ r ∷ []) w' t below short' → IsUnit (lits_of t.steps) r.lits x → IsDue t.limits t.steps r.lits
     → IsKept (rows ++ r ∷ []) w' (record { vars = t.vars; steps = t.steps ++ record { lit = x; reason = Some (length rows) } ∷ []; limits = t.limits }) head short'
-kept_learned rows r w w' t head below short short' x old new u d = record {
-  can = k.can;
-  head_within = omega (arith, old.head_within, length_push t.steps step);
-  excused = excused_add rows r (take head (lits_of t.steps)) (take head (lits_of (t.steps ++ step ∷ []))) (lits_of (t.steps ++ step ∷ []))
-      (λ l h f. (x, u.stands, subst (λ xs. Contains xs x) (sym pushed) (Contains-push (lits_of t.steps) x)))
-      (λ l f. subst (λ xs. IsFalse xs l) front f) (λ e l h f. let s = old.excused e l h f in (s.0, s.1, further s.0 s.2));
-  head_above = old.head_above;
-  settled = k.settled;
-  short_known = k.short_known;
-  short_within = k.short_within;
-  grounded = k.grounded;
-  short_true = k.short_true;
-}
+kept_learned rows r w w' t head below short short' x old new u d =
+    let within : head ≤ length (t.steps ++ step ∷ []) = omega (arith, old.head_within, length_push t.steps step) in
+    let excused : Excused (rows ++ r ∷ []) (take head (lits_of (t.steps ++ step ∷ []))) (lits_of (t.steps ++ step ∷ [])) = excused_add rows r (take head (lits_of t.steps)) (take head (lits_of (t.steps ++ step ∷ []))) (lits_of (t.steps ++ step ∷ []))
+    (λ l h f. (x, u.stands, subst (λ xs. Contains xs x) (sym pushed) (Contains-push (lits_of t.steps) x)))
+    (λ l f. subst (λ xs. IsFalse xs l) front f) (λ e l h f. let s = old.excused e l h f in (s.0, s.1, further s.0 s.2)) in
+    assumption (k, old, within, excused)
   where
     step : StepValue
     step = record { lit = x; reason = Some (length rows) }

@@ -1,20 +1,15 @@
 -- The clauses that a core begins with, each of which watches its first two literals.
-use Rattle.std.proofs.Common.{◌≡◌, ◌==◌, ℕ, ◌+◌, ◌<◌, ◌≤◌, List, [], ◌∷◌, ◌++◌, map, length, get_or, take, drop, cond, count_by, sum_by, refl, sym, ap, ◌∙◌, subst, ⊎_elim, arith, ◌≢◌, Contains, All, AllPairs}
+use Rattle.std.proofs.Common.{◌≡◌, ◌==◌, ℕ, ◌+◌, ◌<◌, ◌≤◌, List, [], ◌∷◌, ◌++◌, map, length, get_or, take, drop, cond, count_by, sum_by, refl, sym, ap, ◌∙◌, subst, arith, ◌≢◌, Contains, All, AllPairs}
 use Rattle.std.proofs.lemmas.List.{get_or-map, length-map, length_push, map_push, take_more, take-append-drop, Concat.flat_map-append, Elements.Contains-get_or}
 use Rattle.std.proofs.lemmas.List.Sums.{sum_by_push, sum_by-append}
 use Rattle.cnf_formula.specs.{Literals.{LitValue, code_of, yes}, Formulas.IsClause}
-use Rattle.trail_core.specs.Watching.{RowValue, ListsValue, no_row, watch_count, occurrences, spare, list_at, IsRow, AreRows, AreLists, AreBlocked}
+use Rattle.trail_core.specs.Watching.{RowValue, ListsValue, no_row, watch_count, occurrences, IsRow, AreRows, AreLists, AreBlocked}
 use Rattle.trail_core.specs.{Search.clauses_of, Kept.{IsShort, IsKept}, inner.Begun.{front_row, IsBegun}}
 use Rattle.trail_core.proofs.{Storing.{joined, joined_more, occurrences_joined}, Added.{Put, exact_add, known_add, own_count}}
 
 -- a clause watches its first two literals
 pub front_is : (vars : ℕ) (lits : List LitValue) → IsClause vars lits → AllPairs (λ a b. a ≢ b) lits → IsRow vars (front_row lits)
-front_is vars lits about once = record {
-  within = about;
-  first = λ h. Contains-get_or lits 0 (yes 1) (omega (arith, h));
-  second = λ h. Contains-get_or lits 1 (yes 1) h;
-  differ = λ h. once 0 1 (yes 1) (omega arith) h;
-}
+front_is vars lits about once = grind (arith, Contains-get_or)
 
 -- it watches no literal more often than it stands in it
 pub front_own : (lits : List LitValue) → AllPairs (λ a b. a ≢ b) lits → (k : ℕ) → watch_count (front_row lits) k ≤ occurrences (front_row lits) k
@@ -48,36 +43,8 @@ few_front clauses k code w =
 -- one clause more
 pub begun_add : (rows : List RowValue) (w w' : ListsValue) (r : RowValue) (short short' : List ℕ) → IsBegun rows w short → ((k : ℕ) → Put w.lists w'.lists r (length rows) k) → ((k : ℕ) → watch_count r k ≤ occurrences r k) → AreBlocked (clauses_of (rows ++ r ∷ [])) w'.watches
     → ((e : ℕ) → Contains short e → Contains short' e) → (length r.lits ≤ 1 → Contains short' (length rows)) → All (IsShort (rows ++ r ∷ [])) short' → IsBegun (rows ++ r ∷ []) w' short'
-begun_add rows w w' r short short' b put own blocked more new all = record {
-  exact = exact_add rows w.lists w'.lists r b.exact put;
-  room = λ k. ⊎_elim
-      (λ p. omega (arith, ap length p.0, p.1, sum_by_push (spare k) rows r, sum_by_push (λ x. occurrences x k) rows r, b.room k, own k))
-      (λ p. omega (arith, ap length p.0, length_push (list_at w.lists k) (length rows), p.1, sum_by_push (spare k) rows r, sum_by_push (λ x. occurrences x k) rows r, b.room k, own k))
-      (put k);
-  blocked = blocked;
-  short_known = known_add rows r short short' b.short_known more new;
-  short_within = all;
-}
+begun_add rows w w' r short short' b put own blocked more new all = grind (arith, exact_add rows w.lists w'.lists r b.exact put, sum_by_push, length_push, known_add rows r short short' b.short_known more new)
 
 -- where nothing is decided nor implied
 pub kept_begun : (vars : ℕ) (rows : List RowValue) (w : ListsValue) (short : List ℕ) → AreLists vars w → AreRows vars rows → IsBegun rows w short → ((k : ℕ) → sum_by (λ r. occurrences r k) rows ≤ get_or w.uses k 0) → w.rooms ≡ w.uses → IsKept rows w (record { vars = vars; steps = []; limits = [] }) 0 short
-kept_begun vars rows w short lists are b uses rooms = record {
-  can = record {
-    are_lists = lists;
-    are_rows = are;
-    watched = record {
-      exact = b.exact;
-      room = λ k. omega (arith, b.room k, uses k);
-      fits = λ k. omega (arith, ap (λ rs. get_or rs k 0) rooms);
-    };
-    blocked = b.blocked;
-  };
-  head_within = omega arith;
-  excused = λ e l h f. absurd (omega (arith, f.1));
-  head_above = λ j v. absurd (omega (arith, v));
-  settled = λ j v. absurd (omega (arith, v));
-  short_known = b.short_known;
-  short_within = b.short_within;
-  grounded = λ k i v. absurd (omega (arith, v));
-  short_true = λ j v. absurd (omega (arith, v));
-}
+kept_begun vars rows w short lists are b uses rooms = grind arith

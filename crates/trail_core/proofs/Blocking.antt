@@ -1,5 +1,5 @@
 -- Entries of watch lists and their blocking literals, as entries and clauses come.
-use Rattle.std.proofs.Common.{◌≡◌, ◌≢◌, ◌==◌, ℕ, ◌-◌, ◌<◌, true, false, List, [], ◌∷◌, ◌++◌, map, length, get_or, set, take, count_by, refl, sym, ap, ◌∙◌, subst, inl, inr, ⊎_elim, arith, ◌⊎◌, Contains, swap_remove}
+use Rattle.std.proofs.Common.{◌≡◌, ◌≢◌, ◌==◌, ℕ, ◌-◌, ◌<◌, true, false, List, [], ◌∷◌, ◌++◌, map, length, get_or, set, refl, sym, ap, ◌∙◌, subst, inl, inr, ⊎_elim, arith, ◌⊎◌, Contains, swap_remove}
 use Rattle.std.proofs.lemmas.{Bool.{eqb-true, cases_lt, false≢true}, List.Elements.{All-contains, Contains-push_cases}}
 use Rattle.std.proofs.lemmas.List.{get_or-set_same, get_or-set_other, get_or_append_left, get_or_default, get_or_past, get_or_push, length-set, length-take-le, get_or-take, length-map, get_or-map, map-set, map_push, take-map}
 use Rattle.cnf_formula.{specs.{Literals.{LitValue, code_of}, Formulas.IsAbout}, proofs.Codes.same_code}
@@ -16,12 +16,7 @@ pub in_removed : {X : Type 0} (xs : List X) (i : ℕ) (d x : X) → i < length x
 in_removed xs i d x w c = grind (arith, get_or-take, get_or-set_same, get_or-set_other, length-take-le, length-set, get_or_default)
 
 pub map_removed : {X Y : Type 0} (f : X → Y) (xs : List X) (i : ℕ) (d : X) → i < length xs → map f (swap_remove xs i d) ≡ swap_remove (map f xs) i (f d)
-map_removed f xs i d w =
-    let n : length (map f xs) ≡ length xs = length-map xs f in
-    let last : f (get_or xs (length xs - 1) d) ≡ get_or (map f xs) (length xs - 1) (f d) = sym (get_or-map f xs (length xs - 1) d (f d) (omega (arith, w))) in
-    sym (take-map f (length xs - 1) (set xs i (get_or xs (length xs - 1) d)))
-    ∙ ap (take (length xs - 1)) (map-set f xs i (get_or xs (length xs - 1) d) ∙ ap (set (map f xs) i) last)
-    ∙ ap (λ m. take (m - 1) (set (map f xs) i (get_or (map f xs) (m - 1) (f d)))) (sym n)
+map_removed f xs i d w = cc (length-map xs f, get_or-map f xs (length xs - 1) d (f d) (omega (arith, w)), take-map f (length xs - 1) (set xs i (get_or xs (length xs - 1) d)), map-set f xs i (get_or xs (length xs - 1) d))
 
 -- ---- one list of entries changes
 
@@ -50,10 +45,7 @@ blocked_longer clauses clause watches b k w c = grind (arith, b k w c, get_or_ap
 
 -- an entry that is not marked needs but a literal of its clause
 pub long_blocked : (rows : List RowValue) (id k : ℕ) (w : WatchValue) → Contains (row_at rows id).lits w.blocker → w.pair ≡ false → IsBlocked (get_or (clauses_of rows) id []) k w
-long_blocked rows id k w stands long = record {
-  stands = subst (λ ls. Contains ls w.blocker) (lits_at rows id) stands;
-  pair = λ t. absurd (false≢true (sym long ∙ t));
-}
+long_blocked rows id k w stands long = grind (arith, lits_at rows id, false≢true)
 
 -- a clause of two literals has no other
 two_only : (lits : List LitValue) (a b : LitValue) → length lits ≡ 2 → Contains lits a → Contains lits b → a ≢ b → (o : LitValue) → Contains lits o → (o ≡ a) ⊎ (o ≡ b)
@@ -97,30 +89,14 @@ visited_by rows lists t falsified place w can within named stands =
     let watches : 0 < watch_count r k = subst (λ e. 0 < watch_count (row_at rows e) k) (sym named) (entry_watches rows lists k place can.watched within) in
     let inside : w.clause < length rows = watch_within rows w.clause k watches in
     let row = can.are_rows w.clause inside in
-    let long = watch_long r k watches in
     let blocked = can.blocked k w stands in
     let own : Contains r.lits w.blocker = subst (λ ls. Contains ls w.blocker) (sym (lits_at rows w.clause)) blocked.stands in
-    record {
-      within = inside;
-      of_vars = All-contains (IsAbout t.vars) r.lits w.blocker row.within own;
-      own = own;
-      own_false = grind (arith, row.first long, row.second long, watch_which r k watches, same_code r.first falsified, same_code r.second falsified);
-      pair = λ p o c. ⊎_elim (λ e. inl e) (λ e. inr (same_code o falsified e)) (blocked.pair p o (subst (λ ls. Contains ls o) (lits_at rows w.clause) c));
-    }
+    grind (arith, entry_watches rows lists k place can.watched within, watch_long r k watches, lits_at rows w.clause, All-contains (IsAbout t.vars) r.lits w.blocker row.within own, watch_which r k watches, same_code r.first falsified, same_code r.second falsified, same_code, lits_at)
 
 -- ---- lists of the same clauses
 
 pub watched_same : (rows : List RowValue) (w w' : ListsValue) → IsWatched rows w → w'.lists ≡ w.lists → w'.rooms ≡ w.rooms → w'.uses ≡ w.uses → IsWatched rows w'
-watched_same rows w w' i l r u = record {
-  exact = λ e k. ap (λ ls. count_by (λ x. x == e) (list_at ls k)) l ∙ i.exact e k;
-  room = λ k. omega (arith, ap (λ ls. length (list_at ls k)) l, ap (λ us. get_or us k 0) u, i.room k);
-  fits = λ k. omega (arith, ap (λ us. get_or us k 0) u, ap (λ rs. get_or rs k 0) r, i.fits k);
-}
+watched_same rows w w' i l r u = grind arith
 
 pub can_replace : (rows : List RowValue) (w w' : ListsValue) (t : TrailValue) (at : ℕ) (watch : WatchValue) → CanScan rows w t → w'.lists ≡ w.lists → w'.rooms ≡ w.rooms → w'.uses ≡ w.uses → IsOnlyNew w.watches w'.watches at watch → IsBlocked (get_or (clauses_of rows) watch.clause []) at watch → CanScan rows w' t
-can_replace rows w w' t at watch c l r u only is = record {
-  are_lists = record { lists_len = ap length l ∙ c.are_lists.lists_len; rooms_len = ap length r ∙ c.are_lists.rooms_len; uses_len = ap length u ∙ c.are_lists.uses_len };
-  are_rows = c.are_rows;
-  watched = watched_same rows w w' c.watched l r u;
-  blocked = blocked_new (clauses_of rows) w.watches w'.watches at watch c.blocked only is;
-}
+can_replace rows w w' t at watch c l r u only is = grind (arith, watched_same rows w w' c.watched l r u, blocked_new (clauses_of rows) w.watches w'.watches at watch c.blocked only is)

@@ -1,5 +1,5 @@
 -- A trail as its fields hold it, and as a literal comes to it.
-use Rattle.std.proofs.Common.{◌≡◌, ◌≢◌, ℕ, ◌<◌, ◌≤◌, List, [], ◌∷◌, ◌++◌, Option, map, length, get_or, set, sym, ap, ◌∙◌, subst, arith, Contains}
+use Rattle.std.proofs.Common.{◌≡◌, ◌≢◌, ℕ, ◌<◌, ◌≤◌, List, [], ◌∷◌, ◌++◌, Option, map, length, get_or, set, ap, ◌∙◌, subst, arith, Contains}
 use Rattle.std.proofs.lemmas.List.{length-map}
 use Rattle.cnf_formula.specs.Literals.{LitValue, negation, code_of}
 use Rattle.trail_core.specs.{Assigned.IsOpen, Trails.{StepValue, TrailValue, lits_of, step_of, IsAssigned, IsLeveled}, inner.Packed.{reason_of, reasons_of}}
@@ -16,12 +16,7 @@ pub record IsSeen (vars : ℕ) (lits : List LitValue) (limits : List ℕ) (t : T
   pub count : length lits ≡ length t.steps
 
 pub seen : (vars : ℕ) (assignments : List Assignment) (lits : List LitValue) (limits : List ℕ) (t : TrailValue) → trail_of vars assignments lits limits ≡ t → IsSeen vars lits limits t
-seen vars assignments lits limits t v = record {
-  vars_same = ap (λ u. u.vars) v;
-  lits_same = ap (λ u. lits_of u.steps) (sym v) ∙ lits-steps (reasons_of assignments) lits;
-  limits_same = ap (λ u. u.limits) v;
-  count = sym (length-map lits (step_of (reasons_of assignments))) ∙ ap (λ u. length u.steps) v;
-}
+seen vars assignments lits limits t v = grind (arith, lits-steps (reasons_of assignments) lits, length-map lits (step_of (reasons_of assignments)))
 
 -- an open literal can come to the trail
 pub record CanPush (vars : ℕ) (values : List ℕ) (lits : List LitValue) (limits : List ℕ) (x : LitValue) : Type 0 where

@@ -1,5 +1,5 @@
 -- What a core keeps, as it propagates.
-use Rattle.std.proofs.Common.{◌≡◌, ℕ, ◌+◌, ◌<◌, ◌≤◌, Bool, List, [], ◌∷◌, ◌++◌, length, get_or, take, refl, sym, ap, ◌∙◌, subst, inl, inr, ⊎_elim, arith, ◌⊎◌, Contains, All}
+use Rattle.std.proofs.Common.{◌≡◌, ℕ, ◌+◌, ◌<◌, ◌≤◌, List, [], ◌∷◌, ◌++◌, length, get_or, take, refl, sym, ap, ◌∙◌, subst, inl, inr, ⊎_elim, arith, ◌⊎◌, Contains, All}
 use Rattle.std.proofs.{lemmas.{Grind.common_steps, Bool.cases_lt, List.Elements.{Contains-get_or, All-contains}}, Math.Bool.not-not}
 use Rattle.std.proofs.lemmas.List.{map-append, take-append-le, take_at, take_all, get_or-take, get_or-map, get_or_append_left, length-append, length-map, length-take-le}
 use Rattle.cnf_formula.specs.Literals.{LitValue, negation, code_of}
@@ -13,9 +13,7 @@ use Rattle.list_laws.proofs.Places.{by_place_push}
 -- ---- fronts of the trail
 
 pub negated_twice : (l : LitValue) → negation (negation l) ≡ l
-negated_twice l =
-    let make : Bool → LitValue = λ b. record { var = l.var; positive = b } in
-    ap make (not-not l.positive)
+negated_twice l = λ i. record { var = l.var; positive = not-not l.positive i }
 
 pub in_front : {X : Type 0} (n : ℕ) (xs : List X) (l : X) → Contains (take n xs) l → Contains xs l
 in_front n xs l c = grind (arith, common_steps)
@@ -95,19 +93,13 @@ scan_due {clauses} {ss} {ts} limits head falsified w is above = implied_weaker (
 
 pub kept_next : (rows : List RowValue) (w : ListsValue) (t : TrailValue) (head : ℕ) (short : List ℕ) (falsified : LitValue) → IsKept rows w t head short → head < length t.steps → ((d : LitValue) → falsified ≡ negation (get_or (lits_of t.steps) head d))
     → ((e : ℕ) → 0 < watch_count (row_at rows e) (code_of falsified) → IsSatisfied (lits_of t.steps) (row_at rows e).lits) → IsKept rows w t (head + 1) short
-kept_next rows w t head short falsified k v is handled = record {
-  can = k.can;
-  head_within = omega (arith, v);
-  excused = λ e l h f.
-      let here : (falsified ≡ l) ⊎ IsFalse (take head (lits_of t.steps)) l = grind (arith, lits_length t.steps, length-take-le, get_or-take, is (negation l), negated_twice l) in
-      ⊎_elim (λ y. handled e (subst (λ z. 0 < watch_count (row_at rows e) (code_of z)) (sym y) h)) (k.excused e l h) here;
-  head_above = λ j u. omega (arith, k.head_above j u);
-  settled = k.settled;
-  short_known = k.short_known;
-  short_within = k.short_within;
-  grounded = k.grounded;
-  short_true = k.short_true;
-}
+kept_next rows w t head short falsified k v is handled =
+    let within : head + 1 ≤ length t.steps = omega (arith, v) in
+    let above : (j : ℕ) → j < length t.limits → get_or t.limits j 0 ≤ head + 1 = λ j u. omega (arith, k.head_above j u) in
+    let excused : Excused rows (take (head + 1) (lits_of t.steps)) (lits_of t.steps) = λ e l h f.
+    let here : (falsified ≡ l) ⊎ IsFalse (take head (lits_of t.steps)) l = grind (arith, lits_length t.steps, length-take-le, get_or-take, is (negation l), negated_twice l) in
+    ⊎_elim (λ y. handled e (subst (λ z. 0 < watch_count (row_at rows e) (code_of z)) (sym y) h)) (k.excused e l h) here in
+    assumption (k, within, above, excused)
 
 -- ---- closed
 

@@ -25,16 +25,7 @@ pub known : (pool : List WatchValue) (spans : List Span) (w : ListsValue) (k cod
 known pool spans w k code x p v e h is =
     let n : k < length spans = omega (arith, e, h, ap (λ u. length u.lists) v, spans_many pool spans) in
     let inside : IsInside (length pool) x = subst (IsInside (length pool)) (sym is) (p.inside k x n) in
-    record {
-      view = v;
-      at = e;
-      pooled = p;
-      within = n;
-      is = is;
-      inside = inside;
-      many = subst (λ u. length (list_at u.lists code) ≡ x.len) v (subst (λ m. length (list_at (map numbers_of (map (entries_of pool) spans)) m) ≡ x.len) e (ap length (listed pool spans k x n is) ∙ numbers_len pool x inside));
-      room = subst (λ u. get_or u.rooms code 0 ≡ x.room) v (subst (λ m. get_or (map (λ s. s.room) spans) m 0 ≡ x.room) e (at_map (λ s. s.room) spans k x 0 n is));
-    }
+    grind (arith, spans_many pool spans, listed pool spans k x n is, numbers_len pool x inside, at_map)
 
 -- an entry came to the end of the list
 pub record IsAdded (w w' : ListsValue) (code : ℕ) (watch : WatchValue) : Type 0 where

@@ -78,11 +78,7 @@ wider : {size size' : ℕ} {s : Span} → IsInside size s → size ≤ size' →
 wider q more = grind arith
 
 pub pooled_set : (size size' : ℕ) (spans : List Span) (k : ℕ) (s : Span) → ArePooled size spans → k < length spans → size ≤ size' → size' < 4294967296 → IsInside size' s → ((i : ℕ) (d : Span) → i < length spans → i ≢ k → AreApart (get_or spans i d) s) → ArePooled size' (set spans k s)
-pooled_set size size' spans k s p w more small inside apart = record {
-  inside = λ i d u. grind (arith, p.inside i d, get_or-set_same, get_or-set_other, length-set, cases_eq i k);
-  apart = λ i j d u v ne. grind (arith, p.apart i j d, apart i d, apart j d, get_or-set_same, get_or-set_other, length-set, cases_eq i k, cases_eq j k);
-  small = small;
-}
+pooled_set size size' spans k s p w more small inside apart = grind (arith, get_or-set_same, get_or-set_other, length-set)
 
 -- a list that keeps its room
 pub pooled_same : (size : ℕ) (spans : List Span) (k : ℕ) (x s : Span) → ArePooled size spans → k < length spans → x ≡ get_or spans k x → s.start ≡ x.start → s.room ≡ x.room → s.uses ≡ x.uses → s.len ≤ s.room → ArePooled size (set spans k s)
@@ -129,11 +125,7 @@ views_same pool pool' spans p more same =
 -- ---- a list comes behind the others
 
 pub pooled_push : (size size' : ℕ) (spans : List Span) (s : Span) → ArePooled size spans → size ≤ size' → size' < 4294967296 → IsInside size' s → s.start ≡ size → ArePooled size' (spans ++ s ∷ [])
-pooled_push size size' spans s p more small inside at = record {
-  inside = λ i d u. grind (arith, p.inside i d, get_or_append_left, get_or_push, length_push, cases_lt i (length spans));
-  apart = λ i j d u v ne. grind (arith, p.apart i j d, p.inside i d, p.inside j d, get_or_append_left, get_or_push, length_push, cases_lt i (length spans), cases_lt j (length spans));
-  small = small;
-}
+pooled_push size size' spans s p more small inside at = grind (arith, get_or_append_left, get_or_push, length_push)
 
 -- ---- lists of no entry
 

@@ -1,5 +1,5 @@
 -- What the values of literals keep, as literals become true and are taken back.
-use Rattle.std.proofs.Common.{◌≡◌, ◌≢◌, ◌==◌, ℕ, ◌+◌, ◌<◌, ◌≤◌, true, false, List, [], ◌∷◌, ◌++◌, Some, length, get_or, set, cond, eqb, count_by, refl, sym, ap, ◌∙◌, subst, inl, inr, ⊎_elim, arith, ◌⊎◌, Contains}
+use Rattle.std.proofs.Common.{◌≡◌, ◌≢◌, ◌==◌, ℕ, ◌+◌, ◌<◌, ◌≤◌, true, List, [], ◌∷◌, ◌++◌, Some, length, get_or, set, cond, eqb, count_by, refl, sym, ap, ◌∙◌, subst, inl, inr, ⊎_elim, arith, ◌⊎◌, Contains}
 use Rattle.std.proofs.lemmas.{Bool.cases_eq, List.{Sums.{sum_by-set, get_or-le-sum_by}, Elements.{Contains-push, Contains-push_cases, Contains-append_left}}}
 use Rattle.std.proofs.lemmas.List.{get_or-set_same, get_or-set_other, get_or_default, get_or_append_left, get_or_push, length_push, length-set}
 use Rattle.cnf_formula.{specs.{Literals.{LitValue, negation, code_of}, Formulas.IsAbout}, proofs.Codes.code_within}
@@ -65,20 +65,13 @@ pub false_by_value : (vars : ℕ) (values : List ℕ) (lits : List LitValue) (l 
 false_by_value vars values lits l a some within e = grind (arith, value_by_true vars values lits l a, a.stands l some within)
 
 pub open_by_value : (vars : ℕ) (values : List ℕ) (lits : List LitValue) (l : LitValue) → IsAssigned vars values lits → get_or values (code_of l) 0 ≡ 0 → IsOpen lits l
-open_by_value vars values lits l a e = record {
-  not_true = λ c. absurd (omega (arith, e, value_by_true vars values lits l a c));
-  not_false = λ c. absurd (omega (arith, e, value_by_false vars values lits l a c));
-}
+open_by_value vars values lits l a e = grind (arith, value_by_true, value_by_false)
 
 value_by_open : (vars : ℕ) (values : List ℕ) (lits : List LitValue) (l : LitValue) → IsAssigned vars values lits → 0 < l.var → l.var ≤ vars → IsOpen lits l → get_or values (code_of l) 0 ≡ 0
 value_by_open vars values lits l a some within o = ⊎_elim (λ e. e) (λ n. absurd (⊎_elim o.not_true o.not_false (a.stands l some within n))) (cases_eq (get_or values (code_of l) 0) 0)
 
 pub value_some : (vars : ℕ) (values : List ℕ) (lits : List LitValue) (l : LitValue) → IsAssigned vars values lits → 0 < l.var → l.var ≤ vars → get_or values (code_of l) 0 ≢ 0 → IsValue lits l (Some (eqb (get_or values (code_of l) 0) 1))
-value_some vars values lits l a some within nz =
-    ⊎_elim
-    (λ c. let e : eqb (get_or values (code_of l) 0) 1 ≡ true = ap (λ n. eqb n 1) (value_by_true vars values lits l a c) in subst (λ b. IsValue lits l (Some b)) (sym e) c)
-    (λ c. let e : eqb (get_or values (code_of l) 0) 1 ≡ false = ap (λ n. eqb n 1) (value_by_false vars values lits l a c) in subst (λ b. IsValue lits l (Some b)) (sym e) c)
-    (a.stands l some within nz)
+value_some vars values lits l a some within nz = grind (arith, value_by_true, value_by_false)
 
 pub consistent : (vars : ℕ) (values : List ℕ) (lits : List LitValue) → IsAssigned vars values lits → (l : LitValue) → Contains lits l → Contains lits (negation l) → ⊥
 consistent vars values lits a l p q = absurd (omega (arith, value_by_true vars values lits l a p, value_by_false vars values lits l a q))
@@ -147,10 +140,7 @@ assigned_push vars values lits x a some within o =
 -- ---- literals are taken back
 
 pub last_within : (vars : ℕ) (values : List ℕ) (lits : List LitValue) (x : LitValue) → IsAssigned vars values (lits ++ x ∷ []) → (code_of x < length values) × (code_of (negation x) < length values)
-last_within vars values lits x a =
-    let last : length lits < length (lits ++ x ∷ []) = omega (arith, length_push lits x) in
-    let here : get_or (lits ++ x ∷ []) (length lits) x ≡ x = get_or_push lits x x (length lits) refl in
-    code_of_within vars values (lits ++ x ∷ []) x a (subst (λ l. 0 < l.var) here (a.some (length lits) x last)) (subst (λ l. l.var ≤ vars) here (a.within (length lits) x last))
+last_within vars values lits x a = grind (arith, length_push lits x, get_or_push lits x x (length lits) refl, code_of_within)
 
 pub assigned_pop : (vars : ℕ) (values : List ℕ) (lits : List LitValue) (x : LitValue) → IsAssigned vars values (lits ++ x ∷ []) → IsAssigned vars (valued values x 0 0) lits
 assigned_pop vars values lits x a =

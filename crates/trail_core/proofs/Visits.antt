@@ -47,14 +47,9 @@ pub lits_at : (rows : List RowValue) (e : ℕ) → (row_at rows e).lits ≡ get_
 lits_at rows e = grind (arith, get_or-map, get_or_past, length-map)
 
 pub scanned_same : (by : LitValue) (rows : List RowValue) (t : TrailValue) → Scanned by rows t rows t
-scanned_same by rows t = record {
-  vars = refl;
-  limits = refl;
-  count = refl;
-  same = refl;
-  watches = λ e k h. inl h;
-  implied = none t.steps;
-}
+scanned_same by rows t =
+    let same : Implied (clauses_of rows) (HasLit by) t.steps t.steps = none t.steps in
+    grind arith
 
 -- a literal that is not false watches in place of one that is
 pub record Found (trues : List LitValue) (clause : List LitValue) (other x : LitValue) : Type 0 where

@@ -8,7 +8,7 @@ use Rattle.report_form.specs.{declared.fault.{ReportCode.TheVariants.OutOfMemory
 use Rattle.report_form.specs.Reports.{ReportValue, WordsValue, question_of}
 use Rattle.frontier_audit.specs.{Rights.{IsRight, IsSearched}, Shelves.ShelfRight}
 use Rattle.run_rules.specs.{Trials.{trial_text, trial_words}, Tries.Tries}
-use Rattle.trial_command.{specs.Counts.trial_topology, proofs.Searchable.trial_small}
+use Rattle.trial_command.{specs.Counts.trial_topology, proofs.{Searchable.trial_small, Verified.verified_by}}
 
 -- where a report is owed, only memory may be lacking
 pub only_memory : (fault : ReportFault) (r : ReportValue) → Answers (Err fault) (Ok r) → fault.code ≡ OutOfMemory
@@ -29,6 +29,6 @@ tried n r read files text words topology right searched shelf same written = rec
   topology = topology;
   right = right;
   searched = searched;
-  shelf = shelf;
+  verified = verified_by r files right shelf;
   written = written ∙ ap (trial_text n) same;
 }

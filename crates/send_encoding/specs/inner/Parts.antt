@@ -17,6 +17,10 @@ node_keeps m (c, n) = map (λ s. negation (arrival m c n (s - 1)) ∷ arrival m 
 abbrev pub node_ends : SendMapValue → PlacementValue → ℕ × ℕ → List (List LitValue)
 node_ends m post (c, n) = if holds post (c, n) then (arrival m c n m.steps ∷ []) ∷ [] else []
 
+-- where it has the chunk it had it before the step, or was sent it
+abbrev pub node_arrives : SendMapValue → ℕ × ℕ → List (List LitValue)
+node_arrives m (c, n) = map (λ s. arrival m c n (s - 1) ∷ negation (arrival m c n s) ∷ sends_into m c n s) (steps_of m)
+
 -- it is sent the chunk once
 abbrev pub node_once : SendMapValue → ℕ × ℕ → List (List LitValue)
 node_once m (c, n) = flat_map (λ s. at_most_one_of (sends_into m c n s)) (steps_of m)

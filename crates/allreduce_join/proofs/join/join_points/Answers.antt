@@ -4,8 +4,11 @@ use Rattle.collective_spec.specs.Collectives.{chunks_of}
 use Rattle.collective_spec.specs.declared.kind.Kind.TheVariants as kind
 use Rattle.candidate_order.specs.{declared.candidate.Candidate.Candidate, Frontiers.PointValue}
 use Rattle.candidate_order.specs.declared.mark.Mark.TheVariants as mark
-use Rattle.allreduce_join.{specs.Joins.{IsJoinable, both_costs, join_of, one_after}, proofs.{Bounded.rounds_bounded, Frontiers.points_join}}
+use Rattle.allreduce_join.{specs.Joins.{IsJoinable, join_of, one_after}, proofs.{Bounded.rounds_bounded, Frontiers.points_join}}
 use Rattle.allreduce_join.proofs.join.join_points.Goals as goal
+
+abbrev both_costs : Candidate → Candidate → Candidate
+both_costs a b = record { s = a.s + b.s; r = a.r + b.r; c = a.c }
 
 -- what is made of the parts of two points is their join
 join_made : (a b : PointValue) (x y costs : Candidate) (p q s : ScheduleValue) → IsJoinable a → costs ≡ both_costs x y → x ≡ a.candidate → y ≡ b.candidate → p ≡ a.schedule → q ≡ b.schedule → s ≡ one_after (length p.rounds) p q → record { candidate = costs; schedule = s; mark = mark.Joined x.s } ≡ join_of a b

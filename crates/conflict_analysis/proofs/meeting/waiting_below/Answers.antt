@@ -1,4 +1,5 @@
-use Rattle.std.proofs.{Common.{sym, ◌∙◌, arith}, lemmas.Bool.false≢true}
+use Rattle.std.proofs.lemmas.Grind.{common_steps}
+use Rattle.std.proofs.{Common.arith, lemmas.Bool.false≢true}
 use Rattle.conflict_analysis.{specs.Met.value_of, proofs.Waiting.{waits_below, next_passed, passed_over}}
 use Rattle.conflict_analysis.proofs.meeting.waiting_below.Goals as goal
 
@@ -12,16 +13,7 @@ pub is_waiting-requires-clause-len : goal.is_waiting-requires-clause-len
 is_waiting-requires-clause-len c = c.requires.sorted.marked.len
 
 pub returns-then-is_waiting-clause-next : goal.returns-then-is_waiting-clause-next
-returns-then-is_waiting-clause-next c = record {
-  within = c.requires.sorted.noted.within c.met_below-place.result c.met_below-place.ensures.met;
-  waits = c.is_waiting.ensures.0 c.if-is_waiting.true;
-  passed = next_passed c.args.core.now c.args.mark (value_of c.args.walk.now) c.loop-from.place c.met_below-place.result c.requires.sorted c.loop-from.invariant.passed c.met_below-place.ensures.below c.met_below-place.ensures.highest;
-}
+returns-then-is_waiting-clause-next c = grind (arith, common_steps, next_passed c.args.core.now c.args.mark (value_of c.args.walk.now) c.loop-from.place c.met_below-place.result c.requires.sorted c.loop-from.invariant.passed c.met_below-place.ensures.below c.met_below-place.ensures.highest)
 
 pub loop-from-preserved : goal.loop-from-preserved
-loop-from-preserved c =
-    let passed = next_passed c.args.core.now c.args.mark (value_of c.args.walk.now) c.loop-from.place c.met_below-place.result c.requires.sorted c.loop-from.invariant.passed c.met_below-place.ensures.below c.met_below-place.ensures.highest in
-    record {
-      under = omega (arith, c.met_below-place.ensures.below, c.loop-from.invariant.under);
-      passed = passed_over c.args.core.now c.args.mark (value_of c.args.walk.now) c.met_below-place.result passed (λ e. false≢true (sym c.if-is_waiting.false ∙ c.is_waiting.ensures.1 e));
-    }
+loop-from-preserved c = grind (arith, common_steps, next_passed c.args.core.now c.args.mark (value_of c.args.walk.now) c.loop-from.place c.met_below-place.result c.requires.sorted c.loop-from.invariant.passed c.met_below-place.ensures.below c.met_below-place.ensures.highest, passed_over, false≢true)

@@ -1,7 +1,7 @@
-use Rattle.std.proofs.Common.{◌<◌, ◌∙◌, refl, sym, arith}
+use Rattle.std.proofs.Common.{◌<◌, ◌∙◌, None, Some, refl, sym, arith}
 use Rattle.schedule.specs.Placed.{holds}
 use Rattle.bag_runs.specs.Stores.{StoreValue, bags_in}
-use Rattle.inversion.proofs.Uneven.{grid_here, grid_later, grid_past, grid_start}
+use Rattle.inversion.proofs.Uneven.{grid_on, grid_past, grid_start}
 use Rattle.inversion.proofs.counting.first_uneven.Goals as goal
 
 pub loop-chunk-init : goal.loop-chunk-init
@@ -11,13 +11,13 @@ pub returns-in-Some-clause-first : goal.returns-in-Some-clause-first
 returns-in-Some-clause-first c =
     let s : StoreValue = c.args.store.now in
     let below : c.loop-chunk.chunk < c.args.demand.now.chunks = omega arith in
-    sym (grid_here (bags_in s) s.nodes (holds c.args.demand.now) c.loop-chunk.chunk c.args.demand.now.chunks c.in-Some.due below c.in-Some.ensures) ∙ c.loop-chunk.invariant
+    sym (grid_on (bags_in s) s.nodes (holds c.args.demand.now) c.loop-chunk.chunk c.args.demand.now.chunks (Some c.in-Some.due) below c.in-Some.ensures) ∙ c.loop-chunk.invariant
 
 pub loop-chunk-preserved : goal.loop-chunk-preserved
 loop-chunk-preserved c =
     let s : StoreValue = c.args.store.now in
     let below : c.loop-chunk.chunk < c.args.demand.now.chunks = omega arith in
-    sym (grid_later (bags_in s) s.nodes (holds c.args.demand.now) c.loop-chunk.chunk c.args.demand.now.chunks below c.in_default.ensures) ∙ c.loop-chunk.invariant
+    sym (grid_on (bags_in s) s.nodes (holds c.args.demand.now) c.loop-chunk.chunk c.args.demand.now.chunks None below c.in_default.ensures) ∙ c.loop-chunk.invariant
 
 pub returns-clause-first : goal.returns-clause-first
 returns-clause-first c =

@@ -25,7 +25,7 @@ remove_groups-requires c =
 pub still_open-requires-2 : goal.still_open-requires-2
 still_open-requires-2 c =
     let t = c.args.topology.now in
-    All-same (λ g. g < length t.groups) c.deref-2.result.now (all_groups t) (c.deref-2.ensures.value ∙ c.in_ok-all.ensures) (all_within t).below
+    All-same (λ g. g < length t.groups) c.deref-2.result.now (all_groups t) (c.deref-2.ensures.value ∙ c.in_ok-all.ensures.groups) (all_within t).below
 
 pub loop-turn-init : goal.loop-turn-init
 loop-turn-init c =
@@ -38,7 +38,7 @@ loop-turn-init c =
     let alone : List ℕ = filter (is_alone t) (all_groups t) in
     let taken : List ℕ = c.in_ok-taken.taken.items in
     let taken_is : taken ≡ filter keeps alone = c.in_ok-taken.ensures ∙ ap (filter keeps) c.requires in
-    let left_is : c.in_ok-left.left.items ≡ filter keeps_now (all_groups t) = c.in_ok-left.ensures ∙ ap (filter keeps_now) (c.deref-2.ensures.value ∙ c.in_ok-all.ensures) in
+    let left_is : c.in_ok-left.left.items ≡ filter keeps_now (all_groups t) = c.in_ok-left.ensures ∙ ap (filter keeps_now) (c.deref-2.ensures.value ∙ c.in_ok-all.ensures.groups) in
     let removed : RemovesGroups cells new t taken = subst (RemovesGroups cells new t) c.deref.ensures.value c.remove_groups.ensures in
     record {
       taken = All-same P taken (filter keeps alone) taken_is (All-filter keeps P alone (All-filter (is_alone t) P (all_groups t) (all_within t).below));

@@ -1,5 +1,5 @@
 use Rattle.std.{proofs.Common.{◌≡◌, drop}, specs.List.list_any}
-use Rattle.node_cuts.specs.Sides.{members}
+use Rattle.node_cuts.specs.inner.Listed.{members}
 use Rattle.node_cuts.proofs.holders.has_any.Given as goal
 
 abbrev pub invariant-loop-node : goal.invariant-loop-node

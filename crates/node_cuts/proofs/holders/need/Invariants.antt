@@ -1,5 +1,5 @@
 use Rattle.std.proofs.Common.{◌≡◌, ◌≤◌, count_by, take}
-use Rattle.node_cuts.specs.{Sides.members, Holders.is_lacking}
+use Rattle.node_cuts.specs.{inner.Listed.members, Holders.is_lacking}
 use Rattle.node_cuts.proofs.holders.need.Given as goal
 
 abbrev pub invariant-loop-chunk : goal.invariant-loop-chunk

@@ -2,8 +2,9 @@ use Rattle.std.{proofs.Common.{◌≡◌, ◌*◌, ◌<◌, ℕ, Bool, List, Som
 use Rattle.std.proofs.{Math.Nat.mul-one, lemmas.{Bool.cases_eq, List.{get_or_default, length-map}}}
 use Rattle.list_laws.proofs.Fronts.{at_map}
 use Rattle.node_cuts.specs.{declared.{members.Members.{Members, TheVariants.Sided}, side.Side.TheVariants.One, sets.Sets.TheVariants.Listed}, Tables.measure_of}
-use Rattle.node_cuts.specs.{declared.measure.Measure.Measure, Sides.{NodeSet, mask_of, members, node_sets}}
-use Rattle.node_cuts.specs.Cuts.{CutValue, cover_by, cut_of, cut_refutes, need_of, width_by}
+use Rattle.node_cuts.specs.{declared.measure.Measure.Measure, Sides.{NodeSet, mask_of, node_sets}, inner.Listed.members}
+use Rattle.node_cuts.specs.{Cuts.{CutValue, cover_by, cut_of, need_of, width_by}, inner.Refuting.cut_refutes}
+use Rattle.node_cuts.proofs.Crossing.{first_by_set}
 use Rattle.node_cuts.proofs.Tabled.{found_at, is_over, measure_told, nobody, none_found_in}
 use Rattle.node_cuts.proofs.refuting.first_cut.Goals as goal
 
@@ -54,6 +55,7 @@ returns-then-refutes c =
     ap Some (made ∙ ap (cut_of Listed t i.pre i.post) same)
     ∙ ap (option_map (cut_of Listed t i.pre i.post))
     (sym (found_at p us at nobody (omega (arith, c.loop-set-test.true, ap length all, length-map items members)) c.loop-set.invariant (ap p (sym same) ∙ sym told ∙ c.if-refutes.true)))
+    ∙ sym (first_by_set Listed t i.pre i.post r)
 
 pub returns : goal.returns
 returns c =
@@ -64,3 +66,4 @@ returns c =
     let all : map members items ≡ us = ap (map members) c.deref-set-items.ensures.value ∙ c.in_ok-node_sets.ensures ∙ ap (node_sets Listed) c.nodes-nodes.ensures.nodes in
     ap (option_map (cut_of Listed t i.pre i.post))
     (sym (none_found_in (λ v. cut_refutes Listed v t i.pre i.post c.args.r) us nobody (λ k below. c.loop-set.invariant k (omega (arith, below, c.loop-set-test.false, ap length all, length-map items members)))))
+    ∙ sym (first_by_set Listed t i.pre i.post c.args.r)

@@ -1,5 +1,5 @@
 use Rattle.std.proofs.Common.{◌≡◌, ◌++◌, map, take}
-use Rattle.node_cuts.specs.Sides.{complement}
+use Rattle.node_cuts.specs.inner.Listed.{complement}
 use Rattle.node_cuts.proofs.side.listed_sides.Given as goal
 
 abbrev pub invariant-loop-side : goal.invariant-loop-side

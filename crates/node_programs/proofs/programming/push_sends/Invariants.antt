@@ -1,5 +1,5 @@
 use Rattle.std.proofs.Common.{take}
-use Rattle.node_programs.{specs.Programs.send_of, proofs.Pushing.Pushed}
+use Rattle.node_programs.{specs.inner.Pushed.send_of, proofs.Pushing.Pushed}
 use Rattle.node_programs.proofs.programming.push_sends.Given as goal
 
 abbrev pub invariant-loop-hop : goal.invariant-loop-hop

@@ -1,4 +1,4 @@
-use Rattle.node_programs.{specs.Programs.take_of, proofs.Pushing.{pushed_all, pushed_more, pushed_none}}
+use Rattle.node_programs.{specs.inner.Pushed.take_of, proofs.Pushing.{pushed_all, pushed_more, pushed_none}}
 use Rattle.node_programs.proofs.programming.push_takes.Goals as goal
 
 pub loop-hop-init : goal.loop-hop-init

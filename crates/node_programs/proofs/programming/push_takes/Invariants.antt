@@ -1,5 +1,5 @@
 use Rattle.std.proofs.Common.{take}
-use Rattle.node_programs.{specs.Programs.take_of, proofs.Pushing.Pushed}
+use Rattle.node_programs.{specs.inner.Pushed.take_of, proofs.Pushing.Pushed}
 use Rattle.node_programs.proofs.programming.push_takes.Given as goal
 
 abbrev pub invariant-loop-hop : goal.invariant-loop-hop

@@ -19,5 +19,5 @@ returns-in_ok-verdict_answer-in-None-clause-answers g c =
     let can = subst (IsSearchableAs (searchable (whole_question r.words r.topology))) c.in-None.is by_topology in
     let answer = c.in_ok-verdict_answer-in-None.field-0 in
     let found = c.in_ok-verdict-in-None.ensures in
-    audit_answers r _ c.in_ok-verdict-in-None.verdict answer.status answer.text.items c.words.ensures.limits found.exact found.some (λ e. found.right (ap Ok e)) (λ e. found.logs (ap Ok e))
+    audit_answers r _ c.in_ok-verdict-in-None.verdict answer.status answer.text.items c.words.ensures.limits found.exact found.some (λ e. found.right (ap Ok e))
     c.in_ok-verdict_answer-in-None.ensures.says c.audit.ensures.stay can

@@ -18,3 +18,6 @@ returns-in-None-clause-small c =
     let by_words = subst (λ w. IfOk c.search_refusal.result (IsSearchableAs (searchable (whole_question w c.topology.result.now)))) c.words.ensures.words c.search_refusal.ensures in
     let by_topology = subst (λ t. IfOk c.search_refusal.result (IsSearchableAs (searchable (whole_question r.words t)))) c.topology.ensures.topology by_words in
     IfOk-weaker c.search_refusal.result _ _ (λ refused is none. is_small (whole_question r.words r.topology) (subst (IsSearchableAs (searchable (whole_question r.words r.topology))) none is)) by_topology
+
+pub returns-in-None-clause-valid : goal.returns-in-None-clause-valid
+returns-in-None-clause-valid c = IfOk-weaker c.search_refusal.result _ _ (λ refused is none. c.words.ensures.limits) c.search_refusal.ensures

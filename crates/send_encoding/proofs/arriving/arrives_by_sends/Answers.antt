@@ -1,6 +1,6 @@
 use Rattle.std.{proofs.Common.{◌≡◌, arith, sym, ap, ◌∙◌}, specs.List.{flat_map, range_with_len}}
 use Rattle.cnf_formula.{specs.Formulas.with_clauses, proofs.Growing.flat_map-pairs}
-use Rattle.send_encoding.specs.Sending.{node_arrives}
+use Rattle.send_encoding.specs.inner.Parts.{node_arrives}
 use Rattle.send_encoding.proofs.arriving.arrives_by_sends.Goals as goal
 
 pub returns : goal.returns

@@ -1,6 +1,6 @@
 use Rattle.std.{proofs.Common.◌≡◌, specs.List.{flat_map, range_with_len}}
 use Rattle.cnf_formula.specs.Formulas.{with_clauses}
-use Rattle.send_encoding.specs.Sending.{node_arrives}
+use Rattle.send_encoding.specs.inner.Parts.{node_arrives}
 use Rattle.send_encoding.proofs.arriving.chunk_arrives.Given as goal
 
 abbrev pub invariant-loop-node : goal.invariant-loop-node

@@ -1,7 +1,8 @@
 use Rattle.std.{proofs.Common.◌≡◌, specs.List.{flat_map, range_with_len}}
+use Rattle.std.specs.List.{enumerate_from}
 use Rattle.cnf_formula.specs.Formulas.{with_clauses}
-use Rattle.send_encoding.specs.{Variables.{steps_of, numbered_links}, Sending.send_over}
+use Rattle.send_encoding.specs.{Variables.{steps_of}, Sending.send_over}
 use Rattle.send_encoding.proofs.arriving.sends_arrive.Given as goal
 
 abbrev pub invariant-loop-chunk : goal.invariant-loop-chunk
-invariant-loop-chunk l = l.formula ≡ with_clauses l.initial.formula (flat_map (λ c. flat_map (λ link. flat_map (send_over l.map c link) (steps_of l.map)) (numbered_links l.map)) (range_with_len 0 l.chunk))
+invariant-loop-chunk l = l.formula ≡ with_clauses l.initial.formula (flat_map (λ c. flat_map (λ link. flat_map (send_over l.map c link) (steps_of l.map)) (enumerate_from 0 l.map.links)) (range_with_len 0 l.chunk))

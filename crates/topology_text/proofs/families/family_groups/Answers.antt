@@ -1,7 +1,7 @@
 use Rattle.std.{proofs.Common.{◌≡◌, ℕ, ◌<◌, ◌/◌, true, List, sym, ap, ◌∙◌, subst}, specs.List.All}
 use Rattle.schedule.specs.Links.{IsLink, IsGroup}
 use Rattle.topology_text.specs.declared.family_kind.FamilyKind.{FamilyKind, TheVariants.{Complete, Shared, Switch, Boxes}}
-use Rattle.topology_text.specs.Family.{is_allowed, family_links, one_wide, port_out, port_in, cable}
+use Rattle.topology_text.specs.Family.{is_allowed, family_links, one_wide, port, cable}
 use Rattle.topology_text.proofs.{FamilyLinks.family_links_are, FamilyGroups.{shared_is_group, ports_out, ports_in, cables_are}}
 use Rattle.topology_text.proofs.families.family_groups.Goals as goal
 
@@ -20,12 +20,12 @@ mesh_groups-requires c = subst (All IsLink) (sym (c.deref.ensures.value ∙ c.in
 pub port_groups-requires-clause-out : goal.port_groups-requires-clause-out
 port_groups-requires-clause-out c =
     let size = c.args.size in
-    at_links (λ links. (node : ℕ) → node < size → IsGroup (port_out links node)) c.args.kind Switch size c.deref-in-Switch.result.now c.in-Switch.is (c.deref-in-Switch.ensures.value ∙ c.in_ok-links.ensures) (ports_out size) c.requires
+    at_links (λ links. (node : ℕ) → node < size → IsGroup (port (λ link. link.0) links node)) c.args.kind Switch size c.deref-in-Switch.result.now c.in-Switch.is (c.deref-in-Switch.ensures.value ∙ c.in_ok-links.ensures) (ports_out size) c.requires
 
 pub port_groups-requires-clause-into : goal.port_groups-requires-clause-into
 port_groups-requires-clause-into c =
     let size = c.args.size in
-    at_links (λ links. (node : ℕ) → node < size → IsGroup (port_in links node)) c.args.kind Switch size c.deref-in-Switch.result.now c.in-Switch.is (c.deref-in-Switch.ensures.value ∙ c.in_ok-links.ensures) (ports_in size) c.requires
+    at_links (λ links. (node : ℕ) → node < size → IsGroup (port (λ link. link.1) links node)) c.args.kind Switch size c.deref-in-Switch.result.now c.in-Switch.is (c.deref-in-Switch.ensures.value ∙ c.in_ok-links.ensures) (ports_in size) c.requires
 
 pub box_groups-requires-clause-links : goal.box_groups-requires-clause-links
 box_groups-requires-clause-links c = subst (All IsLink) (sym (c.deref-in-Boxes.ensures.value ∙ c.in_ok-links.ensures)) (family_links_are c.args.kind c.args.size c.requires).each

@@ -1,5 +1,5 @@
-use Rattle.std.proofs.Common.{◌≡◌, ◌/◌, ◌%◌, ◌++◌, ◌∷◌, [], sym, ap, ◌∙◌}
-use Rattle.topology_text.{specs.Family.is_family_link, proofs.FamilyLinks.{link_kept, link_skipped}}
+use Rattle.std.proofs.{Common.{◌≡◌, ◌/◌, ◌%◌, ◌++◌, ◌∷◌, [], true, false, sym, ap, ◌∙◌}, lemmas.List.append-nil}
+use Rattle.topology_text.{specs.Family.is_family_link, proofs.FamilyLinks.links_more}
 use Rattle.topology_text.proofs.families.family_links.Goals as goal
 use Rattle.topology_text.proofs.families.family_links.Goals.{then-has_family_link+in_ok-push, else-has_family_link}
 
@@ -12,7 +12,7 @@ loop-place-preserved c =
     elim c.if-has_family_link.branch [
       | then-has_family_link+in_ok-push w ↦
           let pushed : w.push.new.self.items ≡ c.loop-place.links.items ++ (n / size, n % size) ∷ [] = w.in_ok-push.ensures.items ∙ ap (λ s. c.loop-place.links.items ++ (n / s, n % s) ∷ []) c.from-nodes.ensures in
-          ap (λ v. v.items) w.links-is ∙ pushed ∙ ap (λ l. l ++ (n / size, n % size) ∷ []) c.loop-place.invariant ∙ sym (link_kept kind size n (sym test ∙ w.if-has_family_link.true))
+          ap (λ v. v.items) w.links-is ∙ pushed ∙ ap (λ l. l ++ (n / size, n % size) ∷ []) c.loop-place.invariant ∙ sym (links_more kind size n true (sym test ∙ w.if-has_family_link.true))
       | else-has_family_link w ↦
-          ap (λ v. v.items) w.links-is ∙ c.loop-place.invariant ∙ sym (link_skipped kind size n (sym test ∙ w.if-has_family_link.false))
+          ap (λ v. v.items) w.links-is ∙ c.loop-place.invariant ∙ sym (links_more kind size n false (sym test ∙ w.if-has_family_link.false) ∙ append-nil _)
     ]

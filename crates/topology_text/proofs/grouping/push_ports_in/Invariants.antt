@@ -1,6 +1,6 @@
 use Rattle.std.{proofs.Common.{◌≡◌, ◌++◌, map}, specs.List.range_with_len}
-use Rattle.topology_text.specs.Family.{port_in}
+use Rattle.topology_text.specs.Family.{port}
 use Rattle.topology_text.proofs.grouping.push_ports_in.Given as goal
 
 abbrev pub invariant-loop-node : goal.invariant-loop-node
-invariant-loop-node l = l.groups.items ≡ l.initial.groups.items ++ map (port_in l.links) (range_with_len 0 l.node)
+invariant-loop-node l = l.groups.items ≡ l.initial.groups.items ++ map (port (λ link. link.1) l.links) (range_with_len 0 l.node)

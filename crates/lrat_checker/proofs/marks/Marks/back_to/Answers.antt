@@ -1,8 +1,7 @@
-use Rattle.std.proofs.Common.{◌≡◌, ◌+◌, ◌-◌, ◌≤◌, ℕ, List, ◌++◌, ◌∷◌, [], take, drop, length, sym, ap, ◌∙◌, subst, arith, reverse}
+use Rattle.std.proofs.Common.{◌≡◌, ◌+◌, ◌-◌, ◌≤◌, ◌++◌, ◌∷◌, [], take, drop, length, sym, ap, ◌∙◌, subst, arith, reverse}
 use Rattle.std.proofs.lemmas.List.{length_push, length-reverse}
 use Rattle.list_laws.proofs.Fronts.{shorter}
-use Rattle.cnf_formula.specs.Literals.{LitValue}
-use Rattle.lrat_checker.{specs.inner.Marking.{MarksValue, IsCounted}, proofs.Marked.{some_times, counted_fewer, read_times, at_code, reverse-take, about_last}}
+use Rattle.lrat_checker.{specs.inner.Marking.IsCounted, proofs.Marked.{some_times, counted_fewer, read_times, at_code, reverse-take, about_last}}
 use Rattle.lrat_checker.proofs.marks.Marks.back_to.Goals as goal
 
 pub overflow_sub-index_mut : goal.overflow_sub-index_mut
@@ -42,5 +41,5 @@ returns c =
     let falses : reverse l.self-inside.marked.items ≡ drop (length c.args.self.now.falses - c.args.len) c.args.self.now.falses =
     ap reverse (l.invariant.front ∙ ap (λ k. take k i.marked.items) n) ∙ reverse-take c.args.len i.marked.items within
     ∙ ap (λ k. drop (k - c.args.len) (reverse i.marked.items)) (sym long) ∙ ap (drop (length c.args.self.now.falses - c.args.len)) old in
-    let make : ℕ → List LitValue → MarksValue = λ v fs. record { vars = v; falses = fs } in
-    ap (λ v. make v (reverse l.self-inside.marked.items)) (l.invariant.vars ∙ ap (λ m. m.vars) c.self.view_is) ∙ ap (make c.args.self.now.vars) falses
+    let vars = l.invariant.vars ∙ ap (λ m. m.vars) c.self.view_is in
+    λ i. record { vars = vars i; falses = falses i }

@@ -1,8 +1,7 @@
-use Rattle.std.proofs.Common.{◌≡◌, ◌<◌, ℕ, Bool, List, [], ◌∷◌, ◌++◌, length, map, refl, sym, ap, ◌∙◌, subst, arith, Contains, if◌then◌else◌}
+use Rattle.std.proofs.Common.{◌≡◌, ◌<◌, [], ◌∷◌, ◌++◌, length, map, refl, sym, ap, ◌∙◌, subst, arith, Contains, if◌then◌else◌}
 use Rattle.std.proofs.lemmas.List.{length-map}
-use Rattle.cnf_formula.specs.{Literals.{LitValue, code_of}, Formulas.IsClause}
-use Rattle.proof_rules.specs.Held.{Entry}
-use Rattle.lrat_checker.specs.Stored.{TableValue, IsStored, held_of, last_of, list_at, led_as}
+use Rattle.cnf_formula.specs.{Literals.code_of, Formulas.IsClause}
+use Rattle.lrat_checker.specs.Stored.{TableValue, IsStored, last_of, list_at, led_as}
 use Rattle.lrat_checker.proofs.{Placed.{held_push, last_push}, Noted.{indexed_push, led_push, stored_grown, stored_push}, Led.lead_within}
 use Rattle.lrat_checker.proofs.table.ClauseTable.push.Goals as goal
 use Rattle.lrat_checker.proofs.table.ClauseTable.push.Goals.{After-note_literals, After-note}
@@ -78,12 +77,5 @@ returns-clause-added c =
     let ids : c.push_reserved.new.self.items ≡ i.ids.items ++ id ∷ [] = c.push_reserved.ensures.items ∙ ap (λ xs. xs ++ id ∷ []) c.in_ok-reserve.ensures.items in
     let live : c.push_reserved-2.new.self.items ≡ i.live.items ++ c.args.held ∷ [] = c.push_reserved-2.ensures.items ∙ ap (λ xs. xs ++ c.args.held ∷ []) c.in_ok-reserve-2.ensures.items in
     let more : c.push.new.self ≡ clauses ++ lits ∷ [] = c.in_ok-push.ensures.added in
-    let make : List ℕ → List Bool → List (List LitValue) → TableValue = λ xs bs cs. record { vars = i.vars; clauses = cs; held = held_of xs bs cs; last = last_of xs } in
     let grow : TableValue → TableValue = λ t. record { vars = t.vars; clauses = t.clauses ++ lits ∷ []; held = t.held ++ (if c.args.held then (id, lits) ∷ [] else []); last = id } in
-    let fill : List Entry → ℕ → TableValue = λ h n. record { vars = i.vars; clauses = clauses ++ lits ∷ []; held = h; last = n } in
-    ap (λ xs. make xs c.push_reserved-2.new.self.items c.push.new.self) ids
-    ∙ ap (λ bs. make (i.ids.items ++ id ∷ []) bs c.push.new.self) live
-    ∙ ap (make (i.ids.items ++ id ∷ []) (i.live.items ++ c.args.held ∷ [])) more
-    ∙ ap (λ h. fill h (last_of (i.ids.items ++ id ∷ []))) (held_push i.ids.items i.live.items clauses id lits c.args.held c.self.invariant.lives c.self.invariant.many)
-    ∙ ap (fill (held_of i.ids.items i.live.items clauses ++ (if c.args.held then (id, lits) ∷ [] else []))) (last_push i.ids.items id)
-    ∙ ap grow c.self.view_is
+    rw (ids, live, more, held_push i.ids.items i.live.items clauses id lits c.args.held c.self.invariant.lives c.self.invariant.many, last_push i.ids.items id) (ap grow c.self.view_is)

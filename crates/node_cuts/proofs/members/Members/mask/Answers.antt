@@ -1,5 +1,5 @@
 use Rattle.std.proofs.Common.{◌≤◌, ◌+◌, ◌*◌, ℕ, Bool, ap, sym, ◌∙◌, arith}
-use Rattle.node_cuts.{specs.Sides.{members, mask_of}, proofs.Masks.{mask_below, small_bit, mask_yes, mask_no, bit_more}}
+use Rattle.node_cuts.{specs.{Sides.mask_of, inner.Listed.members}, proofs.Masks.{mask_below, small_bit, mask_yes, mask_no, bit_more}}
 use Rattle.node_cuts.proofs.members.Members.mask.Goals as goal
 use Rattle.node_cuts.proofs.members.Members.mask.Goals.{then-has, else-has}
 

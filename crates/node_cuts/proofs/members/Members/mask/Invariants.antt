@@ -1,5 +1,5 @@
 use Rattle.std.proofs.Common.{◌≡◌, ◌^◌}
-use Rattle.node_cuts.specs.Sides.{mask_of, members}
+use Rattle.node_cuts.specs.{Sides.mask_of, inner.Listed.members}
 use Rattle.node_cuts.proofs.members.Members.mask.Given as goal
 
 abbrev pub invariant-loop-node : goal.invariant-loop-node

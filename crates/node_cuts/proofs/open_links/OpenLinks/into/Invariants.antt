@@ -1,5 +1,5 @@
 use Rattle.std.proofs.Common.{◌≡◌, ◌<◌, ◌/◌, ◌%◌, ℕ, false, length, slice_index_or}
-use Rattle.node_cuts.specs.{Sides.members, Cuts.enters}
+use Rattle.node_cuts.specs.{inner.Listed.members, Cuts.enters}
 use Rattle.node_cuts.proofs.open_links.OpenLinks.into.Given as goal
 
 abbrev pub invariant-loop-cell : goal.invariant-loop-cell

@@ -1,5 +1,5 @@
 use Rattle.std.proofs.Common.{◌≡◌, map, take, All, MatchOption, filter}
-use Rattle.node_cuts.{specs.{Sides.members, Floors.{fraction_of, has_need}, Tables.{IsLow, IsSmall, measure_of}}, proofs.Best.IsBest}
+use Rattle.node_cuts.{specs.{inner.Listed.members, Floors.{fraction_of, has_need}, Tables.{IsLow, IsSmall, measure_of}}, proofs.Best.IsBest}
 use Rattle.node_cuts.proofs.table.CutTable.new.Given as goal
 
 abbrev pub invariant-loop-set : goal.invariant-loop-set

@@ -28,4 +28,4 @@ returns c =
     let within = place_inside m.store.chunks m.store.nodes m.programs m.queues.items c.self.invariant c.args.node c.args.to inside below.1 in
     let place : c.place-place.result ≡ c.args.node * m.store.nodes + c.args.to = c.place-place.ensures ∙ ap (λ s. c.args.node * s.store.nodes + c.args.to) (sym c.self.view_is) in
     let pushed : c.push_at.new.queues.items ≡ set m.queues.items (c.args.node * m.store.nodes + c.args.to) (with_message (get_or m.queues.items (c.args.node * m.store.nodes + c.args.to) no_queue) (record { chunk = c.args.chunk; step = c.args.step; bag = c.bag-bag.result })) = rw place at c.push_at.ensures in
-    rw (← c.self.view_is) (state_sent m.programs m.store m.queues.items c.args.node c.args.chunk c.args.to c.args.step c.bag-bag.result _ _ within c.advance.ensures pushed c.bag-bag.ensures.bag)
+    rw (← c.self.view_is) (state_sent m.programs m.store m.queues.items c.args.node c.args.chunk c.args.to c.args.step c.bag-bag.result _ _ within c.advance.ensures pushed c.bag-bag.ensures.bag next)

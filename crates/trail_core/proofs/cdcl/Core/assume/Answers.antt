@@ -1,6 +1,5 @@
-use Rattle.std.proofs.Common.{◌≡◌, ℕ, List, [], ◌∷◌, ◌++◌, None, length, sym, ap, ◌∙◌, subst}
-use Rattle.cnf_formula.specs.Literals.{LitValue}
-use Rattle.trail_core.specs.{Assigned.IsOpen, Trails.{StepValue, lits_of}, Search.clauses_of, Meaning.{CoreValue, IsClosed}, Kept.IsKept}
+use Rattle.std.proofs.Common.{◌≡◌, [], ◌∷◌, ◌++◌, None, length, sym, ap, ◌∙◌, subst}
+use Rattle.trail_core.specs.{Assigned.IsOpen, Trails.lits_of, Search.clauses_of, Meaning.IsClosed, Kept.IsKept}
 use Rattle.trail_core.proofs.{Keeping.implied_closed, Levels.{done_closed, kept_decide}}
 use Rattle.trail_core.proofs.cdcl.Core.assume.Goals as goal
 use Rattle.trail_core.proofs.cdcl.Core.assume.Goals.{After-propagate_all-closed}
@@ -28,8 +27,8 @@ returns c =
     let p = c.propagate_all-closed in
     let old = c.args.self.now in
     let steps = same (goal.at.returns c).After-propagate_all-closed ∙ ap (λ x. x.trail) c.self.view_is in
-    let make : ℕ → List (List LitValue) → List StepValue → List ℕ → CoreValue = λ a b d e. record { vars = a; clauses = b; trail = d ++ record { lit = c.args.lit; reason = None } ∷ []; limits = e ++ length d ∷ [] } in
+    let vars : p.new.trail.vars ≡ old.vars = p.ensures.vars ∙ ap (λ x. x.vars) c.self.view_is in
+    let clauses : clauses_of p.new.store ≡ old.clauses = p.ensures.same ∙ ap (λ x. x.clauses) c.self.view_is in
+    let limits : p.new.trail.limits ≡ old.limits = p.ensures.limits ∙ ap (λ x. x.limits) c.self.view_is in
     ap (λ t. record { vars = t.vars; clauses = clauses_of p.new.store; trail = t.steps; limits = t.limits }) c.decide.ensures
-    ∙ ap (λ a. make a (clauses_of p.new.store) p.new.trail.steps p.new.trail.limits) (p.ensures.vars ∙ ap (λ x. x.vars) c.self.view_is)
-    ∙ ap (λ b. make old.vars b p.new.trail.steps p.new.trail.limits) (p.ensures.same ∙ ap (λ x. x.clauses) c.self.view_is)
-    ∙ ap (λ d. make old.vars old.clauses d p.new.trail.limits) steps ∙ ap (make old.vars old.clauses old.trail) (p.ensures.limits ∙ ap (λ x. x.limits) c.self.view_is)
+    ∙ (λ i. record { vars = vars i; clauses = clauses i; trail = steps i ++ record { lit = c.args.lit; reason = None } ∷ []; limits = limits i ++ length (steps i) ∷ [] })

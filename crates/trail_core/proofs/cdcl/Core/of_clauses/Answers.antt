@@ -1,6 +1,5 @@
-use Rattle.std.proofs.Common.{◌≡◌, List, [], map, sym, ap, ◌∙◌, subst, arith}
-use Rattle.cnf_formula.specs.Literals.{LitValue}
-use Rattle.trail_core.specs.{Trails.TrailValue, Search.clauses_of, Meaning.CoreValue, Kept.IsKept, inner.Begun.front_row}
+use Rattle.std.proofs.Common.{◌≡◌, [], map, sym, ap, ◌∙◌, subst, arith}
+use Rattle.trail_core.specs.{Trails.TrailValue, Search.clauses_of, Kept.IsKept, inner.Begun.front_row}
 use Rattle.trail_core.proofs.{Storing.occurrences_joined, Begun.{kept_begun, rows_front, lits_front}}
 use Rattle.trail_core.proofs.cdcl.Core.of_clauses.Goals as goal
 
@@ -18,6 +17,6 @@ invariant_of-result-2 c =
 
 pub returns : goal.returns
 returns c =
-    let make : List (List LitValue) → TrailValue → CoreValue = λ cs t. record { vars = t.vars; clauses = cs; trail = t.steps; limits = t.limits } in
     let clauses : clauses_of c.in_ok-of_clauses.field-0 ≡ c.args.clauses.now = ap clauses_of c.in_ok-of_clauses.ensures ∙ lits_front c.args.clauses.now in
-    ap (λ cs. make cs c.in_ok-new.field-0) clauses ∙ ap (make c.args.clauses.now) c.in_ok-new.ensures
+    let t = c.in_ok-new.ensures in
+    λ i. record { vars = (t i).vars; clauses = clauses i; trail = (t i).steps; limits = (t i).limits }

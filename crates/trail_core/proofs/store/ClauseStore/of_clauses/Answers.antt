@@ -1,7 +1,7 @@
 use Rattle.std.proofs.{Common.{◌≡◌, ◌+◌, ◌<◌, ◌≤◌, List, [], ◌∷◌, ◌++◌, map, length, get_or, take, sym, ap, ◌∙◌, subst, arith, All}, lemmas.List.map_push}
 use Rattle.std.proofs.lemmas.List.Elements.{All-push}
-use Rattle.cnf_formula.specs.Literals.{LitValue, yes}
-use Rattle.trail_core.specs.{Watching.RowValue, inner.{Begun.front_row, Stored.row_of}, declared.store.Header.Header}
+use Rattle.cnf_formula.specs.Literals.{yes}
+use Rattle.trail_core.specs.{inner.{Begun.front_row, Stored.row_of}, declared.store.Header.Header}
 use Rattle.trail_core.proofs.{Storing.{joined, joined_at, Lies}, Begun.rows_more}
 use Rattle.trail_core.proofs.store.ClauseStore.of_clauses.Goals as goal
 use Rattle.trail_core.proofs.store.ClauseStore.of_clauses.Goals.{After-clause-clause}
@@ -34,10 +34,9 @@ loop-place-preserved c =
     let headers : List Header = c.loop-place.headers.items in
     let h : Header = record { start = start; end = end; first = c.front_pair-first.result.0; second = c.front_pair-first.result.1 } in
     let is : c.push_reserved.new.self.items ≡ headers ++ h ∷ [] = c.push_reserved.ensures.items in
-    let make : List LitValue → LitValue → LitValue → RowValue = λ xs x y. record { lits = xs; first = x; second = y } in
-    let row : row_of lits h ≡ front_row clause =
-    ap (λ xs. make xs h.first h.second) at.0 ∙ ap (λ x. make clause x h.second) (c.front_pair-first.ensures.first ∙ ap (λ xs. get_or xs 0 (yes 1)) c.clause-clause.ensures)
-    ∙ ap (make clause (get_or clause 0 (yes 1))) (c.front_pair-first.ensures.second ∙ ap (λ xs. get_or xs 1 (yes 1)) c.clause-clause.ensures) in
+    let first = c.front_pair-first.ensures.first ∙ ap (λ xs. get_or xs 0 (yes 1)) c.clause-clause.ensures in
+    let second = c.front_pair-first.ensures.second ∙ ap (λ xs. get_or xs 1 (yes 1)) c.clause-clause.ensures in
+    let row : row_of lits h ≡ front_row clause = λ i. record { lits = at.0 i; first = first i; second = second i } in
     record {
       capacity = omega (arith, i.capacity, c.push_reserved.ensures.capacity);
       start = at.1;

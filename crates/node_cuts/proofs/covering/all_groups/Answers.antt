@@ -1,6 +1,6 @@
 use Rattle.std.proofs.Common.{ℕ, List, [], ◌∷◌, ◌++◌, sym, ap, ◌∙◌, arith}
 use Rattle.node_cuts.proofs.Masks.{range_more}
-use Rattle.node_cuts.proofs.greedy.all_groups.Goals as goal
+use Rattle.node_cuts.proofs.covering.all_groups.Goals as goal
 
 pub loop-number-preserved : goal.loop-number-preserved
 loop-number-preserved c =
