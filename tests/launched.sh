@@ -43,11 +43,13 @@ built() {
   : >"$STAND_IN/calls"
 }
 
-# Runs words at a terminal; what it got is `err`, and where standard output is a file, that is `out`.
+# Runs words at a terminal; what it got is `drawn`, what stays of that is `err`, and where standard output is a file, that is `out`.
+# (On a slow machine each run may take long enough to tell how far it is, in a line that is written anew.)
 at_terminal() {
   TERM=${terminal-xterm} python3 -B "$here/at_terminal.py" --columns "${columns-200}" --input "$room/given" "$@" >"$room/err"
   status=$?
-  out='' err=$(tr -d '\r' <"$room/err")
+  out='' drawn=$(tr -d '\r' <"$room/err")
+  err=$(sed -z ':more; s/\x1b\[K[^\x1b\n]*\x1b\[K/\x1b[K/; t more; s/\x1b\[K//' <<<"$drawn")
   [[ ! -e $room/out ]] || out=$(<"$room/out")
 }
 
