@@ -46,13 +46,8 @@ IsAnswerAlone due status text = (files : FilesValue) → Stay files → IsAnswer
 
 -- ---- what is left where there is no answer
 
--- a search that broke off has begun files of its own; where proofs are kept, what refuted a candidate before stands there still
-pub record SearchLeaves (w : WordsValue) (t : NamedTopologyValue) (kept : Bool) (before after : Files) : Type 0 where
-  pub begun : BreaksOff w t before after
-  pub keeps : IsTrue kept → KeepsProofs w t before after
-
--- of a search such files; of all else every file is as before
+-- a search that broke off has begun files of its own; where proofs are kept, what refuted a candidate before stands there still; of all else every file is as before
 abbrev pub LeavesOff : Result Task Refusal → Files → Files → Type 0
-LeavesOff (Ok (Synthesise w t kept)) before after = SearchLeaves w t kept before after
+LeavesOff (Ok (Synthesise w t kept)) before after = BreaksOff w t before after × (IsTrue kept → KeepsProofs w t before after)
 LeavesOff (Ok (Bound w t sets)) before after = BreaksOff w t before after
 LeavesOff _ before after = FilesStay before after

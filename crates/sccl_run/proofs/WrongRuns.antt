@@ -61,10 +61,9 @@ not_whole status said text search =
     none-some _ ((search.proves refl).others joined_name (of_one_part (question_of search.report.words search.report.topology) search.report.frontiers one))
 
 lost : (status : Status) → IsEnd (Ok (Synthesise asked_words (family_of Line 2) false)) (failed_search status) all_tell → ⊥
-lost status (inl end) = not_whole status status end.text end.answer
-lost status (inr (inl cut)) = not_whole status cut.status cut.text cut.answer
-lost status (inr (inr halt)) =
-    elim ((halt.leaves refl).begun.each some_name) [
+lost status (inl end) = not_whole status end.status end.text end.answer
+lost status (inr halt) =
+    elim ((halt.leaves refl).0.each some_name) [
       | inl same ↦ none-some _ same
       | inr begun ↦ none-some _ begun.1.stands
     ]
@@ -100,9 +99,11 @@ pub blamed_shelf_is_wrong : (a b c : CountValue) → IsRightRun (record (refused
 blamed_shelf_is_wrong a b c run =
     let x = record (refused_check []) { status = ShelfFailed; now = [] } in
     elim (ended x a b c (Err (refused_at BadReport 1 1)) run is_refused) [
-      | inl end ↦ other_status end.answer.says.status
-      | inr (inl cut) ↦ not_cut cut.failed
-      | inr (inr halt) ↦ halt.shelf_last refl (refused_at BadReport 1 1) refl
+      | inl end ↦ elim end.stands [
+          | inl (same, all) ↦ other_status (same ∙ end.answer.says.status)
+          | inr failed ↦ not_cut failed
+        ]
+      | inr halt ↦ halt.shelf_last refl (refused_at BadReport 1 1) refl
     ]
   where
     other_status : ShelfFailed ≡ BadReport → ⊥
