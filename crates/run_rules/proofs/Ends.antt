@@ -192,7 +192,7 @@ answer_ends refusals (Ok (Write words)) files status text listed deny answer = s
 answer_ends refusals (Ok (Synthesise w t kept)) files status text listed deny answer = subst (IsOneOf (Done ∷ refusals)) (sym answer.says.status) refl
 answer_ends refusals (Ok (Audit r)) files status text listed deny answer =
     audited_ends refusals r files status text (Says Done (line (codes "verified" ∷ []))) (λ said. said.status) deny answer
-answer_ends refusals (Ok (Try n)) files status text listed deny answer = subst (IsOneOf (Done ∷ refusals)) (sym answer.done) refl
+answer_ends refusals (Ok (Try n)) files status text listed deny answer = subst (IsOneOf (Done ∷ refusals)) (sym answer.1.says.status) refl
 answer_ends refusals (Ok (Bound w t sets)) files status text listed deny answer = subst (IsOneOf (Done ∷ refusals)) (sym answer.says.status) refl
 answer_ends refusals (Ok (Order w t)) files status text listed deny answer = subst (IsOneOf (Done ∷ refusals)) (sym answer.says.status) refl
 answer_ends refusals (Ok (Degrade r group width)) files status text listed deny answer =

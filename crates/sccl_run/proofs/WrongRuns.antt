@@ -100,9 +100,9 @@ blamed_shelf_is_wrong a b c run =
     let x = record (refused_check []) { status = ShelfFailed; now = [] } in
     elim (ended x a b c (Err (refused_at BadReport 1 1)) run is_refused) [
       | inl end ↦ elim end.stands [
-          | inl (same, all) ↦ other_status (same ∙ end.answer.says.status)
-          | inr failed ↦ not_cut failed
-        ]
+        | inl (same, all) ↦ other_status (same ∙ end.answer.says.status)
+        | inr failed ↦ not_cut failed
+      ]
       | inr halt ↦ halt.shelf_last refl (refused_at BadReport 1 1) refl
     ]
   where
