@@ -14,7 +14,7 @@ use crate::status::Status;
 
 /// An answer to what a command asks for ends as the command's row says: it is done, or refused with
 /// one of its refusals.
-pub fn answers_end_as_their_row_says()
+pub fn answers_end_as_listed()
     ensures { (c : Command) (bytes : List ℕ) (files : FilesValue) (status : Status) (text : List ℕ) → IsAnswer (task_of c bytes) files status text → IsOneOf (answers_of c) status }
 {}
 
