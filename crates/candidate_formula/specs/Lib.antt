@@ -5,8 +5,9 @@ pub mod Questions
 pub mod Searched
 pub mod Counts
 pub mod Lines
-pub mod Said
+pub mod ProofTexts
 pub mod Pruned
 pub mod Files
 pub mod Begun
 pub mod Logs
+pub mod inner
