@@ -8,7 +8,7 @@ use Rattle.lrat_text.specs.Tokens.{Token, placed_from, tokens_from, content, is_
 use Rattle.lrat_text.specs.Reading.{up_to_zero, no_more, addition_of, deletion_of, behind_id, line_of, size_of}
 use Rattle.candidate_formula.specs.Lines.{in_front, lines_from, lines_of_text}
 use Rattle.candidate_formula.specs.ProofTexts.{words_in, is_passed}
-use Rattle.candidate_formula.specs.inner.Said.{number_in, literal_in, hint_in, before_zero, closed_by_zero, addition_in, deletion_in, behind_number, line_in, lines_in, lines_said}
+use Rattle.candidate_formula.specs.ReadLines.{number_in, literal_in, hint_in, before_zero, closed_by_zero, addition_in, deletion_in, behind_number, line_in, lines_in, lines_said}
 
 abbrev pub plain : {A : Type 0} → Result A LratTextFault → Option A
 plain (Ok x) = Some x

@@ -8,7 +8,7 @@ use Rattle.cnf_formula.specs.{Literals.LitValue, declared.line.LratLine.{LratLin
 use Rattle.lrat_text.specs.{declared.fault.LratTextFault.TheVariants.BadToken, Tokens.{content, tokens_from, is_number}, Printing.{literal_word, hint_word, closed, line_words, IsId, IsHint, IsReadable}}
 use Rattle.lrat_text.proofs.{Digits.number_some, Printed.{whole, row_says_line}}
 use Rattle.candidate_formula.specs.ProofTexts.{words_in, is_passed, IsUpTo, HasNumbers, IsProofText}
-use Rattle.candidate_formula.specs.inner.Said.{number_in, is_negative, size_in, literal_in, hint_in, before_zero, closed_by_zero, addition_in, deletion_in, behind_number, line_in, lines_in, lines_said}
+use Rattle.candidate_formula.specs.ReadLines.{number_in, is_negative, size_in, literal_in, hint_in, before_zero, closed_by_zero, addition_in, deletion_in, behind_number, line_in, lines_in, lines_said}
 use Rattle.candidate_formula.proofs.Said.{front, words, row_words, onto, line_said}
 
 -- ---- words

@@ -6,8 +6,8 @@ pub mod Searched
 pub mod Counts
 pub mod Lines
 pub mod ProofTexts
+pub mod ReadLines
 pub mod Pruned
 pub mod Files
 pub mod Begun
 pub mod Logs
-pub mod inner

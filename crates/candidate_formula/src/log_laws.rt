@@ -3,7 +3,7 @@
 ghost use Rattle.std.specs.Prelude.{◌≡◌, ◌↔◌, ◌≤◌, ℕ, List, Ok, Some, All, length, map};
 ghost use Rattle.cnf_formula.specs.{Lines.ProofLineValue, declared.line.LratLine.{LratLine, TheVariants.Addition}};
 ghost use Rattle.lrat_text.specs.Printing.{lrat_text, IsReadable};
-ghost use Rattle.candidate_formula.specs.{Lines.lines_of_text, ProofTexts.IsProofText, inner.Said.lines_said, Files.longest_proof, Logs.{IsShortLine, most_lines}};
+ghost use Rattle.candidate_formula.specs.{Lines.lines_of_text, ProofTexts.IsProofText, ReadLines.lines_said, Files.longest_proof, Logs.{IsShortLine, most_lines}};
 
 /// The lines that a text says are the same where its faults are told, and where they are not.
 pub fn lines_are_said_without_their_faults()

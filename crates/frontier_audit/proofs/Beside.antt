@@ -9,7 +9,7 @@ use Rattle.candidate_order.specs.{declared.candidate.Candidate.Candidate, Fronti
 use Rattle.frontier_audit.specs.{declared.verdict.Reason.TheVariants.{ProofMissing, ProofRefused, CnfDiffers, PartialRefused}, Denials.{Denial, Checked}}
 use Rattle.frontier_audit.specs.Auditing.{refutation_checked, unknown_checked}
 use Rattle.frontier_audit.proofs.Passing.{then_ok, ok_then, refused_not, not_refused}
-use Rattle.candidate_formula.{specs.{inner.Said.lines_said, Formulas.formula_for, Files.{file_of, longest_proof, HasRefutation, HasLog}}, proofs.Spelled.{text_spells, text_read}}
+use Rattle.candidate_formula.{specs.{ReadLines.lines_said, Formulas.formula_for, Files.{file_of, longest_proof, HasRefutation, HasLog}}, proofs.Spelled.{text_spells, text_read}}
 use Rattle.proof_audit.specs.{Proving.{is_refutation, is_spent_log}, Tested.{do_refute, do_spend}}
 use Rattle.proof_audit.proofs.Proved.{refutes_by, by_refuting, spent_by, by_spending}
 
