@@ -80,10 +80,10 @@ refused_in_row command.Check bytes =
     let P : Status → Type 0 = IsOneOf (refusals_of command.Check) in
     bind P _ _ (reported P refl bytes) (λ r. bind P _ _ (sized P refl refl (whole_question r.words r.topology)) (λ _. tt))
 refused_in_row (command.Replay number word order) bytes =
-    let P : Status → Type 0 = IsOneOf (BadWords ∷ BadReport ∷ TooLong ∷ []) in
+    let P : Status → Type 0 = IsOneOf (refusals_of (command.Replay number word order)) in
     bind P _ _ (reported P refl bytes) (λ r. bind P _ _ (pointed P refl r (record { point = number; word = word })) (λ _. tt))
 refused_in_row (command.Programs number word) bytes =
-    let P : Status → Type 0 = IsOneOf (BadWords ∷ BadReport ∷ TooLong ∷ []) in
+    let P : Status → Type 0 = IsOneOf (refusals_of (command.Programs number word)) in
     bind P _ _ (reported P refl bytes) (λ r. bind P _ _ (pointed P refl r (record { point = number; word = word })) (λ _. tt))
 refused_in_row (command.Family kind size) bytes = tt
 refused_in_row (command.Trial n) bytes = tt
@@ -97,22 +97,22 @@ refused_in_row (command.Degrade group group_word width width_word) bytes =
     let P : Status → Type 0 = IsOneOf (refusals_of (command.Degrade group group_word width width_word)) in
     bind P _ _ (reported P refl bytes) (λ r. bind P _ _ (faulted P refl r group group_word width width_word) (λ _. bind P _ _ (sized P refl refl (whole_question r.words r.topology)) (λ _. tt)))
 refused_in_row (command.Json what.Topology point) bytes =
-    let P : Status → Type 0 = IsOneOf (BadTopology ∷ TooLong ∷ []) in
+    let P : Status → Type 0 = IsOneOf (refusals_of (command.Json what.Topology point)) in
     bind P _ _ (coded P BadTopology topology_number (topology_of bytes) refl) (λ _. tt)
 refused_in_row (command.Json what.Report point) bytes =
-    let P : Status → Type 0 = IsOneOf (BadReport ∷ TooLong ∷ []) in
+    let P : Status → Type 0 = IsOneOf (refusals_of (command.Json what.Report point)) in
     bind P _ _ (reported P refl bytes) (λ _. tt)
 refused_in_row (command.Json what.Programs point) bytes =
-    let P : Status → Type 0 = IsOneOf (BadWords ∷ BadReport ∷ TooLong ∷ []) in
+    let P : Status → Type 0 = IsOneOf (refusals_of (command.Json what.Programs point)) in
     bind P _ _ (reported P refl bytes) (λ r. bind P _ _ (needed P point _ refl) (λ asked. bind P _ _ (pointed P refl r asked) (λ _. tt)))
 refused_in_row (command.Unjson what.Topology) bytes =
-    let P : Status → Type 0 = IsOneOf (TooLong ∷ BadJson ∷ []) in
+    let P : Status → Type 0 = IsOneOf (refusals_of (command.Unjson what.Topology)) in
     bind P _ _ (coded P BadJson json_number (read_json (topology_form []) topology_of bytes) refl) (λ _. tt)
 refused_in_row (command.Unjson what.Report) bytes =
-    let P : Status → Type 0 = IsOneOf (TooLong ∷ BadJson ∷ []) in
+    let P : Status → Type 0 = IsOneOf (refusals_of (command.Unjson what.Report)) in
     bind P _ _ (coded P BadJson json_number (read_json (report_form []) report_of bytes) refl) (λ _. tt)
 refused_in_row (command.Unjson what.Programs) bytes =
-    let P : Status → Type 0 = IsOneOf (TooLong ∷ BadJson ∷ []) in
+    let P : Status → Type 0 = IsOneOf (refusals_of (command.Unjson what.Programs)) in
     bind P _ _ (coded P BadJson json_number (read_json (topology_form []) topology_of bytes) refl) (λ _. tt)
 
 -- and so is each refusal of a command
@@ -136,11 +136,11 @@ denied_in_row command.Check bytes =
     let P : Status → Type 0 = IsOneOf (refusals_of command.Check) in
     behind P (read_report bytes) audit_in (λ r. behind P (searchable (whole_question r.words r.topology)) (λ _. Ok (Audit r)) (λ _. refl))
 denied_in_row (command.Replay number word order) bytes =
-    let P : Status → Type 0 = IsOneOf (BadWords ∷ BadReport ∷ TooLong ∷ []) in
+    let P : Status → Type 0 = IsOneOf (refusals_of (command.Replay number word order)) in
     let asked : PointWord = record { point = number; word = word } in
     behind P (read_report bytes) (λ r. replay_in r asked order) (λ r. behind P (point_in r asked) (λ p. Ok (Write (shown_text number (shown_in r p) order))) (λ _. tt))
 denied_in_row (command.Programs number word) bytes =
-    let P : Status → Type 0 = IsOneOf (BadWords ∷ BadReport ∷ TooLong ∷ []) in
+    let P : Status → Type 0 = IsOneOf (refusals_of (command.Programs number word)) in
     let asked : PointWord = record { point = number; word = word } in
     behind P (read_report bytes) (λ r. programs_in r asked) (λ r. behind P (point_in r asked) (λ p. Ok (Write (programs_of_point r number p))) (λ _. tt))
 denied_in_row (command.Family kind size) bytes = tt
@@ -154,19 +154,19 @@ denied_in_row (command.Degrade group group_word width width_word) bytes =
     behind P (read_report bytes) (λ r. degrade_in r group group_word width width_word) (λ r. behind P (fault_in r group group_word width width_word) (λ _. searchable (whole_question r.words r.topology) >>= (λ _. Ok (Degrade r group width)))
     (λ _. behind P (searchable (whole_question r.words r.topology)) (λ _. Ok (Degrade r group width)) (λ _. refl)))
 denied_in_row (command.Json what.Topology point) bytes =
-    behind (IsOneOf (BadTopology ∷ TooLong ∷ [])) (refused_as BadTopology topology_number (topology_of bytes)) (λ t. Ok (Write (printed ((topology_form t.names).json t)))) (λ _. tt)
+    behind (IsOneOf (refusals_of (command.Json what.Topology point))) (refused_as BadTopology topology_number (topology_of bytes)) (λ t. Ok (Write (printed ((topology_form t.names).json t)))) (λ _. tt)
 denied_in_row (command.Json what.Report point) bytes =
-    behind (IsOneOf (BadReport ∷ TooLong ∷ [])) (read_report bytes) (λ r. Ok (Write (printed ((report_form r.topology.names).json r)))) (λ _. tt)
+    behind (IsOneOf (refusals_of (command.Json what.Report point))) (read_report bytes) (λ r. Ok (Write (printed ((report_form r.topology.names).json r)))) (λ _. tt)
 denied_in_row (command.Json what.Programs point) bytes =
-    let P : Status → Type 0 = IsOneOf (BadWords ∷ BadReport ∷ TooLong ∷ []) in
+    let P : Status → Type 0 = IsOneOf (refusals_of (command.Json what.Programs point)) in
     behind P (read_report bytes) (λ r. json_programs_in r point) (λ r. behind P (need point (refused_word KeyMissing 0)) (λ asked. point_in r asked >>= (λ p. Ok (Write (printed (programs_value r asked.point p)))))
     (λ asked. behind P (point_in r asked) (λ p. Ok (Write (printed (programs_value r asked.point p)))) (λ _. tt)))
 denied_in_row (command.Unjson what.Topology) bytes =
-    behind (IsOneOf (TooLong ∷ BadJson ∷ [])) (refused_as BadJson json_number (read_json (topology_form []) topology_of bytes)) (λ t. Ok (Write (spelling t))) (λ _. tt)
+    behind (IsOneOf (refusals_of (command.Unjson what.Topology))) (refused_as BadJson json_number (read_json (topology_form []) topology_of bytes)) (λ t. Ok (Write (spelling t))) (λ _. tt)
 denied_in_row (command.Unjson what.Report) bytes =
-    behind (IsOneOf (TooLong ∷ BadJson ∷ [])) (refused_as BadJson json_number (read_json (report_form []) report_of bytes)) (λ r. Ok (Write (report_text r))) (λ _. tt)
+    behind (IsOneOf (refusals_of (command.Unjson what.Report))) (refused_as BadJson json_number (read_json (report_form []) report_of bytes)) (λ r. Ok (Write (report_text r))) (λ _. tt)
 denied_in_row (command.Unjson what.Programs) bytes =
-    behind (IsOneOf (TooLong ∷ BadJson ∷ [])) (refused_as BadJson json_number (read_json (topology_form []) topology_of bytes)) (λ t. Ok (Write (spelling t))) (λ _. tt)
+    behind (IsOneOf (refusals_of (command.Unjson what.Programs))) (refused_as BadJson json_number (read_json (topology_form []) topology_of bytes)) (λ t. Ok (Write (spelling t))) (λ _. tt)
 
 -- ---- an answer
 

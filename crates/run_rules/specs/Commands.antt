@@ -1,5 +1,5 @@
 -- What a command does with the source and the shelf, and which statuses are refusals. This project's own.
-use Rattle.std.specs.{Prelude.{◌≡◌, ◌==◌, ℕ, Bool, true, false, IsTrue, List, [], ◌∷◌, Result, Ok, Err}, List.list_any}
+use Rattle.std.specs.{Prelude.{◌==◌, ℕ, Bool, true, false, IsTrue, List, [], ◌∷◌, Result, Ok, Err}, List.list_any}
 use Rattle.command_words.specs.{declared.{command.Command.Command, fault.WordFault.WordFault}, Words.command_of}
 use Rattle.command_words.specs.declared.command.Command.TheVariants as command
 use Rattle.run_rules.specs.{declared.status.Status.Status, Statuses.number_of}
