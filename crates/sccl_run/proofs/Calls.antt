@@ -1,11 +1,10 @@
 -- What every run says, whatever the ports tell, from what its answer says.
-use Rattle.std.proofs.Common.{◌≡◌, ◌≢◌, ◌==◌, ◌||◌, ◌++◌, ℕ, Bool, true, false, IsTrue, List, [], ◌∷◌, inl, inr, Result, Ok, Err, refl, sym, subst, ◌∙◌, if◌then◌else◌}
-use Rattle.std.specs.List.{list_any}
+use Rattle.std.proofs.Common.{◌≡◌, ◌≢◌, ℕ, List, inl, inr, Result, Ok, Err, refl, sym, subst, ◌∙◌}
 use Rattle.outer_ports.specs.Port.{Rose}
 use Rattle.command_words.specs.declared.command.JsonWhat.TheVariants as what
 use Rattle.command_words.specs.{declared.{command.Command.Command, fault.WordFault.WordFault}, Words.command_of}
 use Rattle.command_words.specs.declared.command.Command.TheVariants as command
-use Rattle.run_rules.specs.{declared.status.Status.{Status, TheVariants.{OutOfMemory, BadWords, SourceFailed, SinkFailed, ShelfFailed}}, Statuses.number_of}
+use Rattle.run_rules.specs.{declared.status.Status.{Status, TheVariants.{OutOfMemory, BadWords, SourceFailed, SinkFailed, ShelfFailed}}}
 use Rattle.run_rules.specs.{Commands.{Ask, IsOneOf, IsRefusal, opens_shelf, reads_source}, Ends.answers_of}
 use Rattle.sccl_run.specs.{inner.Answering.Answers, TopCall.{CountValue, EndsIfItFails, IsTopCall, IsSilent}}
 

@@ -1,8 +1,8 @@
 -- Runs whose words ask for a family.
-use Rattle.std.proofs.Common.{◌≡◌, ◌≢◌, ◌==◌, ℕ, suc, zero, Bool, true, false, IsTrue, List, [], ◌∷◌, length, take, inl, inr, Ok, refl, sym, subst, ap, ◌∙◌, codes, bytes_eq}
+use Rattle.std.proofs.Common.{arith, ◌≡◌, ◌≢◌, ◌==◌, ℕ, suc, zero, Bool, true, false, IsTrue, List, [], ◌∷◌, length, take, inl, inr, Ok, refl, sym, subst, ap, ◌∙◌, codes, bytes_eq}
 use Rattle.std.specs.Fmt.{digits}
 use Rattle.topology_text.specs.{declared.family_kind.FamilyKind.TheVariants.Line, Family.family_of, Spelling.spelling}
-use Rattle.command_words.specs.{declared.command.Command.Command, Words.command_of}
+use Rattle.command_words.specs.{Words.command_of}
 use Rattle.command_words.specs.declared.command.Command.TheVariants as command
 use Rattle.report_form.specs.Reading.{report_of}
 use Rattle.report_laws.proofs.Readings.{read_by_spelling}

