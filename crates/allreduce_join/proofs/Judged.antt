@@ -7,7 +7,7 @@ use Rattle.inversion.proofs.Misfits.{judged_fitting, judged_misfit}
 use Rattle.inversion.specs.declared.verdict.SumVerdict.TheVariants as verdict
 use Rattle.allreduce_join.{specs.Judging.{joined_bags, joined_verdict_of}, proofs.Told.all_summed_exactly}
 
-all_pass : (pairs : List (ℕ × ℕ)) → filter (λ pair. true) pairs ≡ pairs
+pub all_pass : (pairs : List (ℕ × ℕ)) → filter (λ pair. true) pairs ≡ pairs
 all_pass [] = refl
 all_pass (pair ∷ pairs) = ap (λ ps. pair ∷ ps) (all_pass pairs)
 

@@ -10,3 +10,4 @@ pub mod Meeting
 pub mod Clashed
 pub mod Judged
 pub mod Bounded
+pub mod OneVerdict

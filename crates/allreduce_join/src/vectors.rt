@@ -2,9 +2,11 @@
 
 ghost use Rattle.std.specs.Prelude.{◌≡◌, [], ◌∷◌};
 ghost use Rattle.schedule.specs.Rows.{line_of_2, plan, ring_of_4, met_from_both, pair_allreduce, send};
-ghost use Rattle.allreduce_join.specs.{Joins.{Joins, join_of, pairs_of}, Judging.joined_verdict_of, Rows.{pair_gather, pair_joined, pair_reduce, point}};
+ghost use Rattle.collective_spec.specs.Layouts.{laid_out};
+ghost use Rattle.allreduce_join.specs.{Joins.{Joins, join_of, pairs_of}, Judging.{joined_verdict_of, summed_verdict_of}, Rows.{pair_gather, pair_joined, pair_reduce, point}};
 
 use candidate_order::Mark;
+use collective_spec::Layout;
 use inversion::SumVerdict;
 
 /// On the line of 2 the one step that adds is joined to the one step that copies, and every chunk
@@ -25,6 +27,13 @@ pub fn points_of_one_chunk_count_are_paired()
 pub fn the_number_of_adding_steps_counts()
     ensures none { joined_verdict_of line_of_2 2 pair_allreduce 0 ≡ SumVerdict.Missing 0 0 0 }
     ensures both { joined_verdict_of line_of_2 1 (plan (1 ∷ 1 ∷ []) (send 0 1 0 1 ∷ send 0 1 0 2 ∷ [])) 2 ≡ SumVerdict.Twice 0 0 1 }
+{}
+
+/// The step that adds sums each chunk at one node, and only both steps sum it at each.
+pub fn the_demand_counts()
+    ensures scattered { summed_verdict_of line_of_2 (laid_out Layout.Scattered 2 2) pair_reduce.schedule 1 ≡ SumVerdict.Sums }
+    ensures early { summed_verdict_of line_of_2 (laid_out Layout.All 2 2) pair_reduce.schedule 1 ≡ SumVerdict.Missing 0 1 0 }
+    ensures all { summed_verdict_of line_of_2 (laid_out Layout.All 2 2) pair_allreduce 1 ≡ SumVerdict.Sums }
 {}
 
 /// A chunk that comes from both sides in one step clashes where the step copies.

@@ -8,6 +8,7 @@ pub mod CopyingQuestions
 pub mod CutAway
 pub mod ReadBack
 pub mod Said
+pub mod Spelled
 pub mod Short
 pub mod Links
 pub mod Sizes

@@ -7,7 +7,8 @@ use Rattle.lrat_text.specs.declared.fault.LratTextFault.{LratTextFault, TheVaria
 use Rattle.lrat_text.specs.Tokens.{Token, placed_from, tokens_from, content, is_number, number_from, id_of, has_minus, after_minus, literal_of, hint_of}
 use Rattle.lrat_text.specs.Reading.{up_to_zero, no_more, addition_of, deletion_of, behind_id, line_of, size_of}
 use Rattle.candidate_formula.specs.Lines.{in_front, lines_from, lines_of_text}
-use Rattle.candidate_formula.specs.Said.{words_in, number_in, literal_in, hint_in, before_zero, closed_by_zero, addition_in, deletion_in, behind_number, line_in, is_passed, lines_in, lines_said}
+use Rattle.candidate_formula.specs.ProofTexts.{words_in, is_passed}
+use Rattle.candidate_formula.specs.ReadLines.{number_in, literal_in, hint_in, before_zero, closed_by_zero, addition_in, deletion_in, behind_number, line_in, lines_in, lines_said}
 
 abbrev pub plain : {A : Type 0} → Result A LratTextFault → Option A
 plain (Ok x) = Some x
@@ -51,13 +52,13 @@ id_plain t = number_plain t.place 4294967295 t.bytes
 
 -- ---- words up to a zero
 
-abbrev words : List Token → List (List ℕ)
+abbrev pub words : List Token → List (List ℕ)
 words ts = map (λ t. t.bytes) ts
 
 abbrev as_words : {A : Type 0} → List A × List Token → List A × List (List ℕ)
 as_words p = (p.0, words p.1)
 
-abbrev front : {A : Type 0} → Bool → List (List ℕ) → Option A → Option (List A × List (List ℕ)) → Option (List A × List (List ℕ))
+abbrev pub front : {A : Type 0} → Bool → List (List ℕ) → Option A → Option (List A × List (List ℕ)) → Option (List A × List (List ℕ))
 front b behind o more = if b then Some ([], behind) else elim o [
   | None ↦ None
   | Some x ↦ option_map (λ more. (x ∷ more.0, more.1)) more
@@ -140,6 +141,15 @@ module _ (lack : LratTextFault) (t : Token) (ts : List Token) where
   line_plain : plain (id_of t >>= (λ id. behind_id lack id ts)) ≡ line_in (words (t ∷ ts))
   line_plain = numbered_plain (id_of t) ∙ ap numbered (id_plain t)
 
+-- what says a line as tokens says it as words
+pub line_said : (lack : LratTextFault) (ts : List Token) (line : LratLine) → line_of lack ts ≡ Some (Ok line) → line_in (words ts) ≡ Some line
+line_said lack [] line e = absurd (cc)
+line_said lack (t ∷ ts) line e = go (slice_index t.bytes 0 == 99) e
+  where
+    go : (b : Bool) → (if b then None else Some (id_of t >>= (λ id. behind_id lack id ts))) ≡ Some (Ok line) → line_in (words (t ∷ ts)) ≡ Some line
+    go true is = absurd (cc)
+    go false is = let same : (id_of t >>= (λ id. behind_id lack id ts)) ≡ Ok line = cc in sym (line_plain lack t ts) ∙ ap plain same
+
 -- ---- lines
 
 some_words : (place : ℕ) (pieces : List (List ℕ)) → words (filter (λ t. nat_lt 0 (length t.bytes)) (placed_from place pieces)) ≡ filter (λ word. nat_lt 0 (length word)) pieces
@@ -149,10 +159,10 @@ some_words place (piece ∷ pieces) = ⊎_elim
     (λ f. rw f (some_words (place + length piece + 1) pieces))
     (cases_Bool (nat_lt 0 (length piece)))
 
-row_words : (place : ℕ) (row : Row) → words (tokens_from place (content row)) ≡ words_in row
+pub row_words : (place : ℕ) (row : Row) → words (tokens_from place (content row)) ≡ words_in row
 row_words place row = some_words place (slice_split (λ b. b == 32 || b == 9) (content row))
 
-abbrev onto : Option LratLine → Option (List LratLine) → Option (List LratLine)
+abbrev pub onto : Option LratLine → Option (List LratLine) → Option (List LratLine)
 onto o later = elim o [
   | None ↦ None
   | Some line ↦ option_map (λ lines. line ∷ lines) later

@@ -5,7 +5,7 @@ use Rattle.candidate_order.specs.{declared.candidate.Candidate.Candidate, Fronti
 use Rattle.cnf_formula.specs.{Lines.ProofLineValue, declared.line.LratLine.{LratLine, TheVariants.Addition}}
 use Rattle.proof_rules.specs.Refuting.{Refutes, SpentLog}
 use Rattle.lrat_text.specs.Printing.{cnf_text}
-use Rattle.candidate_formula.specs.{Formulas.formula_for, Pruned.is_cut_away, Said.lines_said}
+use Rattle.candidate_formula.specs.{Formulas.formula_for, Pruned.is_cut_away, ProofTexts.IsProofText}
 
 -- the name of a candidate's file
 abbrev pub file_of : FileKind → Part → Candidate → ProofName
@@ -24,7 +24,7 @@ pub record HoldsLines (files : Files) (name : ProofName) (lines : List LratLine)
   pub bytes : List ℕ
   pub found : files name ≡ Some bytes
   pub short : length bytes ≤ longest_proof
-  pub reads : lines_said bytes ≡ Some lines
+  pub reads : IsProofText bytes lines
 
 -- beside a refuted candidate stand its formula and a proof of that formula
 pub record HasRefutation (part : Part) (q : QuestionValue) (files : Files) (x : Candidate) : Type 0 where

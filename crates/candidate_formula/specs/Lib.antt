@@ -5,7 +5,8 @@ pub mod Questions
 pub mod Searched
 pub mod Counts
 pub mod Lines
-pub mod Said
+pub mod ProofTexts
+pub mod ReadLines
 pub mod Pruned
 pub mod Files
 pub mod Begun

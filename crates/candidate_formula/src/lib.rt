@@ -19,7 +19,10 @@ pub use laws::{
     candidates_are_small, formulas_are_exact, questions_have_exact_ordered_formulas,
     reductions_are_sought_by_copying, suited_schedules_suffice, tight_solutions_solve,
 };
-pub use log_laws::{lines_are_said_without_their_faults, logs_are_read_back, logs_are_short};
+pub use log_laws::{
+    lines_are_said_without_their_faults, logs_are_read_back, logs_are_short,
+    proof_texts_are_read_as_they_are_spelled,
+};
 pub use naming::file_name;
 pub use searched::{links_to_search, own_links_to_search};
 pub use size::size_number;

@@ -3,11 +3,16 @@
 ghost use Rattle.std.specs.Prelude.{◌≡◌, ◌↔◌, ◌≤◌, ℕ, List, Ok, Some, All, length, map};
 ghost use Rattle.cnf_formula.specs.{Lines.ProofLineValue, declared.line.LratLine.{LratLine, TheVariants.Addition}};
 ghost use Rattle.lrat_text.specs.Printing.{lrat_text, IsReadable};
-ghost use Rattle.candidate_formula.specs.{Lines.lines_of_text, Said.lines_said, Files.longest_proof, Logs.{IsShortLine, most_lines}};
+ghost use Rattle.candidate_formula.specs.{Lines.lines_of_text, ProofTexts.IsProofText, ReadLines.lines_said, Files.longest_proof, Logs.{IsShortLine, most_lines}};
 
 /// The lines that a text says are the same where its faults are told, and where they are not.
 pub fn lines_are_said_without_their_faults()
     ensures { (bytes : List ℕ) (lines : List LratLine) → (lines_of_text bytes ≡ Ok lines) ↔ (lines_said bytes ≡ Some lines) }
+{}
+
+/// The lines that a text says are those that its words spell.
+pub fn proof_texts_are_read_as_they_are_spelled()
+    ensures { (bytes : List ℕ) (lines : List LratLine) → (lines_said bytes ≡ Some lines) ↔ IsProofText bytes lines }
 {}
 
 /// The text of lines whose numbers a reader takes says just these lines.

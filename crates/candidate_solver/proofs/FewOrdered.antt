@@ -1,6 +1,6 @@
 -- The clauses of the order are few.
 use Rattle.std.proofs.Common.{ℕ, ◌*◌, ◌<◌, ◌≤◌, Bool, true, false, List, [], ◌∷◌, length, sym, subst, arith, Option, None, Some, filter, flat_map}
-use Rattle.std.{specs.List.{range_with_len, sum_by}, proofs.lemmas.List.{length-append, Sums.{count_by-le-length, length-filter, sum_by-le}}}
+use Rattle.std.{specs.List.{range_with_len}, proofs.lemmas.List.{length-append, Sums.{count_by-le-length, length-filter, sum_by-le}}}
 use Rattle.std.proofs.lemmas.List.{Concat.length-flat_map, FromFn.{length-map-range_with_len, length-range_with_len}}
 use Rattle.schedule.specs.{Links.TopologyValue, Placed.PlacementValue}
 use Rattle.cnf_formula.specs.Literals.{negation}

@@ -11,7 +11,7 @@ use Rattle.lrat_text.specs.Printing.{lrat_text, IsId, IsHint, IsReadable}
 use Rattle.outer_ports.specs.{declared.proof_name.ProofName.ProofName, Files.Files}
 use Rattle.conflict_ledger.specs.Shelved.{log_text}
 use Rattle.sat_core.specs.Ready.{AreNumbered, AreShort}
-use Rattle.candidate_formula.{specs.{Lines.lines_of_text, Files.HoldsLines, Logs.IsShortLine}, proofs.{ReadBack.text_says, Said.said_exactly, Short.log_short}}
+use Rattle.candidate_formula.{specs.{Lines.lines_of_text, Files.HoldsLines, Logs.IsShortLine}, proofs.{ReadBack.text_says, Said.said_exactly, Spelled.text_spells, Short.log_short}}
 use Rattle.conflict_analysis.proofs.Members.{here, cons_cases}
 
 -- what is held is held under numbers that a reader takes
@@ -141,5 +141,5 @@ holds_lines f lines files name small few implied numbered short found =
       bytes = log_text lines;
       found = found;
       short = log_short lines read (lines_short lines (start_of f) vars implied (λ k d w. let s = short k d w in omega (arith, s, vars))) few;
-      reads = (said_exactly (log_text lines) (map Addition lines)).0 (text_says (map Addition lines) read);
+      reads = text_spells ((said_exactly (log_text lines) (map Addition lines)).0 (text_says (map Addition lines) read));
     }

@@ -1,11 +1,12 @@
 -- The command that the code makes of its values is that of what is given.
-use Rattle.std.{proofs.Common.{◌≡◌, ℕ, Bool, true, false, not, List, unwrap_or, Option, None, Some, Ok, refl}, specs.List.list_all}
+use Rattle.std.{proofs.Common.{◌≡◌, ◌&&◌, ℕ, Bool, true, false, not, List, unwrap_or, Option, None, Some, Ok, refl}, specs.List.list_all}
 use Rattle.text_lines.specs.Check.{◌>>=◌, refuse}
 use Rattle.candidate_order.specs.Ranges.{unpruned}
-use Rattle.command_words.specs.declared.{command.{Command.Command, JsonWhat.JsonWhat, SearchWords.SearchWords}, fault.WordCode.TheVariants.KeyMissing}
+use Rattle.collective_spec.specs.Kinds.{takes_root}
+use Rattle.command_words.specs.declared.{command.{Command.Command, JsonWhat.JsonWhat, SearchWords.SearchWords}, fault.WordCode.TheVariants.{KeyMissing, RootNotTaken}}
 use Rattle.command_words.specs.{declared.{fault.WordFault.WordFault, verb.Verb.Verb}, Tables.{named, search, what_word, whats}}
 use Rattle.command_words.specs.declared.verb.Verb.TheVariants.{Synth, Check, Replay, Programs, Family, Trial, Bound, Ordered, Degrade, Json, Unjson}
-use Rattle.command_words.specs.{Commands.{command_from, root_taken}, inner.Building.{search_from, command_from as made_from}}
+use Rattle.command_words.specs.{Commands.{blame, command_from}, inner.Building.{search_from, command_from as made_from}}
 use Rattle.command_words.proofs.Kept.{values_of}
 use Rattle.command_words.specs.declared.command.Command.TheVariants as command
 use Rattle.command_words.specs.declared.command.JsonWhat.TheVariants as what
@@ -27,7 +28,7 @@ settled false code x after = refl
 
 module _ (g : List Given) (count : ℕ) (after : SearchWords → Command) where
   abbrev Alike : Type 0
-  Alike = (search_from (values_of g) count >>= (λ asked. Ok (after asked))) ≡ (refuse (not (list_all (λ k. is_given k g) search)) (missing count) >>= (λ _. root_taken g >>= (λ _. Ok (after (sought g)))))
+  Alike = (search_from (values_of g) count >>= (λ asked. Ok (after asked))) ≡ (refuse (not (list_all (λ k. is_given k g) search)) (missing count) >>= (λ _. refuse (is_given key.Root g && not (takes_root (kind_at g))) (blame RootNotTaken key.Root g) >>= (λ _. Ok (after (sought g)))))
 
   search_alike : (kind k steps chunks conflicts root : Option Given) → given_at key.Collective g ≡ kind → given_at key.K g ≡ k → given_at key.Steps g ≡ steps → given_at key.Chunks g ≡ chunks → given_at key.Conflicts g ≡ conflicts → given_at key.Root g ≡ root → Alike
   search_alike None k steps chunks conflicts root a b c d e f = rw a refl

@@ -1,15 +1,16 @@
 -- Which codes words are refused with, and at which words.
-use Rattle.std.proofs.Common.{◌≡◌, ◌≤◌, ◌+◌, ℕ, Bool, true, false, not, cond, arith, List, [], ◌∷◌, length, option_map, unwrap_or, Option, None, Some, Result, Ok, Err, IfOk, IfErr, sym, subst}
-use Rattle.std.{specs.{List.list_all, declared.string.String.String, String.string_bytes}, proofs.lemmas.List.length-map}
+use Rattle.std.proofs.Common.{◌≡◌, ◌≤◌, ◌+◌, ◌&&◌, ℕ, Bool, true, false, not, cond, arith, List, [], ◌∷◌, length, option_map, unwrap_or, Option, None, Some, Result, Ok, Err, IfOk, IfErr, sym, subst}
+use Rattle.std.{specs.{List.{list_all, list_any}, declared.string.String.String, String.string_bytes}, proofs.lemmas.List.length-map}
 use Rattle.text_lines.specs.Check.{◌>>=◌, refuse, need}
+use Rattle.collective_spec.specs.Kinds.{takes_root}
+use Rattle.topology_text.specs.Family.{is_allowed}
 use Rattle.command_words.specs.declared.{command.Command.Command, fault.{WordCode.WordCode, WordFault.WordFault}, key.Key.Key, verb.Verb.Verb}
-use Rattle.command_words.specs.{declared.fault.WordCode.TheVariants.{UnknownCommand, UnknownKey, KeyTwice, KeyMissing, BadValue}, Codes.number_of}
-use Rattle.command_words.specs.declared.verb.Verb.TheVariants.{Synth, Family, Bound, Ordered, Json}
+use Rattle.command_words.specs.{declared.fault.WordCode.TheVariants.{UnknownCommand, UnknownKey, KeyTwice, KeyMissing, BadValue, RootNotTaken}, Codes.number_of}
 use Rattle.command_words.specs.Tables.{named, verbs, verb_word, keys, key_word, key_row, same_key, has_key}
-use Rattle.command_words.specs.Commands.{point_taken, required, fit_together, command_from}
+use Rattle.command_words.specs.Commands.{blame, required, command_from}
 use Rattle.command_words.specs.Words.{key_and_value, fits, is_refused, with_word, at_word, given_from, texts, command_of}
 use Rattle.command_words.specs.declared.key.Key.TheVariants as key
-use Rattle.command_words.specs.Given.{Given, given_at, is_given, word_at}
+use Rattle.command_words.specs.Given.{Given, given_at, is_given, word_at, number_at, kind_at, family_at}
 
 -- a refusal of checks in a row is one of theirs
 err_then : {A B C : Type 0} (P : C → Type 0) (r : Result A C) (f : A → Result B C) → IfErr r P → ((x : A) → IfErr (f x) P) → IfErr (r >>= f) P
@@ -89,22 +90,12 @@ given_right n verb g index (word ∷ words) room before =
 
 -- ---- the command
 
-point_right : (n : ℕ) (verb : Verb) (g : List Given) → AreWithin n g → IfErr (point_taken verb g) (Meets n)
-point_right n Json g within = err_refuse (Meets n) _ _ (omega arith, at_within n key.Point g within)
-point_right n _ g within = tt
-
-together_right : (n : ℕ) (verb : Verb) (g : List Given) → AreWithin n g → IfErr (fit_together verb g) (Meets n)
-together_right n Synth g within = err_refuse (Meets n) _ _ (omega arith, at_within n key.Root g within)
-together_right n Bound g within = err_refuse (Meets n) _ _ (omega arith, at_within n key.Root g within)
-together_right n Ordered g within = err_refuse (Meets n) _ _ (omega arith, at_within n key.Root g within)
-together_right n Family g within = err_refuse (Meets n) _ _ (omega arith, at_within n key.Size g within)
-together_right n _ g within = tt
-
 command_right : (n : ℕ) (verb : Verb) (r : Result (List Given) WordFault) (count : ℕ) → count ≤ n → Right n r → IfErr (r >>= (λ g. command_from verb g count)) (Meets n)
 command_right n verb (Ok g) count in_n right =
-    err_then (Meets n) (point_taken verb g) _ (point_right n verb g right.1)
+    err_then (Meets n) (refuse (has_key verb key.Point && is_given key.Point g && not (list_any (same_key key.Point) (required verb g))) (blame UnknownKey key.Point g)) _ (err_refuse (Meets n) _ _ (omega arith, at_within n key.Point g right.1))
     (λ _. err_then (Meets n) (refuse (not (list_all (λ k. is_given k g) (required verb g))) (record { code = KeyMissing; word = count })) _ (err_refuse (Meets n) _ _ (omega arith, in_n))
-    (λ _. err_then (Meets n) (fit_together verb g) _ (together_right n verb g right.1) (λ _. tt)))
+    (λ _. err_then (Meets n) (refuse (has_key verb key.Root && is_given key.Root g && not (takes_root (kind_at g))) (blame RootNotTaken key.Root g)) _ (err_refuse (Meets n) _ _ (omega arith, at_within n key.Root g right.1))
+    (λ _. err_then (Meets n) (refuse (has_key verb key.Size && not (is_allowed (family_at g) (number_at key.Size g))) (blame BadValue key.Size g)) _ (err_refuse (Meets n) _ _ (omega arith, at_within n key.Size g right.1)) (λ _. tt))))
 command_right n verb (Err e) count in_n right = right.0
 
 -- every refusal is by one of the codes 1 to 7, at a word or behind the last

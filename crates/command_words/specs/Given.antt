@@ -2,7 +2,7 @@
 use Rattle.std.specs.{Prelude.{ℕ, Bool, List, [], find, Option, is_some, option_map, unwrap_or}, Str.Parse.digits_value}
 use Rattle.candidate_order.specs.{Ranges.LimitsValue, declared.pruning.Pruning.Pruning}
 use Rattle.collective_spec.specs.{declared.kind.Kind.{Kind, TheVariants.Custom}, Kinds.{word_of, every_kind}}
-use Rattle.topology_text.specs.{declared.family_kind.FamilyKind.{FamilyKind, TheVariants.Line}, FamilyWords.family_named}
+use Rattle.topology_text.specs.{declared.family_kind.FamilyKind.{FamilyKind, TheVariants.Line}, FamilyWords.{families, family_word}}
 use Rattle.command_words.specs.declared.{command.{JsonWhat.{JsonWhat, TheVariants.Topology}, RootWord.RootWord}, key.Key.Key}
 use Rattle.command_words.specs.Tables.{named, same_key, what_word, whats}
 use Rattle.command_words.specs.declared.key.Key.TheVariants as key
@@ -34,7 +34,7 @@ abbrev pub kind_at : List Given → Kind
 kind_at given = unwrap_or (named word_of every_kind (text_at key.Collective given)) Custom
 
 abbrev pub family_at : List Given → FamilyKind
-family_at given = unwrap_or (family_named (text_at key.Kind given)) Line
+family_at given = unwrap_or (named family_word families (text_at key.Kind given)) Line
 
 abbrev pub what_at : List Given → JsonWhat
 what_at given = unwrap_or (named what_word whats (text_at key.What given)) Topology

@@ -9,7 +9,7 @@ use Rattle.candidate_order.specs.{declared.candidate.Candidate.Candidate, Fronti
 use Rattle.frontier_audit.specs.{declared.verdict.Reason.TheVariants.{ProofMissing, ProofRefused, CnfDiffers, PartialRefused}, Denials.{Denial, Checked}}
 use Rattle.frontier_audit.specs.Auditing.{refutation_checked, unknown_checked}
 use Rattle.frontier_audit.proofs.Passing.{then_ok, ok_then, refused_not, not_refused}
-use Rattle.candidate_formula.specs.{Said.lines_said, Formulas.formula_for, Files.{file_of, longest_proof, HasRefutation, HasLog}}
+use Rattle.candidate_formula.{specs.{ReadLines.lines_said, Formulas.formula_for, Files.{file_of, longest_proof, HasRefutation, HasLog}}, proofs.Spelled.{text_spells, text_read}}
 use Rattle.proof_audit.specs.{Proving.{is_refutation, is_spent_log}, Tested.{do_refute, do_spend}}
 use Rattle.proof_audit.proofs.Proved.{refutes_by, by_refuting, spent_by, by_spending}
 
@@ -54,7 +54,7 @@ has_refutation part q files x e =
     record {
       formula = b.formula;
       lines = lines;
-      holds = record { bytes = b.proof; found = b.there; short = leb-true (length b.proof) longest_proof parts.0; reads = reads };
+      holds = record { bytes = b.proof; found = b.there; short = leb-true (length b.proof) longest_proof parts.0; reads = text_spells reads };
       refutes = refutes;
     }
 
@@ -67,7 +67,7 @@ passes_refutation part q files x h =
       there = h.holds.found;
       refutes = and_from (nat_le (length h.holds.bytes) longest_proof) (do_refute (formula_for q x) (lines_said h.holds.bytes))
           (le-leb (length h.holds.bytes) longest_proof h.holds.short)
-          (by_refuting (formula_for q x) (lines_said h.holds.bytes) h.lines h.holds.reads h.refutes);
+          (by_refuting (formula_for q x) (lines_said h.holds.bytes) h.lines (text_read h.holds.reads) h.refutes);
     })
 
 -- ---- an unknown candidate
@@ -80,7 +80,7 @@ has_log_of part q files u same e =
     let by = spent_by f u.conflicts (lines_said log) parts.1 in
     record {
       lines = by.added;
-      holds = record { bytes = log; found = there; short = leb-true (length log) longest_proof parts.0; reads = by.says };
+      holds = record { bytes = log; found = there; short = leb-true (length log) longest_proof parts.0; reads = text_spells by.says };
       spent = record { count = by.spent.count ∙ same; learned = by.spent.learned };
     }
 
@@ -91,4 +91,4 @@ passes_log part q files u same h =
     (not_refused (is_spent_log f u.conflicts h.holds.bytes) (PartialRefused, u.candidate)
     (and_from (nat_le (length h.holds.bytes) longest_proof) (do_spend f u.conflicts (lines_said h.holds.bytes))
     (le-leb (length h.holds.bytes) longest_proof h.holds.short)
-    (by_spending f u.conflicts (lines_said h.holds.bytes) h.lines h.holds.reads (record { count = h.spent.count ∙ sym same; learned = h.spent.learned }))))
+    (by_spending f u.conflicts (lines_said h.holds.bytes) h.lines (text_read h.holds.reads) (record { count = h.spent.count ∙ sym same; learned = h.spent.learned }))))

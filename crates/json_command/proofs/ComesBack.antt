@@ -12,7 +12,7 @@ use Rattle.json_reports.proofs.Built.{report_back, report_flat}
 use Rattle.command_words.specs.{declared.command.{Command.Command, JsonWhat.JsonWhat}, Words.command_of}
 use Rattle.command_words.specs.declared.command.Command.TheVariants as command
 use Rattle.command_words.specs.declared.command.JsonWhat.TheVariants as what
-use Rattle.run_rules.specs.{declared.status.Status.TheVariants.{BadReport, TooLong}, Commands.{json_row, row_of, unjson_row}, Steps.whole_text}
+use Rattle.run_rules.specs.{declared.status.Status.TheVariants.{BadReport, TooLong}, Commands.reads_source, Steps.whole_text}
 use Rattle.run_rules.specs.Refusals.{Refusal, refused_as, refused_at}
 use Rattle.run_rules.specs.Tasks.{Task, Write, due, json_asked, json_programs_in, limit, read_report, task_of, unjson_asked, words_asked}
 use Rattle.json_command.proofs.{Exchanged.{topology_due, topology_read_due, topology_same, report_read_due, report_same}, Fitting.{Fits, read_again, text_utf8}}
@@ -64,9 +64,9 @@ module _ (bytes text : List ℕ) where
 
 -- ---- by the words, and by how long the texts are
 
-due_of : (words : List (List ℕ)) (c : Command) (bytes : List ℕ) → command_of words ≡ Ok c → due words bytes ≡ (whole_text (row_of c).reads bytes >>= (λ _. task_of c bytes))
+due_of : (words : List (List ℕ)) (c : Command) (bytes : List ℕ) → command_of words ≡ Ok c → due words bytes ≡ (whole_text (reads_source (Ok c)) bytes >>= (λ _. task_of c bytes))
 unfolding due
-due_of words c bytes e = ap (λ x. words_asked x >>= (λ d. whole_text (row_of d).reads bytes >>= (λ _. task_of d bytes))) e
+due_of words c bytes e = ap (λ x. words_asked x >>= (λ d. whole_text (reads_source (Ok d)) bytes >>= (λ _. task_of d bytes))) e
 
 -- what is due behind the check of the length is due
 behind_length : (reads : Bool) (bytes : List ℕ) (asked : Result Task Refusal) (task : Task) → whole_text reads bytes >>= (λ _. asked) ≡ Ok task → asked ≡ Ok task
@@ -84,5 +84,5 @@ short_whole false bytes short = refl
 pub due_back : (words back : List (List ℕ)) (value : JsonWhat) → command_of words ≡ Ok (command.Json value None) → command_of back ≡ Ok (command.Unjson value) → (bytes text : List ℕ)
     → due words bytes ≡ Ok (Write text) → length text ≤ limit → due back text ≡ Ok (Write bytes)
 due_back words back value writes reads bytes text is short =
-    let asked : json_asked value None bytes ≡ Ok (Write text) = behind_length (json_row value).reads bytes (json_asked value None bytes) (Write text) (sym (due_of words (command.Json value None) bytes writes) ∙ is) in
-    due_of back (command.Unjson value) text reads ∙ ap (λ x. x >>= (λ _. unjson_asked value text)) (short_whole unjson_row.reads text short) ∙ comes_back bytes text value asked
+    let asked : json_asked value None bytes ≡ Ok (Write text) = behind_length true bytes (json_asked value None bytes) (Write text) (sym (due_of words (command.Json value None) bytes writes) ∙ is) in
+    due_of back (command.Unjson value) text reads ∙ ap (λ x. x >>= (λ _. unjson_asked value text)) (short_whole true text short) ∙ comes_back bytes text value asked

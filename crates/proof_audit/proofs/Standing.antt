@@ -4,7 +4,7 @@ use Rattle.std.proofs.lemmas.{Bool.{and_parts, leb-true, le-leb, and_from}, Slic
 use Rattle.outer_ports.specs.{declared.{part.Part.Part, proof_name.FileKind.TheVariants.{Cnf, Lrat}}, Files.Files}
 use Rattle.lrat_text.specs.Printing.{cnf_text}
 use Rattle.candidate_order.specs.{declared.candidate.Candidate.Candidate, Frontiers.QuestionValue}
-use Rattle.candidate_formula.specs.{Files.{file_of, longest_proof, HasRefutation}, Formulas.formula_for, Said.lines_said}
+use Rattle.candidate_formula.{specs.{Files.{file_of, longest_proof, HasRefutation}, Formulas.formula_for, ReadLines.lines_said}, proofs.Spelled.{text_spells, text_read}}
 use Rattle.proof_audit.specs.{declared.verdict.FileVerdict.TheVariants.{Refused, Stands}, Files.file_verdict, Proving.is_refutation, Tested.do_refute}
 use Rattle.proof_audit.proofs.Proved.{refutes_by, by_refuting}
 
@@ -39,7 +39,7 @@ standing_refute part q files x =
           record {
             formula = text.found ∙ ap (λ b. Some b) ((bytes_eq-Decides text.bytes (cnf_text f)).0 text.pass);
             lines = lines;
-            holds = record { bytes = proof.bytes; found = proof.found; short = leb-true (length proof.bytes) longest_proof parts.0; reads = reads };
+            holds = record { bytes = proof.bytes; found = proof.found; short = leb-true (length proof.bytes) longest_proof parts.0; reads = text_spells reads };
             refutes = refutes;
           },
       λ h. (
@@ -47,6 +47,6 @@ standing_refute part q files x =
         stands (is_refutation f) (files (file_of Lrat part x)) h.holds.bytes h.holds.found
             (and_from (nat_le (length h.holds.bytes) longest_proof) (do_refute f (lines_said h.holds.bytes))
             (le-leb (length h.holds.bytes) longest_proof h.holds.short)
-            (by_refuting f (lines_said h.holds.bytes) h.lines h.holds.reads h.refutes)),
+            (by_refuting f (lines_said h.holds.bytes) h.lines (text_read h.holds.reads) h.refutes)),
       ),
     )

@@ -4,7 +4,7 @@ use Rattle.std.proofs.lemmas.Bool.{and_parts}
 use Rattle.cnf_formula.specs.{Formulas.{FormulaValue, Satisfiable}, declared.line.LratLine.LratLine}
 use Rattle.proof_rules.{specs.Held.start_of, proofs.Calm.never_refuted}
 use Rattle.lrat_text.specs.{declared.fault.LratTextFault.LratTextFault, Reading.new_reader}
-use Rattle.candidate_formula.{specs.{Lines.lines_of_text, Said.lines_said, Files.longest_proof}, proofs.Said.{plain, said_plain}}
+use Rattle.candidate_formula.{specs.{Lines.lines_of_text, ReadLines.lines_said, Files.longest_proof}, proofs.Said.{plain, said_plain}}
 use Rattle.proof_audit.specs.declared.{fault.AuditFault.AuditFault, verdict.FileVerdict.{FileVerdict, TheVariants.{Stands, Refused}}}
 use Rattle.proof_audit.specs.{Proving.{is_refutation, is_spent_log}, Tested.{do_refute, do_spend}, Files.{file_verdict, short_and, SomePass, HasSpentLog}}
 use Rattle.proof_audit.specs.inner.{Lines.{left_says, lines_pass}, Turns.{checker_after, is_refuted, are_taken}}

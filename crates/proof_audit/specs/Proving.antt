@@ -2,7 +2,7 @@
 use Rattle.std.specs.Prelude.{◌==◌, ◌&&◌, ℕ, Bool, false, List, length, None, Some, nat_le}
 use Rattle.cnf_formula.specs.{Formulas.FormulaValue, declared.line.LratLine.LratLine}
 use Rattle.proof_rules.specs.{Held.start_of, Refuting.{all_accepted, after, are_learned}}
-use Rattle.candidate_formula.specs.{Said.lines_said, Files.longest_proof}
+use Rattle.candidate_formula.specs.{ReadLines.lines_said, Files.longest_proof}
 
 -- the bytes are not too many, and say lines that pass this test
 abbrev pub say_lines : (List LratLine → Bool) → List ℕ → Bool

@@ -4,7 +4,7 @@ use Rattle.std.{specs.List.range_with_len, proofs.lemmas.Grind.flat_map-append}
 use Rattle.schedule.specs.{Sends.ScheduleValue, Placed.PlacementValue, Links.TopologyValue, Bags.{Bags, contributions, held_at_2, of_placement}, Running.run_of}
 use Rattle.schedule.specs.{JoinedRuns.joined_run, Judging.verdict_of, declared.verdict.Verdict.Verdict}
 use Rattle.inversion.specs.{declared.verdict.SumVerdict.SumVerdict, Saying.{says_solves, says_sums}}
-use Rattle.collective_spec.specs.{declared.{instance.Instance.Instance, spec.Spec.Spec}, Collectives.{chunks_in, spec_instance}}
+use Rattle.collective_spec.specs.{declared.{instance.Instance.Instance, spec.Spec.Spec}, Collectives.{chunks_in, spec_demand, spec_instance}}
 use Rattle.bag_runs.{specs.Stores.{StoreValue, stored}, proofs.Tables.table_cell}
 use Rattle.node_programs.specs.{Machines.State, Ended.machine_of}
 use Rattle.text_lines.specs.Text.{line, text_of}
@@ -140,6 +140,13 @@ instance_is x i spec nodes c e n m is = is ∙ ap (λ s. spec_instance s nodes c
 -- and its chunks
 pub chunks_are : (x : Shown) (chunks : ℕ) (spec : Spec) (nodes c : ℕ) → spec ≡ x.question.spec → nodes ≡ nodes_of x → c ≡ x.point.candidate.c → chunks ≡ chunks_in spec nodes c → chunks ≡ chunks_at x
 chunks_are x chunks spec nodes c e n m is = is ∙ ap (λ s. chunks_in s nodes c) e ∙ ap (λ k. chunks_in x.question.spec k c) n ∙ ap (chunks_in x.question.spec (nodes_of x)) m
+
+-- and what is demanded
+abbrev pub demand_at : Shown → PlacementValue
+demand_at x = spec_demand x.question.spec (nodes_of x) x.point.candidate.c
+
+pub demand_is : (x : Shown) (demand : PlacementValue) (spec : Spec) (nodes c : ℕ) → spec ≡ x.question.spec → nodes ≡ nodes_of x → c ≡ x.point.candidate.c → demand ≡ spec_demand spec nodes c → demand ≡ demand_at x
+demand_is x demand spec nodes c e n m is = is ∙ ap (λ s. spec_demand s nodes c) e ∙ ap (λ k. spec_demand x.question.spec k c) n ∙ ap (spec_demand x.question.spec (nodes_of x)) m
 
 pub copied_lines : (x : Shown) → is_copied x ≡ true → (names : List (List ℕ)) (t : TopologyValue) (i : Instance) (pre post : PlacementValue) (s : ScheduleValue) (v : Verdict) (order : Option ℕ)
     → names ≡ x.names → t ≡ x.question.topology → i ≡ instance_at x → pre ≡ i.pre → post ≡ i.post → s ≡ x.point.schedule → v ≡ verdict_of t pre post s → text_of (placed_lines names pre s v order) ≡ text_of (body_lines x order)

@@ -1,12 +1,12 @@
--- The store after the last step of a point that adds up.
-use Rattle.std.{proofs.Common.{◌≡◌, ℕ, ◌+◌, ◌<◌, false, List, length, map, get_or, sym, ap, ◌∙◌, arith}, specs.List.range_with_len}
+-- The store after the last step of a point that adds up, and the verdict on it.
+use Rattle.std.{proofs.Common.{◌≡◌, ℕ, ◌+◌, ◌<◌, true, false, List, length, map, get_or, sym, ap, ◌∙◌, arith}, specs.List.range_with_len}
 use Rattle.std.proofs.lemmas.List.FromFn.{length-map-range_with_len, get_or-map-range_with_len}
-use Rattle.schedule.specs.{Links.TopologyValue, Sends.ScheduleValue, Bags.{Bags, contributions}, JoinedRuns.{joined_after, joined_run}}
+use Rattle.schedule.specs.{Links.TopologyValue, Sends.ScheduleValue, Placed.PlacementValue, Bags.{Bags, contributions}, JoinedRuns.{joined_after, joined_run}}
 use Rattle.bag_runs.{specs.Stores.{StoreValue, stored}, proofs.JoinedSteps.adding_throughout}
-use Rattle.inversion.specs.Judging.{last_bags}
-use Rattle.allreduce_join.specs.Judging.{joined_bags}
-use Rattle.replay_text.specs.{Showing.{Shown, adding_of, chunks_at, is_copied, is_joined, nodes_of}, Points.{IsShowable, last_store_of}}
-use Rattle.replay_text.proofs.{Bodies.adding_is, Ordered.mapped_twice}
+use Rattle.inversion.specs.Judging.{last_bags, sum_verdict_of}
+use Rattle.allreduce_join.{specs.Judging.{joined_bags, joined_verdict_of}, proofs.OneVerdict.{judged_adding, judged_everywhere}}
+use Rattle.replay_text.specs.{Showing.{Shown, adding_of, chunks_at, is_copied, is_joined, nodes_of, summed_verdict}, Points.{IsShowable, last_store_of}}
+use Rattle.replay_text.proofs.{Bodies.{adding_is, demand_at}, Ordered.mapped_twice}
 
 -- ---- in a run
 
@@ -74,3 +74,21 @@ module _ (x : Shown) (last : StoreValue) (t : TopologyValue) (chunks : ℕ) (s :
       ∙ sym (ap (λ c. stored c t.nodes (last_bags t s)) own_chunks
       ∙ ap (λ (w : TopologyValue). stored (chunks_at x) w.nodes (last_bags w s)) topology
       ∙ ap (λ (p : ScheduleValue). stored (chunks_at x) (nodes_of x) (last_bags x.question.topology p)) own)
+
+-- ---- the verdict on it
+
+module _ (x : Shown) (shows : IsShowable x) (t : TopologyValue) (s : ScheduleValue) (topology : t ≡ x.question.topology) (own : s ≡ x.point.schedule) where
+  pub joined_told : is_joined x.part ≡ true → (chunks adding : ℕ) → chunks ≡ chunks_at x → adding ≡ adding_of x → joined_verdict_of t chunks s adding ≡ summed_verdict x
+  joined_told joins chunks adding own_chunks own_adding =
+      ap (λ n. joined_verdict_of t n s adding) own_chunks
+      ∙ ap (λ (w : TopologyValue). joined_verdict_of w (chunks_at x) s adding) topology
+      ∙ ap (λ (p : ScheduleValue). joined_verdict_of x.question.topology (chunks_at x) p adding) own
+      ∙ ap (joined_verdict_of x.question.topology (chunks_at x) x.point.schedule) own_adding
+      ∙ judged_everywhere x.question.topology (chunks_at x) (demand_at x) x.point.schedule (adding_of x) (shows.everywhere joins)
+
+  pub summed_told : is_copied x ≡ false → is_joined x.part ≡ false → (demand : PlacementValue) → demand ≡ demand_at x → sum_verdict_of t demand s ≡ summed_verdict x
+  summed_told adds single demand own_demand =
+      ap (λ (w : TopologyValue). sum_verdict_of w demand s) topology
+      ∙ ap (λ (d : PlacementValue). sum_verdict_of x.question.topology d s) own_demand
+      ∙ ap (sum_verdict_of x.question.topology (demand_at x)) own
+      ∙ judged_adding x.question.topology (demand_at x) x.point.schedule (adding_of x) (omega (arith, adding_is x adds, shows.all_add single))

@@ -1,17 +1,20 @@
 -- What a report keeps of each of its points, and the instance that its part asks for.
-use Rattle.std.proofs.Common.{◌≡◌, arith, ◌≤◌, ◌<◌, ◌⊎◌, ⊎_elim, ℕ, zero, suc, true, false, List, [], ◌∷◌, map, length, All, Option, None, Some, IfSome, IsTrue, slice_get, refl, subst, ap, nat_le, Contains}
+use Rattle.std.proofs.Common.{◌≡◌, ◌≢◌, arith, ◌≤◌, ◌<◌, ◌⊎◌, inl, inr, ⊎_elim, ℕ, zero, suc, true, false, List, [], ◌∷◌, map, length, All, Option, None, Some, IfSome, IsTrue, slice_get, refl, sym, subst, ap, nat_le, Contains}
 use Rattle.std.{specs.List.{AllByRecursion, flat_map}, proofs.lemmas.Bool.{and_parts, leb-true, not-true}}
 use Rattle.std.proofs.lemmas.List.Elements.{All-contains, All-from_recursion, recursion_from_All}
 use Rattle.outer_ports.specs.declared.part.Part.{Part}
 use Rattle.outer_ports.specs.declared.part.Part.TheVariants as part
 use Rattle.collective_spec.specs.{declared.{kind.Kind.Kind, collective.Collective.Collective, spec.Spec.Spec}, Kinds.{allows, is_custom}}
-use Rattle.collective_spec.specs.{Patterns.{PatternValue, IsPattern}, Collectives.{IsSpec, chunks_in, fits_kind, spec_demand, spec_instance, spec_of}}
+use Rattle.collective_spec.specs.{Layouts.laid_out, Patterns.{PatternValue, IsPattern}}
+use Rattle.collective_spec.specs.Collectives.{IsSpec, after, chunks_in, chunks_of, fits_kind, spec_demand, spec_instance, spec_of}
+use Rattle.collective_spec.specs.declared.kind.Kind.TheVariants as kind
+use Rattle.collective_spec.specs.declared.layout.Layout.TheVariants as layout
 use Rattle.collective_spec.specs.declared.spec.Spec.TheVariants as spec
 use Rattle.candidate_order.specs.{declared.mark.Mark.Mark, Frontiers.{PointValue, FrontierValue}}
 use Rattle.candidate_order.specs.declared.mark.Mark.TheVariants as mark
-use Rattle.report_form.specs.{Reports.{ReportValue, IsReport, IsPoint, IsJoinedPoint, question_of, kind_of}, Numbered.{point_at, points_of}}
+use Rattle.report_form.specs.{Reports.{ReportValue, IsReport, IsPoint, IsJoinedPoint, question_of, kind_of, parts_of}, Numbered.{point_at, points_of}}
 use Rattle.schedule.proofs.First.{each_append}
-use Rattle.replay_text.specs.{Showing.{shown_in, steps_that_add}, Points.IsShowable}
+use Rattle.replay_text.specs.{Showing.{is_joined, shown_in, steps_that_add}, Points.IsShowable}
 
 get_has : {X : Type 0} (P : X → Type 0) (xs : List X) (n : ℕ) (x : X) → AllByRecursion P xs → slice_get xs n ≡ Some x → P x
 get_has P [] n x all e = absurd (cc)
@@ -36,6 +39,23 @@ spec_valid : (r : ReportValue) (part : Part) → IsReport r → IsSpec r.topolog
 spec_valid r part valid =
     spec_is r.words.collective part r.topology.topology.nodes r.topology.custom valid.pattern (subst (λ n. r.words.collective.root < n) valid.topology.as_many valid.words.root) valid.topology.custom
 
+-- an allreduce demands every chunk at every node
+all_demanded : (whole : Collective) (nodes c : ℕ) (custom : Option PatternValue) → whole.kind ≡ kind.Allreduce → fits_kind whole.kind custom ≡ true → spec_demand (spec_of whole custom) nodes c ≡ laid_out layout.All (chunks_in (spec_of whole custom) nodes c) nodes
+all_demanded whole nodes c None is fits = ap (λ k. laid_out (after k whole.root) (chunks_of whole.kind nodes c) nodes) is
+all_demanded whole nodes c (Some p) is fits = let custom = ap is_custom is in absurd (cc)
+
+-- whether a kind is an allreduce, and that no part with a frontier joins others
+by_kind : (k : Kind) → ((k ≡ kind.Allreduce) ⊎ (k ≢ kind.Allreduce)) × AllByRecursion (λ part. is_joined part ≡ false) (parts_of k)
+by_kind kind.Broadcast = (inr (λ e. absurd (cc)), (refl, tt))
+by_kind kind.Gather = (inr (λ e. absurd (cc)), (refl, tt))
+by_kind kind.Allgather = (inr (λ e. absurd (cc)), (refl, tt))
+by_kind kind.Scatter = (inr (λ e. absurd (cc)), (refl, tt))
+by_kind kind.Alltoall = (inr (λ e. absurd (cc)), (refl, tt))
+by_kind kind.Reduce = (inr (λ e. absurd (cc)), (refl, tt))
+by_kind kind.Reducescatter = (inr (λ e. absurd (cc)), (refl, tt))
+by_kind kind.Custom = (inr (λ e. absurd (cc)), (refl, tt))
+by_kind kind.Allreduce = (inl refl, (refl, (refl, tt)))
+
 -- ---- each point of a report can be shown
 
 some_count : (k : Kind) (nodes c : ℕ) → IsTrue (allows k nodes c) → 1 ≤ c
@@ -46,8 +66,8 @@ every_step : (m : Mark) (steps : ℕ) → (m ≡ mark.Optimal) ⊎ (m ≡ mark.O
 every_step m steps is = ⊎_elim (λ (e : m ≡ mark.Optimal). ap (λ k. steps_that_add k steps) e) (λ (e : m ≡ mark.Open). ap (λ k. steps_that_add k steps) e) is
 
 module _ (r : ReportValue) (valid : IsReport r) where
-  of_point : (part : Part) (p : PointValue) → IsPoint (question_of r.words r.topology part) p → IsShowable (shown_in r (part, p))
-  of_point part p point = record {
+  of_point : (part : Part) (p : PointValue) → is_joined part ≡ false → IsPoint (question_of r.words r.topology part) p → IsShowable (shown_in r (part, p))
+  of_point part p single point = record {
     spec = spec_valid r part valid;
     schedule = point.has.schedule;
     in_range = point.has.in_range;
@@ -55,10 +75,11 @@ module _ (r : ReportValue) (valid : IsReport r) where
     some = some_count _ _ _ point.within.allowed;
     few = omega (arith, point.within.chunks, valid.words.limits.chunks);
     all_add = λ _. every_step p.mark (length p.schedule.rounds) point.mark;
+    everywhere = λ e. absurd (cc);
   }
 
-  of_joined : (p : PointValue) → IsJoinedPoint (question_of r.words r.topology part.Joined) p → IsShowable (shown_in r (part.Joined, p))
-  of_joined p point = record {
+  of_joined : (p : PointValue) → r.words.collective.kind ≡ kind.Allreduce → IsJoinedPoint (question_of r.words r.topology part.Joined) p → IsShowable (shown_in r (part.Joined, p))
+  of_joined p is point = record {
     spec = spec_valid r part.Joined valid;
     schedule = point.has.schedule;
     in_range = point.has.in_range;
@@ -66,27 +87,35 @@ module _ (r : ReportValue) (valid : IsReport r) where
     some = point.some_chunks;
     few = omega (arith, point.chunks, valid.words.limits.chunks);
     all_add = λ e. absurd (cc);
+    everywhere = λ _. all_demanded r.words.collective r.topology.topology.nodes p.candidate.c r.topology.custom is valid.pattern;
   }
 
   abbrev Shows : Part × PointValue → Type 0
   Shows x = IsShowable (shown_in r x)
 
-  part_shows : (part : Part) (points : List PointValue) → AllByRecursion (IsPoint (question_of r.words r.topology part)) points → AllByRecursion Shows (map (λ p. (part, p)) points)
-  part_shows part [] all = tt
-  part_shows part (p ∷ points) all = (of_point part p all.0, part_shows part points all.1)
+  part_shows : (part : Part) (points : List PointValue) → is_joined part ≡ false → AllByRecursion (IsPoint (question_of r.words r.topology part)) points → AllByRecursion Shows (map (λ p. (part, p)) points)
+  part_shows part [] single all = tt
+  part_shows part (p ∷ points) single all = (of_point part p single all.0, part_shows part points single all.1)
 
-  frontiers_show : (xs : List (Part × FrontierValue)) → AllByRecursion (λ x. All (IsPoint (question_of r.words r.topology x.0)) x.1.points) xs → AllByRecursion Shows (flat_map (λ x. map (λ p. (x.0, p)) x.1.points) xs)
-  frontiers_show [] all = tt
-  frontiers_show (x ∷ xs) all = each_append Shows _ _ (part_shows x.0 x.1.points (recursion_from_All _ x.1.points all.0)) (frontiers_show xs all.1)
+  frontiers_show : (xs : List (Part × FrontierValue)) → AllByRecursion (λ part. is_joined part ≡ false) (map (λ x. x.0) xs) → AllByRecursion (λ x. All (IsPoint (question_of r.words r.topology x.0)) x.1.points) xs → AllByRecursion Shows (flat_map (λ x. map (λ p. (x.0, p)) x.1.points) xs)
+  frontiers_show [] single all = tt
+  frontiers_show (x ∷ xs) single all = each_append Shows _ _ (part_shows x.0 x.1.points single.0 (recursion_from_All _ x.1.points all.0)) (frontiers_show xs single.1 all.1)
 
-  joined_show : (points : List PointValue) → AllByRecursion (IsJoinedPoint (question_of r.words r.topology part.Joined)) points → AllByRecursion Shows (map (λ p. (part.Joined, p)) points)
-  joined_show [] all = tt
-  joined_show (p ∷ points) all = (of_joined p all.0, joined_show points all.1)
+  joined_show : (points : List PointValue) → r.words.collective.kind ≡ kind.Allreduce → AllByRecursion (IsJoinedPoint (question_of r.words r.topology part.Joined)) points → AllByRecursion Shows (map (λ p. (part.Joined, p)) points)
+  joined_show [] is all = tt
+  joined_show (p ∷ points) is all = (of_joined p is all.0, joined_show points is all.1)
 
   all_show : AllByRecursion Shows (points_of r)
   all_show =
+      let known = by_kind r.words.collective.kind in
+      let single : AllByRecursion (λ part. is_joined part ≡ false) (map (λ x. x.0) r.frontiers) = subst (AllByRecursion (λ part. is_joined part ≡ false)) (sym valid.parts) known.1 in
+      let joined : AllByRecursion Shows (map (λ p. (part.Joined, p)) r.joined) =
+      ⊎_elim
+      (λ (is : r.words.collective.kind ≡ kind.Allreduce). joined_show r.joined is (recursion_from_All _ r.joined valid.joined))
+      (λ (other : r.words.collective.kind ≢ kind.Allreduce). subst (λ ps. AllByRecursion Shows (map (λ p. (part.Joined, p)) ps)) (sym (valid.only_allreduce other)) tt)
+      known.0 in
       let frontiers : AllByRecursion (λ y. All (IsPoint (question_of r.words r.topology y.0)) y.1.points) r.frontiers = recursion_from_All _ r.frontiers (λ k d at. (valid.frontiers k d at).points) in
-      each_append Shows _ _ (frontiers_show r.frontiers frontiers) (joined_show r.joined (recursion_from_All _ r.joined valid.joined))
+      each_append Shows _ _ (frontiers_show r.frontiers single frontiers) joined
 
   -- the point of a number is one of the report's
   pub numbered_shows : (n : ℕ) (x : Part × PointValue) → point_at r n ≡ Some x → IsShowable (shown_in r x)

@@ -1,9 +1,9 @@
 -- What a report keeps of each of its points, and the text of a point's programs.
-use Rattle.std.specs.Prelude.{◌≡◌, ℕ, ◌≤◌, false, List, ◌∷◌, ◌++◌, Option, if◌then◌else◌, [], IsTrue, length}
+use Rattle.std.specs.Prelude.{◌≡◌, ℕ, ◌≤◌, true, false, List, ◌∷◌, ◌++◌, Option, if◌then◌else◌, [], IsTrue, length}
 use Rattle.outer_ports.specs.declared.part.Part.{Part}
 use Rattle.schedule.specs.{Bags.contributions, JoinedRuns.joined_after, Sends.{IsInRange, IsSchedule}}
 use Rattle.bag_runs.specs.Stores.{StoreValue, stored}
-use Rattle.collective_spec.specs.{Kinds.allows, Collectives.{IsSpec, kind_in}}
+use Rattle.collective_spec.specs.{declared.layout.Layout.TheVariants.All, Kinds.allows, Layouts.laid_out, Collectives.{IsSpec, kind_in, spec_demand}}
 use Rattle.candidate_order.specs.Frontiers.{PointValue}
 use Rattle.node_programs.specs.{Programs.programs_of, Printing.programs_text}
 use Rattle.report_form.specs.Reports.{ReportValue}
@@ -11,7 +11,8 @@ use Rattle.replay_text.specs.Replay.{numbered_steps}
 use Rattle.replay_text.specs.Showing.{Shown, adding_of, chunks_at, holds_as_shown, is_joined, nodes_of, order_lines, shown_in, shown_steps, shown_verdict, steps_that_add}
 
 -- the schedule is valid, its sends are of the collective's chunks and nodes, the collective has the
--- chunk count of the point, and where it joins no others all its steps add by its mark
+-- chunk count of the point; where it joins no others all its steps add by its mark, and where it
+-- does every chunk is demanded at every node
 pub record IsShowable (x : Shown) : Type 0 where
   pub spec : IsSpec (nodes_of x) x.question.spec
   pub schedule : IsSchedule x.point.schedule
@@ -20,6 +21,7 @@ pub record IsShowable (x : Shown) : Type 0 where
   pub some : 1 ≤ x.point.candidate.c
   pub few : x.point.candidate.c ≤ 16
   pub all_add : is_joined x.part ≡ false → steps_that_add x.point.mark (length x.point.schedule.rounds) ≡ length x.point.schedule.rounds
+  pub everywhere : is_joined x.part ≡ true → spec_demand x.question.spec (nodes_of x) x.point.candidate.c ≡ laid_out All (chunks_at x) (nodes_of x)
 
 -- the store after the last step of a point that adds up
 abbrev pub last_store_of : Shown → StoreValue

@@ -5,9 +5,8 @@ use Rattle.outer_ports.specs.declared.part.Part.{Part}
 use Rattle.outer_ports.specs.declared.part.Part.TheVariants as part
 use Rattle.schedule.specs.{Bags.{Bags, contributions, of_placement, held_at_2}, Running.run_of, JoinedRuns.joined_run, declared.verdict.Verdict.Verdict}
 use Rattle.schedule.specs.Judging.{verdict_of}
-use Rattle.inversion.specs.{declared.verdict.SumVerdict.{SumVerdict, TheVariants.{Sums, Missing, Twice, Overfull, NoLink, Clash}}, Judging.sum_verdict_of}
-use Rattle.inversion.specs.Saying.{says_solves, says_sums}
-use Rattle.allreduce_join.specs.Judging.{joined_verdict_of}
+use Rattle.inversion.specs.{declared.verdict.SumVerdict.{SumVerdict, TheVariants.{Sums, Missing, Twice, Overfull, NoLink, Clash}}, Saying.{says_solves, says_sums}}
+use Rattle.allreduce_join.specs.Judging.{summed_verdict_of}
 use Rattle.collective_spec.specs.{declared.instance.Instance.Instance, Collectives.{spec_instance, spec_demand, chunks_in, adds_up}}
 use Rattle.candidate_order.specs.{declared.mark.Mark.Mark, Frontiers.{QuestionValue, PointValue}}
 use Rattle.candidate_order.specs.declared.mark.Mark.TheVariants as mark
@@ -81,10 +80,7 @@ sum_words names (NoLink h) = codes "nolink" ∷ decimal h.chunk ∷ name_at name
 sum_words names (Clash chunk node step) = codes "clash" ∷ decimal chunk ∷ name_at names node ∷ decimal step ∷ []
 
 abbrev pub summed_verdict : Shown → SumVerdict
-summed_verdict x =
-    if is_joined x.part
-    then joined_verdict_of x.question.topology (chunks_at x) x.point.schedule (adding_of x)
-    else sum_verdict_of x.question.topology (spec_demand x.question.spec (nodes_of x) x.point.candidate.c) x.point.schedule
+summed_verdict x = summed_verdict_of x.question.topology (spec_demand x.question.spec (nodes_of x) x.point.candidate.c) x.point.schedule (adding_of x)
 
 abbrev pub copied_verdict : Shown → Verdict
 copied_verdict x = verdict_of x.question.topology (instance_at x).pre (instance_at x).post x.point.schedule

@@ -8,11 +8,11 @@ use Rattle.outer_ports.specs.declared.part.Part.{Part}
 use Rattle.candidate_order.specs.declared.mark.Mark.TheVariants as mark
 use Rattle.candidate_order.specs.Frontiers.{QuestionValue, PointValue, FrontierValue}
 use Rattle.topology_text.specs.Reading.{begins}
-use Rattle.report_form.specs.{declared.fault.ReportCode.ReportCode, Fields.is_number, Tests.{is_within, comes_next}, Lines.{fixed_line, row_begins, parts_at}}
+use Rattle.report_form.specs.{declared.fault.ReportCode.ReportCode, Tests.{is_within, comes_next}, Lines.{fixed_line, row_begins, parts_at}}
 use Rattle.report_form.specs.Points.{HeadValue, head_from, joined_head_from, may_join, rounds_from, are_rounds, rounds_line, send_from, send_line, may_be_sent, follows, schedule_at, frontier_point_at, joined_point_at}
 use Rattle.report_form.specs.Reading.{part_bytes, refuted_from, refuted_line, unknown_from, unknown_line, frontier_at}
 use Rattle.report_form.proofs.{Gives.{Gives, gives_done, gives_like}, LineTaken.{on_words, ruled_by}}
-use Rattle.report_laws.specs.Shapes.{Token, Word, Any, has_shape, small, candidate_shape, send_shape, formed, rounds, unknown, refuted, results, forms_after}
+use Rattle.report_laws.specs.Shapes.{Token, Word, Any, has_shape, small, is_decimal, candidate_shape, send_shape, formed, rounds, unknown, refuted, results, forms_after}
 use Rattle.report_laws.proofs.{LocalParts.steady_schedule, SteadyLists.shorter_part}
 use Rattle.report_laws.proofs.ShapesTold.{Told, mark_shape, rounds_shape, refuted_told, unknown_told, head_told, joined_head_told, rounds_told, send_told}
 use Rattle.report_laws.proofs.Blaming.{Form, goes_on, or_false, told_code, ruled_goes, fixed_goes, first_of_shape, first_of_front, unbegun, Coded, At, line_goes, lines_go, parts_go, less}
@@ -29,7 +29,7 @@ abbrev refuted_shape : List Token
 refuted_shape = candidate_shape (codes "refuted") []
 
 abbrev unknown_shape : List Token
-unknown_shape = candidate_shape (codes "unknown") (Any is_number ∷ [])
+unknown_shape = candidate_shape (codes "unknown") (Any is_decimal ∷ [])
 
 -- where the first of the forms is the only one that fits these words
 alone : (F test : List (List ℕ) → Bool) (row : Row) (ws : List (List ℕ)) → words_of row.bytes ≡ ws → F ws ≡ (test ws || false) → F (words_of row.bytes) ≡ test (words_of row.bytes)
@@ -132,4 +132,4 @@ module _ (rows : List Row) (names : List (List ℕ)) where
       (λ before row why begun e. alone_code row why (or_false (unknown row))
       ((ruled_goes (has_shape unknown_shape) unknown_from (λ u. is_within q u.candidate && comes_next (last_or None (map (λ y. y.candidate) before)) u.candidate && u.conflicts == q.limits.conflicts) (λ u. u) (λ ws. (unknown_told ws).told) row).err why e))
       r.1.rows [] r.1.number (less rows names false refuted (unknown ∷ []) r.1 gone.0 (λ row h. no_form (codes "refuted") (small ∷ small ∷ []) row (gone.1 row h))))
-      (λ u given last. gives_done _ (less rows names false unknown [] u.1 last.0 (λ row h. no_form (codes "unknown") (small ∷ small ∷ Any is_number ∷ []) row (last.1 row h)))))))
+      (λ u given last. gives_done _ (less rows names false unknown [] u.1 last.0 (λ row h. no_form (codes "unknown") (small ∷ small ∷ Any is_decimal ∷ []) row (last.1 row h)))))))

@@ -18,7 +18,7 @@ use Rattle.report_form.specs.Reading.{part_bytes, frontiers_from, joined_at, bod
 use Rattle.report_form.proofs.{LineTaken.row_is, ReportTaken.{after_root, after_names, after_same, after_asked, after_head, report_at, report_is}}
 use Rattle.report_form.proofs.Gives.{Gives, gives_done, gives_like}
 use Rattle.report_form.specs.declared.fault.ReportCode.TheVariants as code
-use Rattle.report_laws.specs.Shapes.{has_shape, asked_shape, asked, nodes, results, forms_after, first_word, is_patterned, names_in, forms_behind, code_of}
+use Rattle.report_laws.specs.Shapes.{has_shape, asked_shape, formed, results, forms_after, first_word, is_patterned, names_in, forms_behind, code_of}
 use Rattle.report_laws.proofs.{ShapesTold.asked_told, BlamedPoints.{joined_points_go, IsTitle, title_goes, frontier_goes}}
 use Rattle.report_laws.proofs.Blaming.{Form, is_joined, fits, last_is, goes_on, gives_fail, choose_gives, at_line_goes, part_goes, or_false, told_code, ruled_goes, first_of_shape, first_of_front, On, Coded, Unfit, code_on, unfit_on, among_goes, Stands, stands_goes, told_on, At, coded_at, onward}
 
@@ -179,8 +179,8 @@ module _ (text : List ℕ) where
               (λ g read here. goes_on _ _ (among_goes all (λ (x : Option PatternValue × Place). At all n.0 false [] x.1) (pattern_at head.0 n.0 g.1) (pattern_goes all n.0 head.0 g.1 here))
               (λ c more there. body_goes all (words_from a.0 root) (named_with n.0 g.0 c.0) c.1 there))
 
-        nodes_fit : (row : Row) → fits (r1 ∷ r2 ∷ r3 ∷ []) row ≡ nodes row
-        nodes_fit row = fits_after (r1 ∷ r2 ∷ []) r3 row (codes "topology") w3 (nodes ∷ []) refl ∙ or_false (nodes row)
+        nodes_fit : (row : Row) → fits (r1 ∷ r2 ∷ r3 ∷ []) row ≡ is_ok (nodes_line (Some row))
+        nodes_fit row = fits_after (r1 ∷ r2 ∷ []) r3 row (codes "topology") w3 ((λ r. is_ok (nodes_line (Some r))) ∷ []) refl ∙ or_false (is_ok (nodes_line (Some row)))
 
         root_told : (names : List (List ℕ)) (root : Option (List ℕ)) (c : ReportCode) → root_of names root ≡ Err c → c ≡ code.Limits
         root_told names None c e = absurd (cc)
@@ -230,7 +230,14 @@ module _ (text : List ℕ) where
     asked_test words = list_any (λ k. has_shape (asked_shape k) words) (kinds_of head.0)
 
     asked_fits : (row : Row) → fits (r1 ∷ []) row ≡ asked_test (words_of row.bytes)
-    asked_fits row = fits_after [] r1 row (codes "sccl") w1 (asked (is_patterned (r1 ∷ [])) ∷ []) refl ∙ (or_false (asked (is_patterned (r1 ∷ [])) row) ∙ ap (λ b. asked b row) v1)
+    asked_fits row = fits_after [] r1 row (codes "sccl") w1 (map asked_form (kinds_of (is_patterned (r1 ∷ [])))) refl ∙ (ap (λ b. list_any (λ form. form row) (map asked_form (kinds_of b))) v1 ∙ by_version head.0)
+      where
+        asked_form : Kind → Form
+        asked_form k = formed (asked_shape k)
+
+        by_version : (b : Bool) → list_any (λ form. form row) (map asked_form (kinds_of b)) ≡ list_any (λ k. asked_form k row) (kinds_of b)
+        by_version true = refl
+        by_version false = refl
 
     asked_first : (ks : List Kind) (row : Row) → list_any (λ k. has_shape (asked_shape k) (words_of row.bytes)) ks ≡ true → first_word row ≡ codes "synth"
     asked_first [] row e = absurd (cc)
@@ -265,10 +272,10 @@ module _ (text : List ℕ) where
       by_tests : (one two : Bool) → bytes_eq row.bytes (codes "sccl 1") ≡ one → bytes_eq row.bytes (codes "sccl 2") ≡ two → Gives (λ (c : ReportCode). c ≡ code.BadLine) (λ (b : Bool). Said row b) (need (if one then Some false else (if two then Some true else None)) code.BadLine)
       by_tests true two is1 is2 =
           let is : row.bytes ≡ codes "sccl 1" = (bytes_eq-Decides row.bytes (codes "sccl 1")).0 is1 in
-          gives_done false (record { word = ap (λ v. slice_index_or (words_of v) 0 []) is; version = ap (λ v. bytes_eq v (codes "sccl 2")) is })
+          gives_done false (record { word = ap (λ v. slice_index_or (words_of v) 0 []) is; version = ap (λ v. bytes_eq v (codes "sccl 2") || false) is })
       by_tests false true is1 is2 =
           let is : row.bytes ≡ codes "sccl 2" = (bytes_eq-Decides row.bytes (codes "sccl 2")).0 is2 in
-          gives_done true (record { word = ap (λ v. slice_index_or (words_of v) 0 []) is; version = is2 })
+          gives_done true (record { word = ap (λ v. slice_index_or (words_of v) 0 []) is; version = ap (λ b. b || false) is2 })
       by_tests false false is1 is2 = gives_fail code.BadLine refl
 
       by_end : (w : Bool) → Gives (λ (c : ReportCode). c ≡ (if w then code.BadLine else code.Truncated)) (λ (b : Bool). Said row b) ((refuse (not w) code.Truncated >>= (λ u. Ok row)) >>= (λ r. need (version_of r.bytes) code.BadLine))

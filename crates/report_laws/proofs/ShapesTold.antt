@@ -1,6 +1,6 @@
 -- The checks of a line's shape pass exactly where the line has the shape.
-use Rattle.std.proofs.Common.{◌≡◌, ℕ, Bool, true, false, ◌&&◌, ◌||◌, not, List, [], ◌∷◌, ◌++◌, map, length, drop, Option, None, Some, Result, Ok, Err, refl, sym, ap, ◌∙◌, subst, codes, bytes_eq, find, if◌then◌else◌, is_some, nat_eq}
-use Rattle.std.{specs.{Str.Parse.digits_value, List.{list_any, starts_with}}, proofs.lemmas.{Bool.{and_parts, Decides.Decides-eqb}, Option.same_Some}}
+use Rattle.std.proofs.Common.{◌≡◌, ℕ, Bool, true, false, ◌&&◌, ◌||◌, not, List, [], ◌∷◌, ◌++◌, map, length, drop, Option, None, Some, Result, Ok, Err, refl, sym, ap, ◌∙◌, subst, codes, bytes_eq, find, if◌then◌else◌, is_some, nat_eq, nat_lt, nat_le, ◌==◌, ◌≢◌, arith}
+use Rattle.std.{specs.{Str.Parse.digits_value, Cmp.both_ways, List.{list_any, list_all, starts_with}}, proofs.{lemmas.{Bool.{and_parts, ltb-true, lt-ltb, leb-true, le-leb, eqb-true, eqb-false, Decides.Decides-eqb}, Option.same_Some}, Math.Bool.and-true}}
 use Rattle.std.proofs.lemmas.Slice.Eq.{bytes_eq-Decides, starts_is}
 use Rattle.text_lines.specs.Check.{◌>>=◌, refuse, need}
 use Rattle.collective_spec.specs.{declared.kind.Kind.Kind, Kinds.{word_of, takes_root}}
@@ -8,11 +8,11 @@ use Rattle.candidate_order.specs.{declared.{candidate.Candidate.Candidate, pruni
 use Rattle.candidate_order.specs.declared.mark.Mark.TheVariants as mark
 use Rattle.topology_text.specs.{Names.{is_name, name_of}, Reading.{begins, node_of}}
 use Rattle.report_form.specs.{declared.fault.ReportCode.{ReportCode, TheVariants.BadLine}, Reading.{refuted_from, unknown_from}}
-use Rattle.report_form.specs.Fields.{is_number, any_number, small_number, next_word, behind_key, next_keyed, fixed_word, next_number, next_node, no_more}
+use Rattle.report_form.specs.Fields.{is_digit, is_number, any_number, small_number, next_word, behind_key, next_keyed, fixed_word, next_number, next_node, no_more}
 use Rattle.report_form.specs.Points.{candidate_from, mark_named, head_from, joined_head_from, numbers_from, rounds_from, send_from}
 use Rattle.report_form.specs.SynthLine.{AskedValue, kind_named, kinds_of, limits_from, root_from, said_from, pruning_from, asked_from}
 use Rattle.report_form.proofs.{Shapes.candidate, SynthLineTaken.{found_is, limits, pruned, asked}}
-use Rattle.report_laws.specs.Shapes.{Token, Word, Any, May, has_shape, small, keyed, asked_shape, candidate_shape, send_shape}
+use Rattle.report_laws.specs.Shapes.{Token, Word, Any, May, has_shape, small, is_decimal, keyed, asked_shape, candidate_shape, send_shape}
 use Rattle.report_laws.proofs.SynthLineAgain.{kind_back, rooted}
 
 -- the check passes where the test holds, and else says that the line is bad
@@ -76,8 +76,28 @@ some_if : {A : Type 0} (b : Bool) (x : A) → b ≡ is_some (if b then Some x el
 some_if true x = refl
 some_if false x = refl
 
-any_passes : (w : List ℕ) → is_number w ≡ is_some (any_number w)
-any_passes w = some_if (is_number w) (digits_value 10 w)
+-- digits have no leading zero where they are 0 or the first of them is more
+is_decimal_is : (w : List ℕ) → is_decimal w ≡ is_number w
+is_decimal_is [] = refl
+is_decimal_is (b ∷ bs) = by_zero (b == 48) bs refl
+  where
+    above : (b == 48) ≡ false → nat_lt 48 b ≡ nat_le 48 b
+    above other = both_ways (nat_lt 48 b) (nat_le 48 b) (λ h. let more = ltb-true 48 b h in le-leb 48 b (omega (arith, more))) (λ h. let low = leb-true 48 b h in let apart : b ≢ 48 = eqb-false b 48 other in lt-ltb 48 b (omega (arith, low, apart)))
+
+    known : (l m high more : Bool) → l ≡ m → (l && ((m && high) && more)) ≡ ((m && high) && more)
+    known true true high more e = refl
+    known true false high more e = absurd (cc)
+    known false true high more e = absurd (cc)
+    known false false high more e = refl
+
+    by_zero : (is_zero : Bool) (cs : List ℕ) → (b == 48) ≡ is_zero → ((is_zero && bytes_eq cs []) || (nat_lt 48 b && list_all is_digit (b ∷ cs))) ≡ is_number (b ∷ cs)
+    by_zero true [] e = sym (ap is_digit (eqb-true b 48 e))
+    by_zero true (c ∷ cs) e = ap (λ n. nat_lt 48 n && list_all is_digit (b ∷ c ∷ cs)) (eqb-true b 48 e) ∙ ap (λ t. not t && list_all is_digit (b ∷ c ∷ cs)) (sym e)
+    by_zero false [] e = known (nat_lt 48 b) (nat_le 48 b) (nat_le b 57) true (above e) ∙ and-true (is_digit b)
+    by_zero false (c ∷ cs) e = known (nat_lt 48 b) (nat_le 48 b) (nat_le b 57) (list_all is_digit (c ∷ cs)) (above e) ∙ ap (λ t. not t && list_all is_digit (b ∷ c ∷ cs)) (sym e)
+
+any_passes : (w : List ℕ) → is_decimal w ≡ is_some (any_number w)
+any_passes w = is_decimal_is w ∙ some_if (is_number w) (digits_value 10 w)
 
 keyed_told : {A B : Type 0} (key : List ℕ) (read : List ℕ → Option A) (passes : List ℕ → Bool) (shape : List Token) (f : A × List (List ℕ) → Result B ReportCode) → ((w : List ℕ) → passes w ≡ is_some (read w)) → ((x : A) (ws : List (List ℕ)) → Shaped shape ws (f (x, ws)))
     → (words : List (List ℕ)) → Shaped (keyed key passes ∷ shape) words (next_keyed key read words >>= f)
@@ -104,8 +124,8 @@ candidate_told more f next words =
 pub refuted_told : (words : List (List ℕ)) → Shaped (candidate_shape (codes "refuted") []) words (refuted_from words)
 refuted_told words = fixed_told _ _ _ (λ ws. candidate_told _ _ (λ x vs. end_told x vs) ws) words
 
-pub unknown_told : (words : List (List ℕ)) → Shaped (candidate_shape (codes "unknown") (Any is_number ∷ [])) words (unknown_from words)
-unknown_told words = fixed_told _ _ _ (λ ws. candidate_told _ _ (λ x vs. word_told any_number is_number _ _ any_passes (λ n us. end_told _ us) vs) ws) words
+pub unknown_told : (words : List (List ℕ)) → Shaped (candidate_shape (codes "unknown") (Any is_decimal ∷ [])) words (unknown_from words)
+unknown_told words = fixed_told _ _ _ (λ ws. candidate_told _ _ (λ x vs. word_told any_number is_decimal _ _ any_passes (λ n us. end_told _ us) vs) ws) words
 
 -- the mark of a point of a frontier
 abbrev is_mark : List ℕ → Bool
@@ -187,12 +207,12 @@ one_kind : (a b : Kind) → word_of a ≡ word_of b → a ≡ b
 one_kind a b e = same_Some a b (sym (kind_back a) ∙ (ap (kind_named true) e ∙ kind_back b))
 
 abbrev numbers_shape : List Token → List Token
-numbers_shape more = keyed (codes "k=") is_number ∷ keyed (codes "steps=") is_number ∷ keyed (codes "chunks=") is_number ∷ keyed (codes "conflicts=") is_number ∷ more
+numbers_shape more = keyed (codes "k=") is_decimal ∷ keyed (codes "steps=") is_decimal ∷ keyed (codes "chunks=") is_decimal ∷ keyed (codes "conflicts=") is_decimal ∷ more
 
 limits_told : {B : Type 0} (more : List Token) (f : LimitsValue × List (List ℕ) → Result B ReportCode) → ((l : LimitsValue) (ws : List (List ℕ)) → Shaped more ws (f (l, ws))) → (words : List (List ℕ)) → Shaped (numbers_shape more) words (limits_from words >>= f)
 limits_told more f next words =
-    assoc_told (next_keyed (codes "k=") any_number words) _ f (keyed_told (codes "k=") any_number is_number _ _ any_passes (λ k ws. assoc_told (next_keyed (codes "steps=") any_number ws) _ f (keyed_told (codes "steps=") any_number is_number _ _ any_passes
-    (λ s vs. assoc_told (next_keyed (codes "chunks=") any_number vs) _ f (keyed_told (codes "chunks=") any_number is_number _ _ any_passes (λ c us. assoc_told (next_keyed (codes "conflicts=") any_number us) _ f (keyed_told (codes "conflicts=") any_number is_number _ _ any_passes (λ n ts. next (limits k s c n) ts) us)) vs)) ws)) words)
+    assoc_told (next_keyed (codes "k=") any_number words) _ f (keyed_told (codes "k=") any_number is_decimal _ _ any_passes (λ k ws. assoc_told (next_keyed (codes "steps=") any_number ws) _ f (keyed_told (codes "steps=") any_number is_decimal _ _ any_passes
+    (λ s vs. assoc_told (next_keyed (codes "chunks=") any_number vs) _ f (keyed_told (codes "chunks=") any_number is_decimal _ _ any_passes (λ c us. assoc_told (next_keyed (codes "conflicts=") any_number us) _ f (keyed_told (codes "conflicts=") any_number is_decimal _ _ any_passes (λ n ts. next (limits k s c n) ts) us)) vs)) ws)) words)
 
 abbrev root_shape : Bool → List Token → List Token
 root_shape b more = (if b then keyed (codes "root=") is_name ∷ [] else []) ++ more

@@ -1,10 +1,12 @@
--- Reading by spelling alone: a text is read as the report that it spells. Any other text is blamed at the first line at which it can no longer be a report's, and the shape of that line says with which code. This project's own.
-use Rattle.std.specs.Prelude.{◌≡◌, ℕ, ◌-◌, Bool, true, false, ◌&&◌, ◌||◌, if◌then◌else◌, List, [], ◌∷◌, ◌++◌, map, length, take, drop, slice_get, slice_index_or, bytes_eq, codes, is_some, is_ok, Option, None, Some, Result, Ok, Err}
-use Rattle.std.specs.List.{list_any, last_or}
+-- Reading by spelling alone: a text is read as the report that it spells. Any other text is blamed at the first line at which it can no longer be a report's,
+-- and the shape of that line says with which code. This project's own.
+use Rattle.std.specs.Prelude.{◌≡◌, ℕ, ◌-◌, nat_le, nat_lt, Bool, true, false, ◌&&◌, ◌||◌, if◌then◌else◌, Option, None, Some, is_some, Result, Ok, Err, is_ok}
+use Rattle.std.specs.Prelude.{List, [], ◌∷◌, ◌++◌, map, length, take, drop, slice_get, slice_index, slice_index_or, bytes_eq, codes}
+use Rattle.std.specs.List.{list_any, list_all, last_or}
 use Rattle.text_lines.specs.{Text.{Row, rows_of, words_of}, Number.number_up_to}
 use Rattle.collective_spec.specs.{declared.kind.Kind.Kind, Kinds.{word_of, takes_root, standard_kinds, every_kind}}
 use Rattle.topology_text.specs.{Names.is_name, Reading.{begins, node_of, nodes_line}}
-use Rattle.report_form.specs.{declared.fault.ReportCode.ReportCode, Reports.{ReportValue, IsReport}, Spelling.report_text, First.FailsFirstAt, Fields.is_number}
+use Rattle.report_form.specs.{declared.fault.ReportCode.ReportCode, Reports.{ReportValue, IsReport}, Spelling.report_text, First.FailsFirstAt}
 use Rattle.report_form.specs.declared.fault.ReportCode.TheVariants as code
 
 -- ---- the shapes of lines
@@ -28,6 +30,10 @@ has_shape _ _ = false
 abbrev pub small : Token
 small = Any (λ w. is_some (number_up_to 65535 w))
 
+-- the digits of a number of any size, without a leading zero
+abbrev pub is_decimal : List ℕ → Bool
+is_decimal w = bytes_eq w (codes "0") || (nat_lt 48 (slice_index w 0) && list_all (λ b. nat_le 48 b && nat_le b 57) w)
+
 -- a key, and behind it what passes the test
 abbrev pub keyed : List ℕ → (List ℕ → Bool) → Token
 keyed key passes = Any (λ w. begins key w && passes (drop (length key) w))
@@ -35,8 +41,8 @@ keyed key passes = Any (λ w. begins key w && passes (drop (length key) w))
 -- the line of the words, for a collective
 abbrev pub asked_shape : Kind → List Token
 asked_shape kind =
-    Word (codes "synth") ∷ Word (codes "collective=" ++ word_of kind) ∷ keyed (codes "k=") is_number ∷ keyed (codes "steps=") is_number ∷ keyed (codes "chunks=") is_number ∷ keyed (codes "conflicts=") is_number
-    ∷ (if takes_root kind then keyed (codes "root=") is_name ∷ [] else []) ++ May (codes "cuts=yes") ∷ May (codes "ordered=yes") ∷ []
+    Word (codes "synth") ∷ Word (codes "collective=" ++ word_of kind) ∷ map (λ key. keyed key is_decimal) (codes "k=" ∷ codes "steps=" ∷ codes "chunks=" ∷ codes "conflicts=" ∷ [])
+    ++ (if takes_root kind then keyed (codes "root=") is_name ∷ [] else []) ++ May (codes "cuts=yes") ∷ May (codes "ordered=yes") ∷ []
 
 -- a word, the three numbers of a candidate, and more
 abbrev pub candidate_shape : List ℕ → List Token → List Token
@@ -52,21 +58,13 @@ send_shape names = let node : Token = Any (λ w. is_some (node_of names w)) in W
 abbrev pub formed : List Token → Row → Bool
 formed shape row = has_shape shape (words_of row.bytes)
 
--- the words of a collective that may stand behind the first line
-abbrev pub asked : Bool → Row → Bool
-asked patterned row = list_any (λ kind. formed (asked_shape kind) row) (if patterned then every_kind else standard_kinds)
-
--- a line of names that may be a topology's
-abbrev pub nodes : Row → Bool
-nodes row = is_ok (nodes_line (Some row))
-
 -- numbers behind the first word
 abbrev pub rounds : Row → Bool
 rounds row = formed (Word (codes "rounds") ∷ map (λ w. small) (drop 1 (words_of row.bytes))) row
 
 -- candidates without a schedule: of an unknown one the conflicts follow
 abbrev pub unknown : Row → Bool
-unknown = formed (candidate_shape (codes "unknown") (Any is_number ∷ []))
+unknown = formed (candidate_shape (codes "unknown") (Any is_decimal ∷ []))
 
 abbrev pub refuted : Row → Bool
 refuted = formed (candidate_shape (codes "refuted") [])
@@ -77,11 +75,11 @@ results joined =
     formed (candidate_shape (codes "point") (if joined then Word (codes "joined") ∷ small ∷ [] else Any (λ w. bytes_eq w (codes "optimal") || bytes_eq w (codes "open")) ∷ []))
     ∷ (if joined then [] else refuted ∷ unknown ∷ [])
 
--- the forms of the lines with rules that may stand behind a line with this first word
+-- the forms of the lines with rules that may stand behind a line with this first word: the words of a collective behind the version, the names of the nodes behind the topology's header
 abbrev pub forms_after : Bool → List (List ℕ) → Bool → List ℕ → List (Row → Bool)
 forms_after patterned names joined last =
-    if bytes_eq last (codes "sccl") then asked patterned ∷ []
-    else if bytes_eq last (codes "topology") then nodes ∷ []
+    if bytes_eq last (codes "sccl") then map (λ kind. formed (asked_shape kind)) (if patterned then every_kind else standard_kinds)
+    else if bytes_eq last (codes "topology") then (λ row. is_ok (nodes_line (Some row))) ∷ []
     else if bytes_eq last (codes "frontier") || bytes_eq last (codes "joined") then results joined
     else if bytes_eq last (codes "point") then rounds ∷ []
     else if bytes_eq last (codes "rounds") || bytes_eq last (codes "send") then formed (send_shape names) ∷ results joined
@@ -97,13 +95,11 @@ first_word row = slice_index_or (words_of row.bytes) 0 []
 
 -- the first line is that of version 2
 abbrev pub is_patterned : List Row → Bool
-is_patterned [] = false
-is_patterned (row ∷ rows) = bytes_eq row.bytes (codes "sccl 2")
+is_patterned before = list_any (λ row. bytes_eq row.bytes (codes "sccl 2")) (take 1 before)
 
 -- the names stand in the fourth line
 abbrev pub names_in : List Row → List (List ℕ)
-names_in (a ∷ b ∷ c ∷ row ∷ rows) = drop 1 (words_of row.bytes)
-names_in _ = []
+names_in before = drop 1 (words_of (slice_index_or (map (λ row. row.bytes) before) 3 []))
 
 -- the forms of the lines with rules that may stand behind these lines, of which the last has this first word; joined points stand behind a line `joined`
 abbrev pub forms_behind : List Row → Option (List ℕ) → List (Row → Bool)

@@ -32,7 +32,7 @@ written_as due words text is e = λ files stay. subst (λ d. IsAnswer d files Do
 pub nothing_left_off : (due : Result Task Refusal) (before after : Files) → FilesStay before after → LeavesOff due before after
 nothing_left_off (Err r) before after stay = stay
 nothing_left_off (Ok (Write text)) before after stay = stay
-nothing_left_off (Ok (Synthesise w t kept)) before after stay = record { begun = record { each = λ name. inl (stay name) }; keeps = λ k part among x has. record { formula = stay (file_of Cnf part x); proof = stay (file_of Lrat part x) } }
+nothing_left_off (Ok (Synthesise w t kept)) before after stay = (record { each = λ name. inl (stay name) }, λ k part among x has. record { formula = stay (file_of Cnf part x); proof = stay (file_of Lrat part x) })
 nothing_left_off (Ok (Audit r)) before after stay = stay
 nothing_left_off (Ok (Try n)) before after stay = stay
 nothing_left_off (Ok (Bound w t sets)) before after stay = record { each = λ name. inl (stay name) }

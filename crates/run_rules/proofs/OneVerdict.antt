@@ -3,7 +3,7 @@ use Rattle.std.proofs.Common.{◌≡◌, ◌↔◌, List, [], ◌∷◌, inl, in
 use Rattle.outer_ports.specs.{declared.part.Part.Part, Files.Files}
 use Rattle.outer_ports.specs.declared.part.Part.TheVariants as part
 use Rattle.schedule.specs.Links.{TopologyValue}
-use Rattle.candidate_order.{specs.{declared.candidate.Candidate.Candidate, Costs.Before}, proofs.Orders.{Before-total, has_chunk}}
+use Rattle.candidate_order.{specs.{declared.candidate.Candidate.Candidate}, proofs.Orders.{Before-total, has_chunk}}
 use Rattle.candidate_order.specs.Frontiers.{QuestionValue, PointValue, FrontierValue, IsSolvedBy, IsPoint}
 use Rattle.candidate_formula.specs.Pruned.{is_cut_away}
 use Rattle.report_form.specs.Reports.{ReportValue, IsReport, question_of}

@@ -23,19 +23,13 @@ pub record IsSearch (w : WordsValue) (t : NamedTopologyValue) (kept : Bool) (fil
   pub keeps : IsTrue kept → IsTrue files.told → KeepsProofs w t files.before files.after
   pub begun : IsTrue files.told → BreaksOff w t files.before files.after
 
--- a trial: the summary of a search with files of its own
-pub record IsTrial (n : ℕ) (files : FilesValue) (status : Status) (text : List ℕ) : Type 0 where
-  pub done : status ≡ Done
-  pub tries : Tries n text
-  pub stay : Stay files
-
--- the answer to what is due; after a fault the old report is audited first
+-- the answer to what is due; a trial is the summary of a search with files of its own; after a fault the old report is audited first
 abbrev pub IsAnswer : Result Task Refusal → FilesValue → Status → List ℕ → Type 0
 IsAnswer (Err r) = IsSaid r.status (refusal_line r)
 IsAnswer (Ok (Write text)) = IsSaid Done text
 IsAnswer (Ok (Synthesise w t kept)) = IsSearch w t kept
 IsAnswer (Ok (Audit r)) = IsAudited r (Says Done (line (codes "verified" ∷ [])))
-IsAnswer (Ok (Try n)) = IsTrial n
+IsAnswer (Ok (Try n)) = λ files status text. Tries n text × IsSaid Done text files status text
 IsAnswer (Ok (Bound w t sets)) = IsBoundAnswer w t sets
 IsAnswer (Ok (Order w t)) = IsOrderedAnswer w t
 IsAnswer (Ok (Degrade r group width)) = IsAudited r (IsNewSearch r group width)
@@ -46,13 +40,8 @@ IsAnswerAlone due status text = (files : FilesValue) → Stay files → IsAnswer
 
 -- ---- what is left where there is no answer
 
--- a search that broke off has begun files of its own; where proofs are kept, what refuted a candidate before stands there still
-pub record SearchLeaves (w : WordsValue) (t : NamedTopologyValue) (kept : Bool) (before after : Files) : Type 0 where
-  pub begun : BreaksOff w t before after
-  pub keeps : IsTrue kept → KeepsProofs w t before after
-
--- of a search such files; of all else every file is as before
+-- a search that broke off has begun files of its own; where proofs are kept, what refuted a candidate before stands there still; of all else every file is as before
 abbrev pub LeavesOff : Result Task Refusal → Files → Files → Type 0
-LeavesOff (Ok (Synthesise w t kept)) before after = SearchLeaves w t kept before after
+LeavesOff (Ok (Synthesise w t kept)) before after = BreaksOff w t before after × (IsTrue kept → KeepsProofs w t before after)
 LeavesOff (Ok (Bound w t sets)) before after = BreaksOff w t before after
 LeavesOff _ before after = FilesStay before after

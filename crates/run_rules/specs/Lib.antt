@@ -2,6 +2,7 @@ pub mod Statuses
 pub mod Refusals
 pub mod Halts
 pub mod Commands
+pub mod Ends
 pub mod Trials
 pub mod Tries
 pub mod Tasks

@@ -22,7 +22,7 @@ use Rattle.command_words.specs.declared.fault.WordCode.TheVariants.{KeyMissing, 
 use Rattle.command_words.specs.declared.command.JsonWhat.TheVariants as what
 use Rattle.command_words.specs.declared.command.Command.TheVariants as command
 use Rattle.node_cuts.specs.declared.sets.Sets.{Sets, TheVariants.{Listed, All}}
-use Rattle.run_rules.specs.{declared.status.Status.TheVariants.{BadTopology, BadReport, TooLarge, NoCandidate, TooLong, BadJson}, Commands.row_of}
+use Rattle.run_rules.specs.{declared.status.Status.TheVariants.{BadTopology, BadReport, TooLarge, NoCandidate, TooLong, BadJson}, Commands.reads_source}
 use Rattle.run_rules.specs.Refusals.{Refusal, refused_at, refused_as, refused_word}
 
 -- what is to be done, with all that it needs: of a search also whether proofs that stand there are kept, of bounds which sets of nodes are looked at
@@ -144,7 +144,7 @@ words_asked (Err fault) = Err (refused_word fault.code fault.word)
 abbrev pub due_by : Reader → List (List ℕ) → List ℕ → Result Task Refusal
 due_by read words bytes = do
   command ← words_asked (command_of words)
-  _ ← refuse ((row_of command).reads && nat_lt limit (length bytes)) (refused_at TooLong 0 limit)
+  _ ← refuse (reads_source (Ok command) && nat_lt limit (length bytes)) (refused_at TooLong 0 limit)
   task_by read command bytes
 
 -- ---- steps of what is due, by names of their own

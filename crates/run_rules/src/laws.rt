@@ -5,16 +5,16 @@ ghost use Rattle.text_lines.specs.Text.{line};
 ghost use Rattle.command_words.specs.declared.command.Command.{Command};
 ghost use Rattle.outer_ports.specs.Files.{Files};
 ghost use Rattle.report_form.specs.Reports.{ReportValue, IsReport};
-ghost use Rattle.run_rules.specs.{Answers.{FilesValue, IsAnswer, Says}, Audits.{IsAudited, audited}, Refusals.{Refusal, refusal_line}, Commands.{IsOneOf, answers_of}, Tasks.task_of};
+ghost use Rattle.run_rules.specs.{Answers.{FilesValue, IsAnswer, Says}, Audits.{IsAudited, audited}, Refusals.{Refusal, refusal_line}, Commands.IsOneOf, Ends.answers_of, Tasks.task_of};
 ghost use Rattle.frontier_audit.specs.{declared.verdict.AuditVerdict.AuditVerdict, Auditing.audit_of, Rights.{HasLogs, IsRight}, Shelves.ShelfRight};
 ghost use Rattle.run_rules.specs.{Tries.Tries, Claims.IsVerdict, Degraded.IsNewSearch};
 ghost use Rattle.run_rules.specs.Steps.{verdict_status, verdict_text};
 
 use crate::status::Status;
 
-/// An answer to what a command asks for ends as the command's row says: it is done, or refused with
+/// An answer to what a command asks for ends as is listed for the command: it is done, or refused with
 /// one of its refusals.
-pub fn answers_end_as_their_row_says()
+pub fn answers_end_as_listed()
     ensures { (c : Command) (bytes : List ℕ) (files : FilesValue) (status : Status) (text : List ℕ) → IsAnswer (task_of c bytes) files status text → IsOneOf (answers_of c) status }
 {}
 

@@ -16,7 +16,7 @@ mod verdicts;
 pub use answer::{Answer, LIMIT, refusal, refusal_at, refused_word, too_long};
 pub use halt::Halt;
 pub use laws::{
-    answers_end_as_their_row_says, audits_say_their_verdict, claims_and_checks_agree,
+    answers_end_as_listed, audits_say_their_verdict, claims_and_checks_agree,
     faults_are_answered_by_the_checks, trials_are_proved,
 };
 pub use report_text::{ReportText, report_of_text};

@@ -1,50 +1,14 @@
 -- What every run says, whatever the ports tell, from what its answer says.
-use Rattle.std.proofs.Common.{◌≡◌, ◌≢◌, ◌==◌, ◌||◌, ◌++◌, ℕ, Bool, true, false, IsTrue, List, [], ◌∷◌, inl, inr, Result, Ok, Err, refl, sym, subst, ◌∙◌, if◌then◌else◌}
-use Rattle.std.specs.List.{list_any}
+use Rattle.std.proofs.Common.{◌≡◌, ◌≢◌, ℕ, List, inl, inr, Result, Ok, Err, refl, sym, subst, ◌∙◌}
 use Rattle.outer_ports.specs.Port.{Rose}
 use Rattle.command_words.specs.declared.command.JsonWhat.TheVariants as what
 use Rattle.command_words.specs.{declared.{command.Command.Command, fault.WordFault.WordFault}, Words.command_of}
 use Rattle.command_words.specs.declared.command.Command.TheVariants as command
-use Rattle.run_rules.specs.{declared.status.Status.{Status, TheVariants.{OutOfMemory, BadWords, SourceFailed, SinkFailed, ShelfFailed}}, Statuses.number_of}
-use Rattle.run_rules.specs.Commands.{Ask, Opens, Reads, IsOneOf, IsRefusal, answers_of, ends_of, row_of}
+use Rattle.run_rules.specs.{declared.status.Status.{Status, TheVariants.{OutOfMemory, BadWords, SourceFailed, SinkFailed, ShelfFailed}}}
+use Rattle.run_rules.specs.{Commands.{Ask, IsOneOf, IsRefusal, opens_shelf, reads_source}, Ends.answers_of}
 use Rattle.sccl_run.specs.{inner.Answering.Answers, TopCall.{CountValue, EndsIfItFails, IsTopCall, IsSilent}}
 
--- ---- lists of statuses
-
--- one of these, with others before it
-behind : (xs ys : List Status) (s : Status) → IsOneOf ys s → IsOneOf (xs ++ ys) s
-behind [] ys s there = there
-behind (x ∷ xs) ys s there = either (number_of x == number_of s) (behind xs ys s there)
-  where
-    either : (b : Bool) → IsOneOf (xs ++ ys) s → IsTrue (b || list_any (λ y. number_of y == number_of s) (xs ++ ys))
-    either true more = refl
-    either false more = more
-
--- ---- the row of a command
-
--- a status with which a command answers can end the words
-answer_ends : (c : Command) (s : Status) → IsOneOf (answers_of c) s → IsOneOf (ends_of (Ok c)) s
-answer_ends c s there = behind (if (row_of c).reads then SourceFailed ∷ [] else []) _ s (behind (if (row_of c).opens then ShelfFailed ∷ [] else []) (answers_of c) s there)
-
-pub words_end : (asked : Result Command WordFault) (s : Status) → Answers asked s → IsOneOf (OutOfMemory ∷ SinkFailed ∷ ends_of asked) s
-words_end (Ok c) s there = behind (OutOfMemory ∷ SinkFailed ∷ []) (ends_of (Ok c)) s (answer_ends c s there)
-words_end (Err fault) s is = subst (IsOneOf (OutOfMemory ∷ SinkFailed ∷ BadWords ∷ [])) (sym is) refl
-
--- what reads can end by a fault of the source, and what opens files by one of the shelf
-source_in : (reads : Bool) (rest : List Status) → IsTrue reads → IsOneOf (OutOfMemory ∷ SinkFailed ∷ ((if reads then SourceFailed ∷ [] else []) ++ rest)) SourceFailed
-source_in true rest reads = refl
-source_in false rest reads = absurd (cc)
-
-source_ends : (c : Command) → Reads c → IsOneOf (OutOfMemory ∷ SinkFailed ∷ ends_of (Ok c)) SourceFailed
-source_ends c reads = source_in (row_of c).reads _ reads
-
-shelf_in : (reads opens : Bool) (rest : List Status) → IsTrue opens → IsOneOf (OutOfMemory ∷ SinkFailed ∷ ((if reads then SourceFailed ∷ [] else []) ++ ((if opens then ShelfFailed ∷ [] else []) ++ rest))) ShelfFailed
-shelf_in true true rest opens = refl
-shelf_in false true rest opens = refl
-shelf_in reads false rest opens = absurd (cc)
-
-shelf_ends : (c : Command) → Opens c → IsOneOf (OutOfMemory ∷ SinkFailed ∷ ends_of (Ok c)) ShelfFailed
-shelf_ends c opens = shelf_in (row_of c).reads (row_of c).opens (answers_of c) opens
+-- ---- an answer
 
 -- an answer has no status of a port that failed, or of memory
 not_given : (c : Command) → (IsOneOf (answers_of c) OutOfMemory → ⊥) × (IsOneOf (answers_of c) SourceFailed → ⊥) × (IsOneOf (answers_of c) SinkFailed → ⊥) × (IsOneOf (answers_of c) ShelfFailed → ⊥)
@@ -103,16 +67,17 @@ heard (inr (inr e)) = absurd (cc)
 
 module _ (words : List (List ℕ)) (source sink shelf : CountValue) (SourceStays SinkStays ShelfStays : Type 0) where
   -- it is answered
-  pub call_answered : (status : Status) → Answers (command_of words) status → source.now ≡ source.before → sink.now ≡ sink.before → shelf.now ≡ shelf.before → (¬ Ask Reads words → SourceStays) → (¬ Ask Opens words → ShelfStays) → (IsRefusal status → ShelfStays)
+  pub call_answered : (status : Status) → Answers (command_of words) status → source.now ≡ source.before → sink.now ≡ sink.before → shelf.now ≡ shelf.before → (¬ Ask reads_source words → SourceStays) → (¬ Ask opens_shelf words → ShelfStays) → (IsRefusal status → ShelfStays)
       → IsTopCall words status source sink shelf SourceStays SinkStays ShelfStays
   call_answered status there read written kept unread unopened refused =
       let g : IsGiven status = given (command_of words) status there in
       record {
-        ends = words_end (command_of words) status there;
         source_fails = quiet SourceFailed status source g.source read;
         sink_fails = quiet SinkFailed status sink g.sink written;
         shelf_fails = quiet ShelfFailed status shelf g.shelf kept;
+        reads = λ e. absurd (g.source e);
         unread = unread;
+        opens = λ e. absurd (g.shelf e);
         unopened = unopened;
         behind_source = λ e. absurd (g.source e);
         behind_refusals = refused;
@@ -120,14 +85,15 @@ module _ (words : List (List ℕ)) (source sink shelf : CountValue) (SourceStays
       }
 
   -- the sink failed
-  pub call_cut_off : source.now ≡ source.before → Rose sink.before sink.now → shelf.now ≡ shelf.before → (¬ Ask Reads words → SourceStays) → (¬ Ask Opens words → ShelfStays)
+  pub call_cut_off : source.now ≡ source.before → Rose sink.before sink.now → shelf.now ≡ shelf.before → (¬ Ask reads_source words → SourceStays) → (¬ Ask opens_shelf words → ShelfStays)
       → IsTopCall words SinkFailed source sink shelf SourceStays SinkStays ShelfStays
   call_cut_off read rose kept unread unopened = record {
-    ends = refl;
     source_fails = quiet SourceFailed SinkFailed source (λ e. cc) read;
     sink_fails = loud SinkFailed sink rose;
     shelf_fails = quiet ShelfFailed SinkFailed shelf (λ e. cc) kept;
+    reads = λ e. absurd (cc);
     unread = unread;
+    opens = λ e. absurd (cc);
     unopened = unopened;
     behind_source = λ e. absurd (cc);
     behind_refusals = λ no. absurd (cc);
@@ -135,14 +101,15 @@ module _ (words : List (List ℕ)) (source sink shelf : CountValue) (SourceStays
   }
 
   -- memory ran out
-  pub call_without_memory : source.now ≡ source.before → sink.now ≡ sink.before → shelf.now ≡ shelf.before → (¬ Ask Reads words → SourceStays) → SinkStays → (¬ Ask Opens words → ShelfStays)
+  pub call_without_memory : source.now ≡ source.before → sink.now ≡ sink.before → shelf.now ≡ shelf.before → (¬ Ask reads_source words → SourceStays) → SinkStays → (¬ Ask opens_shelf words → ShelfStays)
       → IsTopCall words OutOfMemory source sink shelf SourceStays SinkStays ShelfStays
   call_without_memory read written kept unread stays unopened = record {
-    ends = refl;
     source_fails = quiet SourceFailed OutOfMemory source (λ e. cc) read;
     sink_fails = quiet SinkFailed OutOfMemory sink (λ e. cc) written;
     shelf_fails = quiet ShelfFailed OutOfMemory shelf (λ e. cc) kept;
+    reads = λ e. absurd (cc);
     unread = unread;
+    opens = λ e. absurd (cc);
     unopened = unopened;
     behind_source = λ e. absurd (cc);
     behind_refusals = λ no. absurd (cc);
@@ -150,14 +117,15 @@ module _ (words : List (List ℕ)) (source sink shelf : CountValue) (SourceStays
   }
 
   -- the source failed
-  pub call_unread : Ask Reads words → Rose source.before source.now → sink.now ≡ sink.before → shelf.now ≡ shelf.before → SinkStays → ShelfStays
+  pub call_unread : Ask reads_source words → Rose source.before source.now → sink.now ≡ sink.before → shelf.now ≡ shelf.before → SinkStays → ShelfStays
       → IsTopCall words SourceFailed source sink shelf SourceStays SinkStays ShelfStays
   call_unread ask rose written kept stays untouched = record {
-    ends = subst (λ x. IsOneOf (OutOfMemory ∷ SinkFailed ∷ ends_of x) SourceFailed) (sym ask.is) (source_ends ask.command ask.such);
     source_fails = loud SourceFailed source rose;
     sink_fails = quiet SinkFailed SourceFailed sink (λ e. cc) written;
     shelf_fails = quiet ShelfFailed SourceFailed shelf (λ e. cc) kept;
+    reads = λ _. ask;
     unread = λ none. absurd (none ask);
+    opens = λ e. absurd (cc);
     unopened = λ _. untouched;
     behind_source = λ _. untouched;
     behind_refusals = λ _. untouched;
@@ -165,14 +133,15 @@ module _ (words : List (List ℕ)) (source sink shelf : CountValue) (SourceStays
   }
 
   -- the shelf failed
-  pub call_unshelved : Ask Opens words → source.now ≡ source.before → sink.now ≡ sink.before → Rose shelf.before shelf.now → (¬ Ask Reads words → SourceStays) → SinkStays
+  pub call_unshelved : Ask opens_shelf words → source.now ≡ source.before → sink.now ≡ sink.before → Rose shelf.before shelf.now → (¬ Ask reads_source words → SourceStays) → SinkStays
       → IsTopCall words ShelfFailed source sink shelf SourceStays SinkStays ShelfStays
   call_unshelved ask read written rose unread stays = record {
-    ends = subst (λ x. IsOneOf (OutOfMemory ∷ SinkFailed ∷ ends_of x) ShelfFailed) (sym ask.is) (shelf_ends ask.command ask.such);
     source_fails = quiet SourceFailed ShelfFailed source (λ e. cc) read;
     sink_fails = quiet SinkFailed ShelfFailed sink (λ e. cc) written;
     shelf_fails = loud ShelfFailed shelf rose;
+    reads = λ e. absurd (cc);
     unread = unread;
+    opens = λ _. ask;
     unopened = λ none. absurd (none ask);
     behind_source = λ e. absurd (cc);
     behind_refusals = λ no. absurd (cc);

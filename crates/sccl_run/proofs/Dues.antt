@@ -1,9 +1,9 @@
 -- What is due, by the command that the words ask for and the bytes that came.
-use Rattle.std.proofs.Common.{◌≡◌, ◌<◌, ◌≤◌, ◌+◌, ℕ, Bool, true, false, IsTrue, nat_lt, length, drop, List, [], replicate, Ok, Err, refl, sym, subst, ap, arith, ◌∙◌}
+use Rattle.std.proofs.Common.{◌≡◌, ◌<◌, ◌≤◌, ◌+◌, ℕ, Bool, true, false, IsTrue, nat_lt, length, drop, List, [], replicate, Result, Ok, Err, refl, sym, subst, ap, arith}
 use Rattle.std.proofs.lemmas.{Bool.lt-ltb, List.{drop_all, length-replicate}}
 use Rattle.text_lines.specs.Check.{◌>>=◌}
 use Rattle.command_words.specs.{declared.{command.Command.Command, fault.WordFault.WordFault}, Words.command_of}
-use Rattle.run_rules.specs.{declared.status.Status.TheVariants.TooLong, Commands.{Ask, Reads, row_of}, Refusals.{refused_at, refused_word}, Steps.whole_text}
+use Rattle.run_rules.specs.{declared.status.Status.TheVariants.TooLong, Commands.{Ask, reads_source}, Refusals.{refused_at, refused_word}, Steps.whole_text}
 use Rattle.run_rules.specs.Tasks.{due, limit, task_of, words_asked}
 use Rattle.json_command.proofs.ComesBack.{short_whole}
 use Rattle.sccl_run.specs.inner.Answering.{due_for}
@@ -12,23 +12,26 @@ use Rattle.sccl_run.specs.inner.Answering.{due_for}
 
 pub due_refused : (words : List (List ℕ)) (bytes : List ℕ) (fault : WordFault) → command_of words ≡ Err fault → due words bytes ≡ Err (refused_word fault.code fault.word)
 unfolding due
-due_refused words bytes fault e = ap (λ x. words_asked x >>= (λ c. whole_text (row_of c).reads bytes >>= (λ _. task_of c bytes))) e
+due_refused words bytes fault e = ap (λ x. words_asked x >>= (λ c. whole_text (reads_source (Ok c)) bytes >>= (λ _. task_of c bytes))) e
 
 pub due_command : (words : List (List ℕ)) (bytes : List ℕ) (c : Command) → command_of words ≡ Ok c → due words bytes ≡ due_for c bytes
 unfolding due
-due_command words bytes c e = ap (λ x. words_asked x >>= (λ d. whole_text (row_of d).reads bytes >>= (λ _. task_of d bytes))) e
+due_command words bytes c e = ap (λ x. words_asked x >>= (λ d. whole_text (reads_source (Ok d)) bytes >>= (λ _. task_of d bytes))) e
 
 -- words that are refused ask for nothing
-pub refused_asks_nothing : (P : Command → Type 0) (words : List (List ℕ)) (fault : WordFault) → command_of words ≡ Err fault → Ask P words → ⊥
-refused_asks_nothing P words fault refused ask = let e : Err fault ≡ Ok ask.command = sym refused ∙ ask.is in absurd (cc)
+pub refused_asks_nothing : (such : Result Command WordFault → Bool) (words : List (List ℕ)) (fault : WordFault) → such (Err fault) ≡ false → command_of words ≡ Err fault → Ask such words → ⊥
+refused_asks_nothing such words fault none refused ask = let asked : IsTrue (such (Err fault)) = subst (λ x. IsTrue (such x)) refused ask in absurd (cc)
 
 -- and words that ask for a command ask for nothing else
-pub asks_one : (P : Command → Type 0) (words : List (List ℕ)) (c : Command) → command_of words ≡ Ok c → Ask P words → P c
-asks_one P words c is ask = let e : Ok ask.command ≡ Ok c = sym ask.is ∙ is in let same : ask.command ≡ c = cc in subst P same ask.such
+pub asks_one : (such : Result Command WordFault → Bool) (words : List (List ℕ)) (c : Command) → command_of words ≡ Ok c → Ask such words → IsTrue (such (Ok c))
+asks_one such words c is ask = subst (λ x. IsTrue (such x)) is ask
+
+pub asks : (such : Result Command WordFault → Bool) (words : List (List ℕ)) (c : Command) → command_of words ≡ Ok c → IsTrue (such (Ok c)) → Ask such words
+asks such words c is such_one = subst (λ x. IsTrue (such x)) (sym is) such_one
 
 -- words that ask for no command that reads ask for one whose row says so
-pub asks_no_reading : (words : List (List ℕ)) (c : Command) → command_of words ≡ Ok c → (Ask Reads words → ⊥) → (row_of c).reads ≡ false
-asks_no_reading words c is none = by_row (row_of c).reads (λ reads. none (record { command = c; is = is; such = reads }))
+pub asks_no_reading : (words : List (List ℕ)) (c : Command) → command_of words ≡ Ok c → (Ask reads_source words → ⊥) → (reads_source (Ok c)) ≡ false
+asks_no_reading words c is none = by_row (reads_source (Ok c)) (λ reads. none (asks reads_source words c is reads))
   where
     by_row : (b : Bool) → (IsTrue b → ⊥) → b ≡ false
     by_row true not = absurd (not refl)
@@ -37,14 +40,14 @@ asks_no_reading words c is none = by_row (row_of c).reads (λ reads. none (recor
 -- ---- by the bytes
 
 pub short_due : (c : Command) (bytes : List ℕ) → length bytes ≤ limit → due_for c bytes ≡ task_of c bytes
-short_due c bytes short = ap (λ x. x >>= (λ _. task_of c bytes)) (short_whole (row_of c).reads bytes short)
+short_due c bytes short = ap (λ x. x >>= (λ _. task_of c bytes)) (short_whole (reads_source (Ok c)) bytes short)
 
 whole_long : (reads : Bool) (bytes : List ℕ) → IsTrue reads → limit < length bytes → whole_text reads bytes ≡ Err (refused_at TooLong 0 limit)
 whole_long true bytes read long = let test : nat_lt limit (length bytes) ≡ true = lt-ltb limit (length bytes) long in rw test refl
 whole_long false bytes read long = absurd (cc)
 
-pub long_due : (c : Command) (bytes : List ℕ) → Reads c → limit < length bytes → due_for c bytes ≡ Err (refused_at TooLong 0 limit)
-long_due c bytes reads long = ap (λ x. x >>= (λ _. task_of c bytes)) (whole_long (row_of c).reads bytes reads long)
+pub long_due : (c : Command) (bytes : List ℕ) → IsTrue (reads_source (Ok c)) → limit < length bytes → due_for c bytes ≡ Err (refused_at TooLong 0 limit)
+long_due c bytes reads long = ap (λ x. x >>= (λ _. task_of c bytes)) (whole_long (reads_source (Ok c)) bytes reads long)
 
 -- nothing is left behind a text that is not too long
 pub nothing_behind : (bytes : List ℕ) → length bytes ≤ limit → drop (limit + 1) bytes ≡ []

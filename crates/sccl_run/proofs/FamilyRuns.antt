@@ -1,15 +1,15 @@
 -- Runs whose words ask for a family.
-use Rattle.std.proofs.Common.{◌≡◌, ◌≢◌, ◌==◌, ℕ, suc, zero, Bool, true, false, List, [], ◌∷◌, take, inl, inr, Ok, refl, sym, subst, ap, ◌∙◌, codes, bytes_eq}
+use Rattle.std.proofs.Common.{arith, ◌≡◌, ◌≢◌, ◌==◌, ℕ, suc, zero, Bool, true, false, IsTrue, List, [], ◌∷◌, length, take, inl, inr, Ok, refl, sym, subst, ap, ◌∙◌, codes, bytes_eq}
 use Rattle.std.specs.Fmt.{digits}
 use Rattle.topology_text.specs.{declared.family_kind.FamilyKind.TheVariants.Line, Family.family_of, Spelling.spelling}
-use Rattle.command_words.specs.{declared.command.Command.Command, Words.command_of}
+use Rattle.command_words.specs.{Words.command_of}
 use Rattle.command_words.specs.declared.command.Command.TheVariants as command
 use Rattle.report_form.specs.Reading.{report_of}
 use Rattle.report_laws.proofs.Readings.{read_by_spelling}
-use Rattle.run_rules.specs.{declared.status.Status.{Status, TheVariants.{Done, SourceFailed, SinkFailed, ShelfFailed}}, Commands.{Ask, Reads}}
+use Rattle.run_rules.specs.{declared.status.Status.{Status, TheVariants.{Done, SourceFailed, SinkFailed, ShelfFailed}}, Commands.{Ask, opens_shelf, reads_source}}
 use Rattle.run_rules.specs.{Tasks.{Write, due}, Rows.two_nodes_text}
 use Rattle.sccl_run.specs.{Laws.IsRightRun, Rows.{all_tell, family_run}, TopCall.{CountValue, EndsIfItFails, IsEnd, IsSilent}}
-use Rattle.sccl_run.proofs.{Ended.ended, RightRuns.{done_answered, done_not_silent}}
+use Rattle.sccl_run.proofs.{Dues.asks_one, Ended.ended, RightRuns.{done_answered, done_not_silent}}
 
 is_asked : command_of family_run.words ≡ Ok (command.Family Line 2)
 unfolding command_of digits
@@ -24,11 +24,11 @@ unfolding spelling digits
 text = refl
 
 -- the words ask for a family alone
-asks_such : (P : Command → Type 0) → (P (command.Family Line 2) → ⊥) → Ask P family_run.words → ⊥
-asks_such P none ask =
-    let e : Ok (command.Family Line 2) ≡ Ok ask.command = sym is_asked ∙ ask.is in
-    let same : command.Family Line 2 ≡ ask.command = cc in
-    none (subst P (sym same) ask.such)
+reads_nothing : Ask reads_source family_run.words → ⊥
+reads_nothing ask = let reads : IsTrue (reads_source (Ok (command.Family Line 2))) = asks_one reads_source family_run.words (command.Family Line 2) is_asked ask in absurd (cc)
+
+opens_nothing : Ask opens_shelf family_run.words → ⊥
+opens_nothing ask = let opens : IsTrue (opens_shelf (Ok (command.Family Line 2))) = asks_one opens_shelf family_run.words (command.Family Line 2) is_asked ask in absurd (cc)
 
 -- ---- the run that is right
 
@@ -39,18 +39,19 @@ pub family_is_right : (n : ℕ) → IsRightRun family_run (record { before = n; 
 unfolding due command_of digits
 family_is_right n = record {
   call = record {
-    ends = refl;
     source_fails = quiet SourceFailed n (λ e. cc);
     sink_fails = quiet SinkFailed n (λ e. cc);
     shelf_fails = quiet ShelfFailed n (λ e. cc);
+    reads = λ e. absurd (cc);
     unread = λ _. refl;
+    opens = λ e. absurd (cc);
     unopened = λ _ name. refl;
     behind_source = λ e name. refl;
     behind_refusals = λ no name. refl;
     silent = λ silent. absurd (done_not_silent Done refl silent);
   };
   left = λ told. record {
-    read = λ ask _ _. absurd (asks_such Reads (λ no. absurd (cc)) ask);
+    read = λ ask _ _. absurd (reads_nothing ask);
     memory = λ e. absurd (cc);
     failed = λ e. absurd (cc);
   };
@@ -59,8 +60,11 @@ family_is_right n = record {
   read = report_of;
   reads = read_by_spelling;
   end = subst (λ d. IsEnd d family_run all_tell) (sym is_due) (inl (record {
+    status = Done;
     text = two_nodes_text;
     answer = record { says = record { status = refl; text = sym text }; stay = λ told name. refl };
+    count = length two_nodes_text;
+    stands = inl (refl, omega arith);
     written = λ told. refl;
   }));
 }
@@ -97,23 +101,17 @@ pub no_part_is_wrong : (a b c : CountValue) → IsRightRun (record family_run { 
 no_part_is_wrong a b c run =
     let x = record family_run { status = SinkFailed; now = codes "n" } in
     elim (ended x a b c (Ok (Write (spelling (family_of Line 2)))) run is_due) [
-      | inl end ↦ not_done end.answer.says.status
-      | inr (inl cut) ↦ begins_so cut.count (cut.written refl ∙ ap (take cut.count) (cut.answer.says.text ∙ text))
-      | inr (inr halt) ↦ not_silent halt.silent
+      | inl end ↦ begins_so end.count (end.written refl ∙ ap (take end.count) (end.answer.says.text ∙ text))
+      | inr halt ↦ not_silent halt.silent
     ]
   where
-    not_done : SinkFailed ≡ Done → ⊥
-    not_done e = absurd (cc)
-
     not_silent : IsSilent SinkFailed → ⊥
     not_silent (inl e) = absurd (cc)
     not_silent (inr (inl e)) = absurd (cc)
     not_silent (inr (inr e)) = absurd (cc)
 
 pub source_is_wrong : (a b c : CountValue) → IsRightRun (record family_run { status = SourceFailed; now = [] }) a b c → ⊥
-unfolding command_of digits
-source_is_wrong a b c run = let e = run.call.ends in absurd (cc)
+source_is_wrong a b c run = reads_nothing (run.call.reads refl)
 
 pub shelf_is_wrong : (a b c : CountValue) → IsRightRun (record family_run { status = ShelfFailed; now = [] }) a b c → ⊥
-unfolding command_of digits
-shelf_is_wrong a b c run = let e = run.call.ends in absurd (cc)
+shelf_is_wrong a b c run = opens_nothing (run.call.opens refl)

@@ -16,8 +16,7 @@ is_search status text before after = refl
 -- however it ended, it keeps what refuted a candidate
 keeps : (status : Status) (text : List ℕ) (before after : Files) → IsEnd (Ok (Synthesise relay_report.words relay_report.topology true)) (kept_search status text before after) all_tell → KeepsProofs relay_report.words relay_report.topology before after
 keeps status text before after (inl end) = end.answer.keeps refl refl
-keeps status text before after (inr (inl cut)) = cut.answer.keeps refl refl
-keeps status text before after (inr (inr halt)) = (halt.leaves refl).keeps refl
+keeps status text before after (inr halt) = (halt.leaves refl).1 refl
 
 one_step_stays : (status : Status) (text : List ℕ) (before after : Files) (a b c : CountValue) → RefuteOneStep before → IsRightRun (kept_search status text before after) a b c → BothStay Whole (record { s = 1; r = 1; c = 1 }) before after
 one_step_stays status text before after a b c refutes run =

@@ -3,6 +3,7 @@ pub mod Texts
 pub mod Calls
 pub mod Runs
 pub mod Ended
+pub mod Listed
 pub mod RightRuns
 pub mod FamilyRuns
 pub mod WrongRuns

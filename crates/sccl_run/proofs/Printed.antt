@@ -17,7 +17,7 @@ use Rattle.report_form.specs.{Reports.{ReportValue, WordsValue, IsFrontier, IsWo
 use Rattle.report_form.proofs.{Blamed.broadcast_valid, ReportTaken.report_take}
 use Rattle.report_laws.proofs.ReportAgain.{report_again}
 use Rattle.frontier_audit.specs.{Rights.{IsRight, IsSearched}, Parts.{IsRightPart, IsSearchedPart}}
-use Rattle.run_rules.specs.{declared.status.Status.TheVariants.{Done, BadTopology, BadReport}, Commands.row_of, Rows.{search, two_nodes_text}}
+use Rattle.run_rules.specs.{declared.status.Status.TheVariants.{Done, BadTopology, BadReport}, Commands.reads_source, Rows.{search, two_nodes_text}}
 use Rattle.run_rules.specs.{Refusals.{Refusal, refused_as, refused_at, refused_word}, Steps.{audit_in, whole_question, whole_text}}
 use Rattle.run_rules.specs.Tasks.{Task, Write, Synthesise, Audit, Try, due, limit, root_in, search_asked, searchable, task_of}
 use Rattle.run_rules.proofs.Denied.{right_where_done}
@@ -67,7 +67,7 @@ searches_or verb last said words bytes w t asks =
 -- ---- what is due
 
 pub due_or : (words : List (List ℕ)) (bytes : List ℕ) (c : Command) (task : Task) → command_of words ≡ Ok c → IsJustOr (task_of c bytes) task → IsJustOr (due words bytes) task
-due_or words bytes c task is h = subst (λ y. IsJustOr y task) (sym (due_command words bytes c is)) (whole (row_of c).reads)
+due_or words bytes c task is h = subst (λ y. IsJustOr y task) (sym (due_command words bytes c is)) (whole (reads_source (Ok c)))
   where
     whole : (reads : Bool) → IsJustOr (whole_text reads bytes >>= (λ _. task_of c bytes)) task
     whole true = unless (nat_lt limit (length bytes)) (refused_at _ 0 limit) (task_of c bytes) task h

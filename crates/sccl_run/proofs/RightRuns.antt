@@ -1,6 +1,6 @@
 -- What a right run says, drawn out.
-use Rattle.std.proofs.Common.{◌≡◌, ◌++◌, ℕ, Bool, true, false, nat_lt, length, List, [], inl, inr, Result, Ok, Err, refl, sym, subst, ap, ◌∙◌}
-use Rattle.std.proofs.lemmas.List.Elements.{All-contains}
+use Rattle.std.proofs.Common.{◌≡◌, ◌⊎◌, ◌≤◌, ◌++◌, ℕ, Bool, true, false, IsTrue, nat_lt, length, List, [], inl, inr, Result, Ok, Err, refl, sym, subst, ap, ◌∙◌}
+use Rattle.std.proofs.lemmas.List.{take_all, Elements.All-contains}
 use Rattle.text_lines.specs.Check.{◌>>=◌, need, refuse}
 use Rattle.topology_text.specs.{Answer.code_number as topology_number, Reading.topology_of, Value.NamedTopologyValue, Spelling.spelling}
 use Rattle.json_values.specs.{Answer.code_number as json_number, Json.printed}
@@ -12,15 +12,15 @@ use Rattle.frontier_audit.specs.{Rights.IsRight, Parts.IsRightPart}
 use Rattle.replay_text.specs.{Showing.{shown_in, shown_text}, Points.programs_of_point}
 use Rattle.command_words.specs.declared.{fault.{WordCode.TheVariants.KeyMissing, WordFault.WordFault}, command.{Command.Command, PointWord.PointWord}}
 use Rattle.command_words.specs.Words.{command_of}
-use Rattle.run_rules.specs.{declared.status.Status.Status, Commands.{Ask, Changes, IsOneOf, row_of}, Refusals.{Refusal, refused_as, refused_at, refused_word}}
+use Rattle.run_rules.specs.{declared.status.Status.Status, Commands.{Ask, IsOneOf, reads_source}, Ends.{changes_files, refusals_of}, Answers.IsAnswer, Refusals.{Refusal, refused_as, refused_at, refused_word}}
 use Rattle.run_rules.specs.declared.status.Status.TheVariants.{Done, BadWords, BadTopology, BadJson, TooLong, OutOfMemory, SourceFailed, SinkFailed, ShelfFailed}
 use Rattle.run_rules.specs.Tasks.{Task, Write, Synthesise, Audit, Try, Bound, Order, Degrade, due, fault_in, json_programs_in, limit, point_in, programs_value, read_report, search_asked, searchable, task_of, words_asked}
 use Rattle.run_rules.specs.Steps.{audit_in, degrade_in, programs_in, replay_in, whole_question, whole_text}
 use Rattle.run_rules.proofs.Ends.{refused_with}
 use Rattle.command_words.specs.declared.command.JsonWhat.TheVariants as what
 use Rattle.command_words.specs.declared.command.Command.TheVariants as command
-use Rattle.sccl_run.specs.{Laws.{IsRightRun, WritesWith, NoneIsBetter}, TopCall.{CountValue, IsAnsweredRun, IsEnd, IsSilent, RunValue}, Rows.all_tell}
-use Rattle.sccl_run.proofs.{Dues.{due_command, due_refused}, Ended.ended}
+use Rattle.sccl_run.specs.{Laws.{IsRightRun, WritesWith, NoneIsBetter}, TopCall.{CountValue, IsEnd, IsSilent, RunValue}, Rows.all_tell, inner.Answering.{IsWholeAnswer, files_of}}
+use Rattle.sccl_run.proofs.{Dues.{asks, due_command, due_refused}, Ended.ended}
 
 -- ---- a run that is done
 
@@ -33,12 +33,19 @@ pub done_not_cut_off : (s : Status) → s ≡ Done → s ≡ SinkFailed → ⊥
 done_not_cut_off s e f = let g : Done ≡ SinkFailed = sym e ∙ f in cc
 
 -- it is answered where its status is none of a run that is not
-pub answered : (d : Result Task Refusal) (x : RunValue) → IsEnd d x all_tell → (x.status ≡ SinkFailed → ⊥) → (IsSilent x.status → ⊥) → IsAnsweredRun d x all_tell
-answered d x (inl a) whole loud = a
-answered d x (inr (inl cut)) whole loud = absurd (whole cut.failed)
-answered d x (inr (inr halt)) whole loud = absurd (loud halt.silent)
+pub answered : (d : Result Task Refusal) (x : RunValue) → IsEnd d x all_tell → (x.status ≡ SinkFailed → ⊥) → (IsSilent x.status → ⊥) → IsWholeAnswer d x all_tell
+answered d x (inl a) whole loud = by_end a.stands
+  where
+    by_end : ((x.status ≡ a.status) × (length a.text ≤ a.count)) ⊎ (x.status ≡ SinkFailed) → IsWholeAnswer d x all_tell
+    by_end (inl (same, all)) = record {
+      text = a.text;
+      answer = subst (λ s. IsAnswer d (files_of x all_tell) s a.text) (sym same) a.answer;
+      written = λ told. a.written told ∙ ap (λ text. x.before ++ text) (take_all a.count a.text all);
+    }
+    by_end (inr failed) = absurd (whole failed)
+answered d x (inr halt) whole loud = absurd (loud halt.silent)
 
-pub done_answered : (d : Result Task Refusal) (x : RunValue) → IsEnd d x all_tell → x.status ≡ Done → IsAnsweredRun d x all_tell
+pub done_answered : (d : Result Task Refusal) (x : RunValue) → IsEnd d x all_tell → x.status ≡ Done → IsWholeAnswer d x all_tell
 done_answered d x end done = answered d x end (done_not_cut_off x.status done) (done_not_silent x.status done)
 
 -- ---- a search
@@ -65,32 +72,26 @@ IsKept _ = ⊥
 
 stays_as_due : (d : Result Task Refusal) (x : RunValue) → (IsKept d → ⊥) → IsEnd d x all_tell → FilesStay x.files x.files_after
 stays_as_due (Err r) x other (inl a) = a.answer.stay refl
-stays_as_due (Err r) x other (inr (inl a)) = a.answer.stay refl
-stays_as_due (Err r) x other (inr (inr a)) = a.leaves refl
+stays_as_due (Err r) x other (inr a) = a.leaves refl
 stays_as_due (Ok (Write text)) x other (inl a) = a.answer.stay refl
-stays_as_due (Ok (Write text)) x other (inr (inl a)) = a.answer.stay refl
-stays_as_due (Ok (Write text)) x other (inr (inr a)) = a.leaves refl
+stays_as_due (Ok (Write text)) x other (inr a) = a.leaves refl
 stays_as_due (Ok (Synthesise w t kept)) x other end = absurd (other tt)
 stays_as_due (Ok (Bound w t sets)) x other end = absurd (other tt)
 stays_as_due (Ok (Audit r)) x other (inl a) = a.answer.stay refl
-stays_as_due (Ok (Audit r)) x other (inr (inl a)) = a.answer.stay refl
-stays_as_due (Ok (Audit r)) x other (inr (inr a)) = a.leaves refl
-stays_as_due (Ok (Try n)) x other (inl a) = a.answer.stay refl
-stays_as_due (Ok (Try n)) x other (inr (inl a)) = a.answer.stay refl
-stays_as_due (Ok (Try n)) x other (inr (inr a)) = a.leaves refl
+stays_as_due (Ok (Audit r)) x other (inr a) = a.leaves refl
+stays_as_due (Ok (Try n)) x other (inl a) = a.answer.1.stay refl
+stays_as_due (Ok (Try n)) x other (inr a) = a.leaves refl
 stays_as_due (Ok (Order w t)) x other (inl a) = a.answer.stay refl
-stays_as_due (Ok (Order w t)) x other (inr (inl a)) = a.answer.stay refl
-stays_as_due (Ok (Order w t)) x other (inr (inr a)) = a.leaves refl
+stays_as_due (Ok (Order w t)) x other (inr a) = a.leaves refl
 stays_as_due (Ok (Degrade r group width)) x other (inl a) = a.answer.stay refl
-stays_as_due (Ok (Degrade r group width)) x other (inr (inl a)) = a.answer.stay refl
-stays_as_due (Ok (Degrade r group width)) x other (inr (inr a)) = a.leaves refl
+stays_as_due (Ok (Degrade r group width)) x other (inr a) = a.leaves refl
 
 -- it is due only for a command that changes files
 no_kept : {A : Type 0} (x : Result A Refusal) (f : A → Result Task Refusal) → ((a : A) → IsKept (f a) → ⊥) → IsKept (x >>= f) → ⊥
 no_kept (Ok a) f none kept = none a kept
 no_kept (Err r) f none kept = kept
 
-task_changes : (c : Command) (bytes : List ℕ) → IsKept (task_of c bytes) → Changes c
+task_changes : (c : Command) (bytes : List ℕ) → IsKept (task_of c bytes) → IsTrue (changes_files (Ok c))
 task_changes (command.Synth kind word limits root keeps) bytes kept = refl
 task_changes command.Check bytes kept =
     absurd (no_kept (read_report bytes) audit_in (λ r. no_kept (searchable (whole_question r.words r.topology)) (λ _. Ok (Audit r)) (λ _ none. none)) kept)
@@ -122,23 +123,23 @@ task_changes (command.Unjson what.Report) bytes kept =
 task_changes (command.Unjson what.Programs) bytes kept =
     absurd (no_kept (refused_as BadJson json_number (read_json (topology_form []) topology_of bytes)) (λ t. Ok (Write (spelling t))) (λ _ none. none) kept)
 
-due_changes : (words : List (List ℕ)) (bytes : List ℕ) → IsKept (due words bytes) → Ask Changes words
+due_changes : (words : List (List ℕ)) (bytes : List ℕ) → IsKept (due words bytes) → Ask changes_files words
 due_changes words bytes kept = by_words (command_of words) refl
   where
-    behind_length : (c : Command) (x : Result (Unit {0}) Refusal) → IsKept (x >>= (λ _. task_of c bytes)) → Changes c
+    behind_length : (c : Command) (x : Result (Unit {0}) Refusal) → IsKept (x >>= (λ _. task_of c bytes)) → IsTrue (changes_files (Ok c))
     behind_length c (Ok u) k = task_changes c bytes k
     behind_length c (Err r) k = absurd k
 
-    by_words : (x : Result Command WordFault) → command_of words ≡ x → Ask Changes words
-    by_words (Ok c) is = record { command = c; is = is; such = behind_length c (whole_text (row_of c).reads bytes) (subst IsKept (due_command words bytes c is) kept) }
+    by_words : (x : Result Command WordFault) → command_of words ≡ x → Ask changes_files words
+    by_words (Ok c) is = asks changes_files words c is (behind_length c (whole_text (reads_source (Ok c)) bytes) (subst IsKept (due_command words bytes c is) kept))
     by_words (Err fault) is = let none : IsKept (Err (refused_word fault.code fault.word)) = subst IsKept (due_refused words bytes fault is) kept in absurd none
 
-pub unchanged : (x : RunValue) (a b c : CountValue) → IsRightRun x a b c → ¬ Ask Changes x.words → FilesStay x.files x.files_after
+pub unchanged : (x : RunValue) (a b c : CountValue) → IsRightRun x a b c → ¬ Ask changes_files x.words → FilesStay x.files x.files_after
 unchanged x a b c run none = stays_as_due (due x.words x.bytes) x (λ kept. none (due_changes x.words x.bytes kept)) (ended x a b c _ run refl)
 
 -- ---- what is refused
 
-refused_statuses : (c : Command) → IsOneOf (row_of c).refusals Done → ⊥
+refused_statuses : (c : Command) → IsOneOf (refusals_of c) Done → ⊥
 refused_statuses (command.Synth kind word limits root kept) is = absurd (cc)
 refused_statuses command.Check is = absurd (cc)
 refused_statuses (command.Replay number word order) is = absurd (cc)
@@ -171,7 +172,7 @@ whole_not_done false bytes = tt
 
 task_not_done : (c : Command) (bytes : List ℕ) (x : Result Task Refusal) → task_of c bytes ≡ x → NotDone x
 task_not_done c bytes (Ok t) is = tt
-task_not_done c bytes (Err r) is = λ e. refused_statuses c (subst (IsOneOf (row_of c).refusals) e (refused_with c bytes r is))
+task_not_done c bytes (Err r) is = λ e. refused_statuses c (subst (IsOneOf (refusals_of c)) e (refused_with c bytes r is))
 
 words_not_done : (x : Result Command WordFault) → NotDone (words_asked x)
 words_not_done (Ok c) = tt
@@ -181,7 +182,7 @@ due_not_done : (words : List (List ℕ)) (bytes : List ℕ) → NotDone (due wor
 unfolding due
 due_not_done words bytes =
     first_not_done (words_asked (command_of words)) _ (words_not_done (command_of words))
-    (λ c. first_not_done (whole_text (row_of c).reads bytes) _ (whole_not_done (row_of c).reads bytes) (λ _. task_not_done c bytes (task_of c bytes) refl))
+    (λ c. first_not_done (whole_text (reads_source (Ok c)) bytes) _ (whole_not_done (reads_source (Ok c)) bytes) (λ _. task_not_done c bytes (task_of c bytes) refl))
 
 pub refused_not_done : (x : RunValue) (a b c : CountValue) → IsRightRun x a b c → (r : Refusal) → due x.words x.bytes ≡ Err r → x.status ≡ Done → ⊥
 refused_not_done x a b c run r refused done =

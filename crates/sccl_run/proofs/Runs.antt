@@ -1,7 +1,8 @@
 -- How a run ends, from what its answer says.
-use Rattle.std.proofs.Common.{◌≡◌, ◌≢◌, ◌⊎◌, ◌++◌, ◌+◌, ◌≤◌, ℕ, Bool, true, false, IsTrue, List, take, drop, inl, inr, refl, subst}
+use Rattle.std.proofs.Common.{◌≡◌, ◌≢◌, ◌⊎◌, ◌++◌, ◌+◌, ◌≤◌, ℕ, Bool, true, false, IsTrue, List, length, take, drop, inl, inr, refl, sym, subst, ap, ◌∙◌, arith}
+use Rattle.std.proofs.lemmas.List.{take_all}
 use Rattle.run_rules.specs.declared.{status.Status.{Status, TheVariants.{OutOfMemory, SourceFailed, SinkFailed, ShelfFailed}}, halt.Halt.Halt}
-use Rattle.run_rules.specs.{declared.halt.Halt.TheVariants.Shelf, Commands.{Ask, Reads}, Tasks.{limit, due}}
+use Rattle.run_rules.specs.{declared.halt.Halt.TheVariants.Shelf, Commands.{Ask, reads_source}, Tasks.{limit, due}}
 use Rattle.report_form.specs.Reading.{report_of}
 use Rattle.report_laws.proofs.Readings.{read_by_spelling}
 use Rattle.sccl_run.specs.{inner.Answering.{IsAnswerTo, IsHaltAt, files_of}, TopCall.{CountValue, IsTopCall, IsRun, LeftIsDue, RunValue, ToldValue}}
@@ -10,7 +11,7 @@ use Rattle.sccl_run.specs.{inner.Answering.{IsAnswerTo, IsHaltAt, files_of}, Top
 
 module _ (words : List (List ℕ)) (bytes left : List ℕ) where
   -- a status with which it was read, where it was to be read
-  pub left_read : (status : Status) → status ≢ OutOfMemory → status ≢ SourceFailed → (Ask Reads words → left ≡ drop (limit + 1) bytes) → LeftIsDue words bytes left status
+  pub left_read : (status : Status) → status ≢ OutOfMemory → status ≢ SourceFailed → (Ask reads_source words → left ≡ drop (limit + 1) bytes) → LeftIsDue words bytes left status
   left_read status other another read = record { read = λ ask _ _. read ask; memory = λ e. absurd (other e); failed = λ e. absurd (another e) }
 
   pub left_without_memory : (left ≡ bytes) ⊎ (left ≡ drop (limit + 1) bytes) → LeftIsDue words bytes left OutOfMemory
@@ -56,7 +57,7 @@ module _ (x : RunValue) (told : ToldValue) (source sink shelf : CountValue) (Sou
     are = to.are;
     read = report_of;
     reads = read_by_spelling;
-    end = inl (record { text = text; answer = to.answer; written = written });
+    end = inl (record { status = x.status; text = text; answer = to.answer; count = length text; stands = inl (refl, omega arith); written = λ told. written told ∙ ap (λ all. x.before ++ all) (sym (take_all (length text) text (omega arith))) });
   }
 
   -- a part of it was
@@ -69,7 +70,7 @@ module _ (x : RunValue) (told : ToldValue) (source sink shelf : CountValue) (Sou
     are = to.are;
     read = report_of;
     reads = read_by_spelling;
-    end = inr (inl (record { failed = failed; status = status; text = text; answer = to.answer; count = count; written = written }));
+    end = inl (record { status = status; text = text; answer = to.answer; count = count; stands = inr failed; written = written });
   }
 
   -- there is none
@@ -82,5 +83,5 @@ module _ (x : RunValue) (told : ToldValue) (source sink shelf : CountValue) (Sou
     are = at.are;
     read = report_of;
     reads = read_by_spelling;
-    end = inr (inr (record { silent = silent; shelf_last = λ e. at.last (same e); leaves = at.leaves }));
+    end = inr (record { silent = silent; shelf_last = λ e. at.last (same e); leaves = at.leaves });
   }

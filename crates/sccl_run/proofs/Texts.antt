@@ -4,7 +4,7 @@ use Rattle.std.proofs.lemmas.Result.{IfOk-weaker}
 use Rattle.outer_ports.specs.Shelf.{FilesStay}
 use Rattle.command_words.specs.{declared.{command.Command.Command, fault.WordFault.WordFault}, Words.command_of}
 use Rattle.run_rules.specs.declared.{answer.Answer.Answer, halt.Halt.{Halt, TheVariants.Shelf}, status.Status.{Status, TheVariants.BadWords}}
-use Rattle.run_rules.specs.{Answers.{FilesValue, IsAnswer, LeavesOff, Says, Stay}, Commands.{Ask, Reads}, Refusals.{Refusal, refusal_line, refused_word}}
+use Rattle.run_rules.specs.{Answers.{FilesValue, IsAnswer, LeavesOff, Says, Stay}, Commands.{Ask, reads_source}, Refusals.{Refusal, refusal_line, refused_word}}
 use Rattle.run_rules.specs.Tasks.{due, limit}
 use Rattle.run_rules.proofs.Answered.{nothing_left_off, refused_answers}
 use Rattle.sccl_run.{specs.inner.Answering.{IsAnswerTo, IsHaltAt, due_for}, proofs.Dues.{asks_one, due_command, due_refused, too_many}}
@@ -14,13 +14,13 @@ use Rattle.sccl_run.{specs.inner.Answering.{IsAnswerTo, IsHaltAt, due_for}, proo
 -- some bytes: those of the text, or where too many came, more than are read; and those that the source had where it tells them and is read
 pub record HasCome (words : List (List ℕ)) (tells : Bool) (had : List ℕ) (text : Option (Vec ℕ Global)) : Type 0 where
   pub came : List ℕ
-  pub are : IsTrue tells → Ask Reads words → came ≡ had
+  pub are : IsTrue tells → Ask reads_source words → came ≡ had
   pub whole : IfSome text (λ bytes. came ≡ bytes.items)
   pub long : IfNone text (limit < length came)
 
 pub has_come : (words : List (List ℕ)) (c : Command) → command_of words ≡ Ok c → (tells : Bool) (had : List ℕ) (text : Option (Vec ℕ Global))
-    → (IsTrue tells → Reads c → IfSome text (λ bytes. bytes.items ≡ had)) → (IsTrue tells → IfNone text (limit < length had)) → HasCome words tells had text
-has_come words c is tells had (Some bytes) whole longer = record { came = bytes.items; are = λ told ask. whole told (asks_one Reads words c is ask); whole = refl; long = tt }
+    → (IsTrue tells → IsTrue (reads_source (Ok c)) → IfSome text (λ bytes. bytes.items ≡ had)) → (IsTrue tells → IfNone text (limit < length had)) → HasCome words tells had text
+has_come words c is tells had (Some bytes) whole longer = record { came = bytes.items; are = λ told ask. whole told (asks_one reads_source words c is ask); whole = refl; long = tt }
 has_come words c is tells had None whole longer = let many = too_many tells had longer in record { came = many.came; are = λ told _. many.are told; whole = tt; long = many.long }
 
 -- ---- what is answered

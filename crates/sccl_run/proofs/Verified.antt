@@ -19,7 +19,7 @@ use Rattle.frontier_audit.specs.{Shelves.ShelfRight, Rights.{AreJoined, IsRight}
 use Rattle.frontier_audit.proofs.{Proved.proves_right, Right.right_verified}
 use Rattle.run_rules.specs.{declared.status.Status.TheVariants.{Done, SinkFailed, BadTopology, BadReport, BadJson}, Refusals.{Refusal, refused_as}}
 use Rattle.run_rules.{specs.Said.Says, proofs.Denied.done_of}
-use Rattle.run_rules.specs.{Commands.row_of, Steps.{fitting, whole_question, words_for, whole_text}, Audits.{audited, not_denied}}
+use Rattle.run_rules.specs.{Commands.reads_source, Steps.{fitting, whole_question, words_for, whole_text}, Audits.{audited, not_denied}}
 use Rattle.run_rules.specs.Tasks.{Task, Synthesise, Audit, Degrade, due, fault_in, limit, point_in, read_report, root_in, search_asked, searchable, task_of, words_asked}
 use Rattle.sccl_run.specs.{Laws.IsRightRun, TopCall.{CountValue, IsEnd, IsSilent, RunValue}, Rows.all_tell}
 use Rattle.sccl_run.proofs.{Dues.{due_command, short_due}, Ended.ended, RightRuns.done_answered}
@@ -74,7 +74,7 @@ tasks_fit (command.Unjson what.Programs) bytes = no_search (refused_as BadJson j
 
 due_fits : (words : List (List ℕ)) (bytes : List ℕ) → Fits (due words bytes)
 unfolding due
-due_fits words bytes = no_search (words_asked (command_of words)) _ (λ c. no_search (whole_text (row_of c).reads bytes) _ (λ _. tasks_fit c bytes))
+due_fits words bytes = no_search (words_asked (command_of words)) _ (λ c. no_search (whole_text (reads_source (Ok c)) bytes) _ (λ _. tasks_fit c bytes))
 
 searched : (words : List (List ℕ)) (bytes : List ℕ) (w : WordsValue) (t : NamedTopologyValue) (kept : Bool) → due words bytes ≡ Ok (Synthesise w t kept) → searchable (whole_question w t) ≡ Ok tt
 searched words bytes w t kept e = subst Fits e (due_fits words bytes)
@@ -113,11 +113,13 @@ nothing_denied r files right shelf =
 
 -- an audit that finds nothing to deny is done, or it is not answered
 audit_done : (r : ReportValue) (x : RunValue) → audited r x.files ≡ Ok tt → IsEnd (Ok (Audit r)) x all_tell → (x.status ≡ Done) ⊎ ((x.status ≡ SinkFailed) ⊎ IsSilent x.status)
-audit_done r x accepted (inl end) =
-    let over : end.answer.over ≡ x.files = files_are x.files end.answer.over (end.answer.are refl) in
-    inl (done_of r (Says Done (line (codes "verified" ∷ []))) _ x.status end.text end.answer (ap (audited r) over ∙ accepted)).status
-audit_done r x accepted (inr (inl cut)) = inr (inl cut.failed)
-audit_done r x accepted (inr (inr halt)) = inr (inr halt.silent)
+audit_done r x accepted (inl end) = elim end.stands [
+  | inl (same, all) ↦
+      let over : end.answer.over ≡ x.files = files_are x.files end.answer.over (end.answer.are refl) in
+      inl (same ∙ (done_of r (Says Done (line (codes "verified" ∷ []))) _ end.status end.text end.answer (ap (audited r) over ∙ accepted)).status)
+  | inr failed ↦ inr (inl failed)
+]
+audit_done r x accepted (inr halt) = inr (inr halt.silent)
 
 pub verified_again : (search check : RunValue) (a b c d e f : CountValue) → IsRightRun search a b c → IsRightRun check d e f
     → (w : WordsValue) (t : NamedTopologyValue) (kept : Bool) → due search.words search.bytes ≡ Ok (Synthesise w t kept) → search.status ≡ Done

@@ -1,6 +1,6 @@
 -- Runs that are not right.
-use Rattle.std.proofs.Common.{◌≡◌, ℕ, false, zero, suc, Any, map, ap, arith, subst, List, [], ◌∷◌, None, Some, Ok, Err, inl, inr, refl, sym, ◌∙◌, codes, bytes_eq}
-use Rattle.std.{specs.Fmt.digits, proofs.lemmas.Option.none-some}
+use Rattle.std.proofs.Common.{◌≡◌, ◌+◌, ℕ, drop, false, zero, suc, Any, map, ap, arith, subst, List, [], ◌∷◌, None, Some, Ok, Err, inl, inr, refl, sym, ◌∙◌, codes, bytes_eq}
+use Rattle.std.{specs.Fmt.digits, proofs.lemmas.{Option.none-some, List.drop_all}}
 use Rattle.outer_ports.specs.declared.{part.Part.{Part, TheVariants.{Whole, Joined}}, proof_name.{FileKind.TheVariants.{Cnf, Lrat}, ProofName.ProofName}}
 use Rattle.outer_ports.specs.Files.{Files}
 use Rattle.topology_text.specs.{declared.family_kind.FamilyKind.TheVariants.Line, Family.family_of, Reading.{pattern_at, topology_of, topology_at, named_at}}
@@ -14,7 +14,7 @@ use Rattle.report_form.proofs.Blamed.{broadcast_read}
 use Rattle.report_laws.proofs.ReportAgain.{report_again}
 use Rattle.candidate_formula.specs.{Files.FrontierFiles, Pruned.HasOwnFiles}
 use Rattle.frontier_audit.specs.OwedFiles.{Proves}
-use Rattle.run_rules.specs.{declared.status.Status.{Status, TheVariants.{SourceFailed, SinkFailed, ShelfFailed, BadReport}}, Tasks.{Synthesise, due}}
+use Rattle.run_rules.specs.{declared.status.Status.{Status, TheVariants.{OutOfMemory, SourceFailed, SinkFailed, ShelfFailed, BadReport}}, Commands.{Ask, reads_source}, Tasks.{Synthesise, due, limit}}
 use Rattle.run_rules.specs.{Refusals.{refusal_line, refused_at}, Answers.IsSearch}
 use Rattle.sccl_run.specs.{Laws.IsRightRun, Rows.{all_tell, done_search, failed_search, no_files, own_file, refused_check}, inner.Answering.files_of}
 use Rattle.sccl_run.specs.TopCall.{CountValue, IsEnd, IsSilent}
@@ -61,10 +61,9 @@ not_whole status said text search =
     none-some _ ((search.proves refl).others joined_name (of_one_part (question_of search.report.words search.report.topology) search.report.frontiers one))
 
 lost : (status : Status) → IsEnd (Ok (Synthesise asked_words (family_of Line 2) false)) (failed_search status) all_tell → ⊥
-lost status (inl end) = not_whole status status end.text end.answer
-lost status (inr (inl cut)) = not_whole status cut.status cut.text cut.answer
-lost status (inr (inr halt)) =
-    elim ((halt.leaves refl).begun.each some_name) [
+lost status (inl end) = not_whole status end.status end.text end.answer
+lost status (inr halt) =
+    elim ((halt.leaves refl).0.each some_name) [
       | inl same ↦ none-some _ same
       | inr begun ↦ none-some _ begun.1.stands
     ]
@@ -93,6 +92,16 @@ other_place_is_wrong a b c run =
     let end = answered (Err (refused_at BadReport 1 1)) x (ended x a b c _ run is_refused) (λ e. let f : BadReport ≡ SinkFailed = e in cc) loud in
     differ (bytes_eq (codes "refused 7 1 2\n")) (codes "refused 7 1 2\n") (codes "refused 7 1 1\n") refl refl (end.written refl ∙ end.answer.says.text ∙ line)
 
+check_reads : (left : List ℕ) → Ask reads_source (refused_check left).words
+unfolding command_of digits
+check_reads left = refl
+
+pub untaken_is_wrong : (a b c : CountValue) (byte : ℕ) (rest : List ℕ) → IsRightRun (refused_check (byte ∷ rest)) a b c → ⊥
+untaken_is_wrong a b c byte rest run =
+    let left : byte ∷ rest ≡ drop (limit + 1) (codes "x\n") = (run.left refl).read (check_reads (byte ∷ rest)) (λ e. let f : BadReport ≡ OutOfMemory = e in cc) (λ e. let f : BadReport ≡ SourceFailed = e in cc) in
+    let none : drop (limit + 1) (codes "x\n") ≡ [] = drop_all (limit + 1) (codes "x\n") (omega arith) in
+    absurd (cc)
+
 pub changed_file_is_wrong : (a b c : CountValue) → IsRightRun (record (refused_check []) { files_after = λ name. Some [] }) a b c → ⊥
 changed_file_is_wrong a b c run = something_there _ _ (run.call.behind_refusals refl some_name)
 
@@ -100,9 +109,11 @@ pub blamed_shelf_is_wrong : (a b c : CountValue) → IsRightRun (record (refused
 blamed_shelf_is_wrong a b c run =
     let x = record (refused_check []) { status = ShelfFailed; now = [] } in
     elim (ended x a b c (Err (refused_at BadReport 1 1)) run is_refused) [
-      | inl end ↦ other_status end.answer.says.status
-      | inr (inl cut) ↦ not_cut cut.failed
-      | inr (inr halt) ↦ halt.shelf_last refl (refused_at BadReport 1 1) refl
+      | inl end ↦ elim end.stands [
+        | inl (same, all) ↦ other_status (same ∙ end.answer.says.status)
+        | inr failed ↦ not_cut failed
+      ]
+      | inr halt ↦ halt.shelf_last refl (refused_at BadReport 1 1) refl
     ]
   where
     other_status : ShelfFailed ≡ BadReport → ⊥

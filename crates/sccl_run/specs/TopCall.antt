@@ -1,10 +1,9 @@
 -- The theorem of the top call. A run is answered, or not written whole, or halted; and which answer it is the words and the bytes decide.
-use Rattle.std.specs.Prelude.{◌≡◌, ◌≢◌, ◌⊎◌, ℕ, ◌+◌, ◌≤◌, Bool, IsTrue, List, ◌∷◌, ◌++◌, take, drop, Result, Err}
+use Rattle.std.specs.Prelude.{◌≡◌, ◌≢◌, ◌⊎◌, ℕ, ◌+◌, ◌≤◌, Bool, IsTrue, List, ◌++◌, length, take, drop, Result, Err}
 use Rattle.outer_ports.specs.{Files.Files, Port.Rose}
-use Rattle.command_words.specs.Words.{command_of}
 use Rattle.report_laws.specs.Shapes.{ReadsAs}
 use Rattle.run_rules.specs.{declared.status.Status.{Status, TheVariants.{OutOfMemory, SourceFailed, SinkFailed, ShelfFailed}}, Refusals.Refusal}
-use Rattle.run_rules.specs.{Commands.{Ask, Reads, Opens, IsOneOf, IsRefusal, ends_of}, Tasks.{Task, Reader, limit, due_by}, Answers.{IsAnswer, LeavesOff}}
+use Rattle.run_rules.specs.{Commands.{Ask, IsRefusal, opens_shelf, reads_source}, Tasks.{Task, Reader, limit, due_by}, Answers.{IsAnswer, LeavesOff}}
 
 -- ---- every run, whatever the ports tell
 
@@ -23,13 +22,14 @@ abbrev pub IsSilent : Status → Type 0
 IsSilent status = (status ≡ OutOfMemory) ⊎ ((status ≡ SourceFailed) ⊎ (status ≡ ShelfFailed))
 
 pub record IsTopCall (words : List (List ℕ)) (status : Status) (source sink shelf : CountValue) (SourceStays SinkStays ShelfStays : Type 0) : Type 0 where
-  pub ends : IsOneOf (OutOfMemory ∷ SinkFailed ∷ ends_of (command_of words)) status
   pub source_fails : EndsIfItFails SourceFailed status source
   pub sink_fails : EndsIfItFails SinkFailed status sink
   pub shelf_fails : EndsIfItFails ShelfFailed status shelf
-  pub unread : ¬ Ask Reads words → SourceStays
+  pub reads : status ≡ SourceFailed → Ask reads_source words
+  pub unread : ¬ Ask reads_source words → SourceStays
   -- the shelf is opened where the words ask for it, behind the source and behind all refusals
-  pub unopened : ¬ Ask Opens words → ShelfStays
+  pub opens : status ≡ ShelfFailed → Ask opens_shelf words
+  pub unopened : ¬ Ask opens_shelf words → ShelfStays
   pub behind_source : status ≡ SourceFailed → ShelfStays
   pub behind_refusals : IsRefusal status → ShelfStays
   pub silent : IsSilent status → SinkStays
@@ -55,19 +55,13 @@ pub record ToldValue : Type 0 where
 
 -- ---- how it ends
 
--- there is an answer, and its text was written
+-- there is an answer, and its text was written: the whole, or its first bytes before the sink failed
 pub record IsAnsweredRun (due : Result Task Refusal) (x : RunValue) (told : ToldValue) : Type 0 where
-  pub text : List ℕ
-  pub answer : IsAnswer due (record { told = told.shelf; before = x.files; after = x.files_after }) x.status text
-  pub written : IsTrue told.sink → x.now ≡ x.before ++ text
-
--- there is an answer, and the sink failed behind the beginning of its text
-pub record IsCutOff (due : Result Task Refusal) (x : RunValue) (told : ToldValue) : Type 0 where
-  pub failed : x.status ≡ SinkFailed
   pub status : Status
   pub text : List ℕ
   pub answer : IsAnswer due (record { told = told.shelf; before = x.files; after = x.files_after }) status text
   pub count : ℕ
+  pub stands : ((x.status ≡ status) × (length text ≤ count)) ⊎ (x.status ≡ SinkFailed)
   pub written : IsTrue told.sink → x.now ≡ x.before ++ take count text
 
 -- there is none: memory ran out, or the source failed, or the shelf, which is opened behind all refusals
@@ -77,13 +71,13 @@ pub record IsHalted (due : Result Task Refusal) (x : RunValue) (told : ToldValue
   pub leaves : IsTrue told.shelf → LeavesOff due x.files x.files_after
 
 abbrev pub IsEnd : Result Task Refusal → RunValue → ToldValue → Type 0
-IsEnd due x told = IsAnsweredRun due x told ⊎ (IsCutOff due x told ⊎ IsHalted due x told)
+IsEnd due x told = IsAnsweredRun due x told ⊎ IsHalted due x told
 
 -- ---- the whole theorem
 
 -- what is left of the source: all but the first `limit + 1` bytes, which is nothing where no more than `limit` came; all, where memory ran out before they were read
 pub record LeftIsDue (words : List (List ℕ)) (bytes left : List ℕ) (status : Status) : Type 0 where
-  pub read : Ask Reads words → status ≢ OutOfMemory → status ≢ SourceFailed → left ≡ drop (limit + 1) bytes
+  pub read : Ask reads_source words → status ≢ OutOfMemory → status ≢ SourceFailed → left ≡ drop (limit + 1) bytes
   pub memory : status ≡ OutOfMemory → (left ≡ bytes) ⊎ (left ≡ drop (limit + 1) bytes)
   pub failed : status ≡ SourceFailed → (count : ℕ) × (count ≤ limit + 1) × (left ≡ drop count bytes)
 
@@ -92,7 +86,7 @@ pub record IsRun (x : RunValue) (told : ToldValue) (source sink shelf : CountVal
   pub call : IsTopCall x.words x.status source sink shelf SourceStays SinkStays ShelfStays
   pub left : IsTrue told.source → LeftIsDue x.words x.bytes x.left x.status
   pub came : List ℕ
-  pub are : IsTrue told.source → Ask Reads x.words → came ≡ x.bytes
+  pub are : IsTrue told.source → Ask reads_source x.words → came ≡ x.bytes
   pub read : Reader
   pub reads : (text : List ℕ) → ReadsAs text (read text)
   pub end : IsEnd (due_by read x.words came) x told

@@ -1,9 +1,9 @@
 //! The answer of each command.
 
-ghost use Rattle.std.specs.Prelude.{◌≡◌, ◌≢◌, ◌<◌, ◌≤◌, ℕ, List, length, IsTrue, IfOk, IfSome, IfNone, OnErr, Err};
+ghost use Rattle.std.specs.Prelude.{◌≡◌, ◌≢◌, ◌<◌, ◌≤◌, ℕ, List, length, IsTrue, IfOk, IfSome, IfNone, OnErr, Ok, Err};
 ghost use Rattle.outer_ports.specs.Port.{HasCause, Tells};
 ghost use Rattle.command_words.specs.Commands.{IsProper};
-ghost use Rattle.run_rules.specs.{Answers.{IsAnswer, LeavesOff}, Commands.{IsOneOf, IsRefusal, Opens, Reads, answers_of}, Refusals.Refusal};
+ghost use Rattle.run_rules.specs.{Answers.{IsAnswer, LeavesOff}, Commands.{IsOneOf, IsRefusal, opens_shelf, reads_source}, Ends.answers_of, Refusals.Refusal};
 ghost use Rattle.run_rules.specs.Tasks.{limit, task_of};
 ghost use Rattle.sccl_run.specs.inner.Answering.{due_for};
 
@@ -28,9 +28,9 @@ pub(crate) fn command_answer<H: Shelf>(
     requires proper { IsProper command.now }
     ensures answers { IfOk result (λ a. IsAnswer (task_of command.now bytes.now) (record { told = H.tells shelf.new; before = H.file shelf.old; after = H.file shelf.new }) a.status a.text.items) }
     ensures leaves { IsTrue (H.tells shelf.new) → OnErr result (LeavesOff (task_of command.now bytes.now) (H.file shelf.old) (H.file shelf.new)) }
-    ensures unopened { ¬ Opens command.now → shelf.new ≡ shelf.old }
+    ensures unopened { ¬ IsTrue (opens_shelf (Ok command.now)) → shelf.new ≡ shelf.old }
     ensures untouched { IfOk result (λ a. IsRefusal a.status → shelf.new ≡ shelf.old) }
-    ensures opens { result ≡ Err Halt.Shelf → Opens command.now }
+    ensures opens { result ≡ Err Halt.Shelf → IsTrue (opens_shelf (Ok command.now)) }
     ensures last { result ≡ Err Halt.Shelf → (r : Refusal) → task_of command.now bytes.now ≡ Err r → ⊥ }
     ensures source { result ≢ Err Halt.Source }
     ensures told { Tells (H.tells shelf.old) (H.tells shelf.new) }
@@ -121,15 +121,15 @@ pub(crate) fn text_answer<H: Shelf>(
     shelf: &mut H,
 ) -> Result<Answer, Halt>
     requires short { IfSome text (λ bytes. length bytes.items ≤ limit) }
-    requires long { IfNone text (Reads command.now) }
+    requires long { IfNone text (IsTrue (reads_source (Ok command.now))) }
     requires proper { IsProper command.now }
     ensures ends { IfOk result (λ a. IsOneOf (answers_of command.now) a.status) }
     ensures answers { (came : List ℕ) → IfSome text (λ bytes. came ≡ bytes.items) → IfNone text (limit < length came) → IfOk result (λ a. IsAnswer (due_for command.now came) (record { told = H.tells shelf.new; before = H.file shelf.old; after = H.file shelf.new }) a.status a.text.items) }
     ensures leaves { (came : List ℕ) → IfSome text (λ bytes. came ≡ bytes.items) → IfNone text (limit < length came) → IsTrue (H.tells shelf.new) → OnErr result (LeavesOff (due_for command.now came) (H.file shelf.old) (H.file shelf.new)) }
     ensures last { (came : List ℕ) → IfSome text (λ bytes. came ≡ bytes.items) → IfNone text (limit < length came) → result ≡ Err Halt.Shelf → (r : Refusal) → due_for command.now came ≡ Err r → ⊥ }
-    ensures unopened { ¬ Opens command.now → shelf.new ≡ shelf.old }
+    ensures unopened { ¬ IsTrue (opens_shelf (Ok command.now)) → shelf.new ≡ shelf.old }
     ensures untouched { IfOk result (λ a. IsRefusal a.status → shelf.new ≡ shelf.old) }
-    ensures opens { result ≡ Err Halt.Shelf → Opens command.now }
+    ensures opens { result ≡ Err Halt.Shelf → IsTrue (opens_shelf (Ok command.now)) }
     ensures source { result ≢ Err Halt.Source }
     ensures told { Tells (H.tells shelf.old) (H.tells shelf.new) }
     ensures cause { HasCause Halt.Shelf (H.faults shelf.old) (H.faults shelf.new) result }

@@ -1,13 +1,14 @@
 //! What a right run of the top call says, and runs that are not right.
 
-ghost use Rattle.std.specs.Prelude.{◌≡◌, ◌≢◌, ◌⊎◌, ◌≤◌, ◌∷◌, ◌++◌, ℕ, Bool, List, [], codes, length, Option, None, Some, Ok, Err};
+ghost use Rattle.std.specs.Prelude.{◌≡◌, ◌≢◌, ◌⊎◌, ◌≤◌, ◌∷◌, ◌++◌, ℕ, Bool, List, [], codes, length, Option, None, Some, Ok, Err, ⊤};
 ghost use Rattle.topology_text.specs.Value.{NamedTopologyValue};
 ghost use Rattle.outer_ports.specs.{declared.part.Part.Part, Files.Files, Shelf.FilesStay};
 ghost use Rattle.candidate_order.specs.Frontiers.{PointValue};
 ghost use Rattle.replay_text.specs.Showing.{shown_in, shown_text};
 ghost use Rattle.report_form.specs.{Reports.{IsReport, ReportValue, WordsValue}, Numbered.point_at, Spelling.report_text};
-ghost use Rattle.run_rules.specs.{Commands.{Ask, Changes}, Refusals.{Refusal, refused_word}, Tasks.{Synthesise, Write, due, limit}};
-ghost use Rattle.sccl_run.specs.{TopCall.{CountValue, IsSilent, RunValue}, Laws.{AskReplay, IsRefusedText, IsRightRun, IsTextOf, NoneIsBetter, WritesWith}};
+ghost use Rattle.command_words.specs.Words.{command_of};
+ghost use Rattle.run_rules.specs.{Commands.{Ask, IsOneOf}, Ends.{changes_files, ends_of}, Refusals.{Refusal, refused_word}, Tasks.{Synthesise, Write, due, limit}};
+ghost use Rattle.sccl_run.specs.{TopCall.{CountValue, IsRun, IsSilent, RunValue, ToldValue}, Laws.{AskReplay, IsRefusedText, IsRightRun, IsTextOf, NoneIsBetter, WritesWith}};
 ghost use Rattle.sccl_run.specs.Rows.{RefuteOneStep, done_search, failed_search, family_run, kept_search, own_file, refused_check};
 
 use command_words::WordCode;
@@ -15,6 +16,12 @@ use outer_ports::FileKind;
 use run_rules::Status;
 
 // ---- what a right run says
+
+/// A run ends out of memory, or where the sink fails, or else with a status that is listed for its
+/// words, whatever the ports tell, and whether or not they stay.
+pub fn runs_end_as_listed()
+    ensures { (x : RunValue) (told : ToldValue) (a b c : CountValue) → IsRun x told a b c ⊤ ⊤ ⊤ → IsOneOf (Status.OutOfMemory ∷ Status.SinkFailed ∷ ends_of (command_of x.words)) x.status }
+{}
 
 /// What is refused is not done.
 pub fn refused_is_not_done()
@@ -29,7 +36,7 @@ pub fn optimal_has_no_better()
 
 /// Only a command that changes files may change one.
 pub fn only_a_search_changes_files()
-    ensures { (x : RunValue) (a b c : CountValue) → IsRightRun x a b c → ¬ Ask Changes x.words → FilesStay x.files x.files_after }
+    ensures { (x : RunValue) (a b c : CountValue) → IsRightRun x a b c → ¬ Ask changes_files x.words → FilesStay x.files x.files_after }
 {}
 
 /// A report that a search wrote is verified over the files that the search left, where it is not

@@ -21,7 +21,7 @@ pub use laws::{
     a_refusal_that_takes_nothing_is_wrong, a_run_without_memory_that_writes_is_wrong,
     a_search_that_forgets_to_keep_is_wrong, a_search_that_loses_files_is_wrong,
     a_search_with_other_files_is_wrong, only_a_search_changes_files, optimal_has_no_better,
-    refused_is_not_done, replays_are_due, what_a_search_wrote_is_verified,
+    refused_is_not_done, replays_are_due, runs_end_as_listed, what_a_search_wrote_is_verified,
 };
 pub use run_rules::{OutOfMemory, Status};
 pub use toplevel::run;

@@ -3,7 +3,7 @@
 ghost use Rattle.std.specs.Prelude.{◌≡◌, ◌⊎◌, ◌+◌, ◌≤◌, ℕ, IsTrue, Err, IfOk, IfErr, drop};
 ghost use Rattle.outer_ports.specs.Port.{HasCause, Tells};
 ghost use Rattle.command_words.specs.Words.{command_of, texts};
-ghost use Rattle.run_rules.specs.{Commands.{Ask, IsRefusal, Opens, Reads}, Tasks.limit};
+ghost use Rattle.run_rules.specs.{Commands.{Ask, IsRefusal, opens_shelf, reads_source}, Tasks.limit};
 ghost use Rattle.sccl_run.specs.{inner.Answering.{Answers, IsAnswerTo, IsHaltAt}, TopCall.IsRun};
 
 use crate::commands::text_answer;
@@ -27,9 +27,9 @@ fn answer<I: Source, H: Shelf>(
     // the source
     ensures told { Tells (I.tells source.old) (I.tells source.new) }
     ensures cause { HasCause Halt.Source (I.faults source.old) (I.faults source.new) result }
-    ensures reads { result ≡ Err Halt.Source → Ask Reads (texts words.now) }
-    ensures unread { ¬ Ask Reads (texts words.now) → source.new ≡ source.old }
-    ensures read { IsTrue (I.tells source.new) → Ask Reads (texts words.now) → IfOk result (λ _. I.left source.new ≡ drop (limit + 1) (I.left source.old)) }
+    ensures reads { result ≡ Err Halt.Source → Ask reads_source (texts words.now) }
+    ensures unread { ¬ Ask reads_source (texts words.now) → source.new ≡ source.old }
+    ensures read { IsTrue (I.tells source.new) → Ask reads_source (texts words.now) → IfOk result (λ _. I.left source.new ≡ drop (limit + 1) (I.left source.old)) }
     ensures memory { IsTrue (I.tells source.new) → result ≡ Err Halt.Memory → (I.left source.new ≡ I.left source.old) ⊎ (I.left source.new ≡ drop (limit + 1) (I.left source.old)) }
     ensures part { IsTrue (I.tells source.new) → result ≡ Err Halt.Source → (count : ℕ) × (count ≤ limit + 1) × (I.left source.new ≡ drop count (I.left source.old)) }
     ensures behind { IsTrue (I.tells source.new) → result ≡ Err Halt.Shelf → I.left source.new ≡ drop (limit + 1) (I.left source.old) }
@@ -37,8 +37,8 @@ fn answer<I: Source, H: Shelf>(
     // the shelf
     ensures shelf_told { Tells (H.tells shelf.old) (H.tells shelf.new) }
     ensures shelf_cause { HasCause Halt.Shelf (H.faults shelf.old) (H.faults shelf.new) result }
-    ensures opens { result ≡ Err Halt.Shelf → Ask Opens (texts words.now) }
-    ensures unopened { ¬ Ask Opens (texts words.now) → shelf.new ≡ shelf.old }
+    ensures opens { result ≡ Err Halt.Shelf → Ask opens_shelf (texts words.now) }
+    ensures unopened { ¬ Ask opens_shelf (texts words.now) → shelf.new ≡ shelf.old }
     ensures behind_source { result ≡ Err Halt.Source → shelf.new ≡ shelf.old }
     ensures behind_refusals { IfOk result (λ a. IsRefusal a.status → shelf.new ≡ shelf.old) }
 {

@@ -1,10 +1,10 @@
 //! Searches, their reports, and the files that prove them.
 
-ghost use Rattle.std.specs.Prelude.{◌≡◌, ◌≢◌, ◌≤◌, length, IfOk, IsTrue, OnErr, Err};
+ghost use Rattle.std.specs.Prelude.{◌≡◌, ◌≢◌, ◌≤◌, length, IfOk, IsTrue, OnErr, Ok, Err};
 ghost use Rattle.outer_ports.specs.Port.{HasCause, Tells};
 ghost use Rattle.command_words.specs.Commands.{AreSearchWords};
 ghost use Rattle.frontier_audit.specs.Searches.{IsAsked};
-ghost use Rattle.run_rules.specs.{Answers.{IsAnswer, IsSearch, LeavesOff, SearchLeaves}, Commands.IsRefusal, Refusals.Refusal, Tasks.limit};
+ghost use Rattle.run_rules.specs.{Answers.{IsAnswer, IsSearch, LeavesOff}, Commands.IsRefusal, Refusals.Refusal, Tasks.{Synthesise, limit}};
 ghost use Rattle.run_rules.specs.Steps.{synthesis_asked};
 
 use command_words::SearchWords;
@@ -25,7 +25,7 @@ fn search_answer<H: Shelf>(
 ) -> Result<Answer, Halt>
     requires { IsAsked search.words search.topology }
     ensures answers { IfOk result (λ a. IsSearch search.words search.topology kept (record { told = H.tells shelf.new; before = H.file shelf.old; after = H.file shelf.new }) a.status a.text.items) }
-    ensures leaves { IsTrue (H.tells shelf.new) → SearchLeaves search.words search.topology kept (H.file shelf.old) (H.file shelf.new) }
+    ensures leaves { IsTrue (H.tells shelf.new) → LeavesOff (Ok (Synthesise search.words search.topology kept)) (H.file shelf.old) (H.file shelf.new) }
     ensures done { IfOk result (λ a. a.status ≡ Status.Done) }
     ensures source { result ≢ Err Halt.Source }
     ensures told { Tells (H.tells shelf.old) (H.tells shelf.new) }

@@ -1,7 +1,7 @@
 use Rattle.std.proofs.Common.{rules, refl, sym, ◌∙◌}
 use Rattle.command_words.specs.Words.{texts}
-use Rattle.run_rules.specs.Commands.{Reads}
-use Rattle.sccl_run.proofs.{Dues.{asks_no_reading, refused_asks_nothing}, Texts.{HasCome, answers_words, halts_before, halts_words, has_come, refused_words}}
+use Rattle.run_rules.specs.Commands.{opens_shelf, reads_source}
+use Rattle.sccl_run.proofs.{Dues.{asks, asks_no_reading, refused_asks_nothing}, Texts.{HasCome, answers_words, halts_before, halts_words, has_come, refused_words}}
 use Rattle.sccl_run.proofs.toplevel.answer.Goals as goal
 
 pub returns-in_err-text-in-Ok-clause-halts : goal.returns-in_err-text-in-Ok-clause-halts
@@ -35,7 +35,7 @@ returns-in_ok-text-in-Ok-clause-unread g c = λ none.
 
 pub returns-in_ok-text-in-Ok-clause-unopened : goal.returns-in_ok-text-in-Ok-clause-unopened
 returns-in_ok-text-in-Ok-clause-unopened g c = λ none.
-    c.text_answer.ensures.unopened (λ opens. none (record { command = c.in-Ok.command; is = sym c.in-Ok.ensures.read; such = opens }))
+    c.text_answer.ensures.unopened (λ opens. none (asks opens_shelf (texts c.args.words.now) c.in-Ok.command (sym c.in-Ok.ensures.read) opens))
 
 pub returns-in_ok-refused_word-in-Err-clause-answers :
     goal.returns-in_ok-refused_word-in-Err-clause-answers
@@ -44,4 +44,4 @@ returns-in_ok-refused_word-in-Err-clause-answers g c =
 
 pub returns-in_ok-refused_word-in-Err-clause-read :
     goal.returns-in_ok-refused_word-in-Err-clause-read
-returns-in_ok-refused_word-in-Err-clause-read g c = λ told ask. absurd (refused_asks_nothing Reads (texts c.args.words.now) c.in-Err.fault (sym c.in-Err.ensures.read) ask)
+returns-in_ok-refused_word-in-Err-clause-read g c = λ told ask. absurd (refused_asks_nothing reads_source (texts c.args.words.now) c.in-Err.fault refl (sym c.in-Err.ensures.read) ask)

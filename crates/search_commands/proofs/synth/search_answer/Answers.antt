@@ -18,4 +18,4 @@ returns-clause-answers g c =
     }
 
 pub returns-clause-leaves : goal.returns-clause-leaves
-returns-clause-leaves g c = λ told. record { begun = c.in_ok-report.ensures.begun told; keeps = λ kept. c.in_ok-report.ensures.keeps kept told }
+returns-clause-leaves g c = λ told. (c.in_ok-report.ensures.begun told, λ kept. c.in_ok-report.ensures.keeps kept told)

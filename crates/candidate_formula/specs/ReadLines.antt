@@ -1,16 +1,12 @@
 -- The lines that a whole file of proof lines says, or nothing where it is at fault (LRAT: Cruz-Filipe et al. 2017; the leniency is this
 -- project's own).
-use Rattle.std.specs.Prelude.{ℕ, ◌==◌, ◌&&◌, ◌||◌, not, Bool, true, if◌then◌else◌, List, [], ◌∷◌, length, drop, filter, slice_index, nat_le, nat_lt, Option, None, Some, option_map, ℤ, pos, neg_ℤ, bytes_eq, codes}
-use Rattle.std.specs.{List.slice_split, Str.Parse.digits_value}
+use Rattle.std.specs.{Prelude.{ℕ, ◌==◌, ◌&&◌, not, Bool, if◌then◌else◌, List, [], ◌∷◌, drop, slice_index, nat_le, Option, None, Some, option_map, ℤ, pos, neg_ℤ, bytes_eq, codes}, Str.Parse.digits_value}
 use Rattle.text_lines.specs.Text.{Row, rows_of}
 use Rattle.cnf_formula.specs.{Literals.LitValue, declared.line.LratLine.{LratLine, TheVariants.{Addition, Deletion}}}
-use Rattle.lrat_text.specs.Tokens.{content, is_number}
+use Rattle.lrat_text.specs.Tokens.{is_number}
+use Rattle.candidate_formula.specs.ProofTexts.{words_in, is_passed}
 
 -- ---- words
-
--- words stand between any number of spaces and tabs
-abbrev pub words_in : Row → List (List ℕ)
-words_in row = filter (λ word. nat_lt 0 (length word)) (slice_split (λ b. b == 32 || b == 9) (content row))
 
 -- the number from 1 to a greatest one that the digits spell
 abbrev pub number_in : ℕ → List ℕ → Option ℕ
@@ -68,11 +64,7 @@ line_in (word ∷ words) = elim (number_in 4294967295 word) [
   | Some id ↦ behind_number id words
 ]
 
--- a line without a word, and one whose first word begins with `c`, says nothing
-abbrev pub is_passed : List (List ℕ) → Bool
-is_passed [] = true
-is_passed (word ∷ words) = slice_index word 0 == 99
-
+-- a line that says nothing is passed over
 abbrev pub lines_in : List Row → Option (List LratLine)
 lines_in [] = Some []
 lines_in (row ∷ rows) = if is_passed (words_in row) then lines_in rows else elim (line_in (words_in row)) [
