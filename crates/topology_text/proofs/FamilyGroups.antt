@@ -34,22 +34,27 @@ some_pass kind size a b q low high joined passes =
         let whole : (x + 1) * n ≤ n * n = mul-le (x + 1) n n n (omega arith) (omega arith) in
         omega (arith, whole)
 
--- some of the links, on one width
-part_is_group : (size : ℕ) (links : List (ℕ × ℕ)) (p : ℕ × ℕ → Bool) → FamilyLinks size links → 0 < length (filter p links) → IsGroup (one_wide (filter p links))
-part_is_group size links p ok some = record {
-  positive = omega arith;
-  narrow = omega arith;
-  some = some;
+-- some of the links
+part_of : (size : ℕ) (links : List (ℕ × ℕ)) (p : ℕ × ℕ → Bool) → FamilyLinks size links → FamilyLinks size (filter p links)
+part_of size links p ok = record {
   each = All-filter p IsLink links ok.each;
+  below = All-filter p (IsBelow size) links ok.below;
   distinct = AllPairs-filter (λ a b. a ≢ b) p links ok.distinct;
+  few = omega (arith, few_kept p links, ok.few);
 }
+
+-- links on one width
+wide_is_group : (size : ℕ) (links : List (ℕ × ℕ)) → FamilyLinks size links → 0 < length links → IsGroup (one_wide links)
+wide_is_group size links ok some = record { positive = omega arith; narrow = omega arith; some = some; each = ok.each; distinct = ok.distinct }
+
+part_is_group : (size : ℕ) (links : List (ℕ × ℕ)) (p : ℕ × ℕ → Bool) → FamilyLinks size links → 0 < length (filter p links) → IsGroup (one_wide (filter p links))
+part_is_group size links p ok some = wide_is_group size (filter p links) (part_of size links p ok) some
 
 pub shared_is_group : (size : ℕ) → is_allowed Shared size ≡ true → IsGroup (one_wide (family_links Shared size))
 shared_is_group size ok =
     let (large, few) = within 2 16 size ok in
-    let links = family_links_are Shared size ok in
     let some = some_pass Shared size 0 1 (λ l. true) (omega arith) (omega arith) refl refl in
-    record { positive = omega arith; narrow = omega arith; some = omega (arith, some, few_kept (λ l. true) (family_links Shared size)); each = links.each; distinct = links.distinct }
+    wide_is_group size (family_links Shared size) (family_links_are Shared size ok) (omega (arith, some, few_kept (λ l. true) (family_links Shared size)))
 
 -- ---- groups of one link
 
@@ -145,9 +150,17 @@ alones size links alone ok own is_group = record {
 singles : (size : ℕ) (links : List (ℕ × ℕ)) → FamilyLinks size links → Groups size (map single links)
 singles size links ok = alones size links single ok (λ l. refl) single_is_group
 
+-- groups, and others behind them
+both_are : (size : ℕ) (a b : List GroupValue) → length (a ++ b) ≤ 256 → Groups size a → Groups size b → Groups size (a ++ b)
+both_are size a b few one two = record { few = few; each = All-append IsGroup a b one.each two.each; below = All-append (λ g. All (IsBelow size) g.links) a b one.below two.below }
+
 -- groups of some of the links
-parts_below : {X : Type 0} (size : ℕ) (links : List (ℕ × ℕ)) (passes : X → ℕ × ℕ → Bool) (xs : List X) → FamilyLinks size links → All (λ g. All (IsBelow size) g.links) (map (λ x. one_wide (filter (passes x) links)) xs)
-parts_below size links passes xs ok = All-map (λ g. All (IsBelow size) g.links) (λ x. one_wide (filter (passes x) links)) xs (λ i d h. All-filter (passes (get_or xs i d)) (IsBelow size) links ok.below)
+parts_are : {X : Type 0} (size : ℕ) (links : List (ℕ × ℕ)) (passes : X → ℕ × ℕ → Bool) (xs : List X) → length xs ≤ 256 → FamilyLinks size links → All (λ x. IsGroup (one_wide (filter (passes x) links))) xs → Groups size (map (λ x. one_wide (filter (passes x) links)) xs)
+parts_are size links passes xs few ok each = record {
+  few = omega (arith, few, length-map xs (λ x. one_wide (filter (passes x) links)));
+  each = All-map IsGroup (λ x. one_wide (filter (passes x) links)) xs each;
+  below = All-map (λ g. All (IsBelow size) g.links) (λ x. one_wide (filter (passes x) links)) xs (λ i d h. All-filter (passes (get_or xs i d)) (IsBelow size) links ok.below);
+}
 
 ports_are : (size : ℕ) → is_allowed Switch size ≡ true → Groups size (family_groups Switch size)
 ports_are size ok =
@@ -157,23 +170,10 @@ ports_are size ok =
     let are = family_links_are Switch size ok in
     let outs = map (port (λ link. link.0) links) nodes in
     let ins = map (port (λ link. link.1) links) nodes in
-    record {
-      few = omega (arith, length-append outs ins, length-map-range_with_len (port (λ link. link.0) links) 0 size, length-map-range_with_len (port (λ link. link.1) links) 0 size, small);
-      each = All-append IsGroup outs ins (All-map IsGroup (port (λ link. link.0) links) nodes (at_nodes (λ node. IsGroup (port (λ link. link.0) links node)) size (ports_out size ok))) (All-map IsGroup (port (λ link. link.1) links) nodes (at_nodes (λ node. IsGroup (port (λ link. link.1) links node)) size (ports_in size ok)));
-      below = All-append (λ g. All (IsBelow size) g.links) outs ins (parts_below size links (λ node link. eqb link.0 node) nodes are) (parts_below size links (λ node link. eqb link.1 node) nodes are);
-    }
-
--- the links that stay in a box
-inside_are : (size : ℕ) → is_allowed Boxes size ≡ true → FamilyLinks size (filter is_inside (family_links Boxes size))
-inside_are size ok =
-    let links = family_links Boxes size in
-    let are = family_links_are Boxes size ok in
-    record {
-      each = All-filter is_inside IsLink links are.each;
-      below = All-filter is_inside (IsBelow size) links are.below;
-      distinct = AllPairs-filter (λ a b. a ≢ b) is_inside links are.distinct;
-      few = omega (arith, few_kept is_inside links, are.few);
-    }
+    let few : length nodes ≤ 256 = omega (arith, length-range_with_len 0 size, small) in
+    both_are size outs ins (omega (arith, length-append outs ins, length-map-range_with_len (port (λ link. link.0) links) 0 size, length-map-range_with_len (port (λ link. link.1) links) 0 size, small))
+    (parts_are size links (λ node link. eqb link.0 node) nodes few are (at_nodes (λ node. IsGroup (port (λ link. link.0) links node)) size (ports_out size ok)))
+    (parts_are size links (λ node link. eqb link.1 node) nodes few are (at_nodes (λ node. IsGroup (port (λ link. link.1) links node)) size (ports_in size ok)))
 
 few_boxes : (size : ℕ) → is_allowed Boxes size ≡ true → length (family_groups Boxes size) ≤ 256
 few_boxes size ok = at_three (λ s. length (family_groups Boxes s) ≤ 256) 8 12 16 size (omega arith) (omega arith) (omega arith) ok
@@ -181,13 +181,10 @@ few_boxes size ok = at_three (λ s. length (family_groups Boxes s) ≤ 256) 8 12
 boxes_are : (size : ℕ) → is_allowed Boxes size ≡ true → Groups size (family_groups Boxes size)
 boxes_are size ok =
     let links = family_links Boxes size in
-    let inside = singles size (filter is_inside links) (inside_are size ok) in
+    let are = family_links_are Boxes size ok in
     let boxes = family_links Complete (size / 4) in
-    record {
-      few = few_boxes size ok;
-      each = All-append IsGroup (map single (filter is_inside links)) (map (cable links) boxes) inside.each (All-map IsGroup (cable links) boxes (cables_are size ok));
-      below = All-append (λ g. All (IsBelow size) g.links) (map single (filter is_inside links)) (map (cable links) boxes) inside.below (parts_below size links (λ ends link. eqb (link.0 / 4) ends.0 && eqb (link.1 / 4) ends.1) boxes (family_links_are Boxes size ok));
-    }
+    both_are size (map single (filter is_inside links)) (map (cable links) boxes) (few_boxes size ok) (singles size (filter is_inside links) (part_of size links is_inside are))
+    (parts_are size links (λ ends link. eqb (link.0 / 4) ends.0 && eqb (link.1 / 4) ends.1) boxes (family_links_are Complete (size / 4) (cables_allowed size ok)).few are (cables_are size ok))
 
 pub family_groups_are : (kind : FamilyKind) (size : ℕ) → is_allowed kind size ≡ true → Groups size (family_groups kind size)
 family_groups_are Mesh size ok = alones size (family_links Mesh size) mesh_group (family_links_are Mesh size ok) (λ l. refl) mesh_is_group

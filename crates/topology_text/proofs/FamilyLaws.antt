@@ -31,13 +31,12 @@ names_named : (size : ℕ) → IsSize size → AreNames (map numbered_name (rang
 names_named size ok =
     let names : List (List ℕ) = map numbered_name (range_with_len 0 size) in
     let count : length names ≡ size = length-map (range_with_len 0 size) numbered_name ∙ length-range_with_len 0 size in
-    let some = ok.some in
-    let few = ok.few in
+    let at : (i : ℕ) (d : List ℕ) → i < length names → get_or names i d ≡ numbered_name i = λ i d h. get_or-map-range_with_len numbered_name 0 size i i d (omega arith) (omega arith) in
     record {
-      some = omega arith;
-      few = omega arith;
-      each = All-from_get_or (λ n. is_name n ≡ true) names [] (λ i h. let here : get_or names i [] ≡ numbered_name i = get_or-map-range_with_len numbered_name 0 size i i [] (omega arith) (omega arith) in ap is_name here ∙ numbered_is_name i (omega arith));
-      distinct = λ i j d before h e. let first : get_or names i d ≡ numbered_name i = get_or-map-range_with_len numbered_name 0 size i i d (omega arith) (omega arith) in let second : get_or names j d ≡ numbered_name j = get_or-map-range_with_len numbered_name 0 size j j d (omega arith) (omega arith) in let same = numbered_apart i j (omega arith) (omega arith) (sym first ∙ e ∙ second) in omega arith;
+      some = omega (arith, ok.some);
+      few = omega (arith, ok.few);
+      each = All-from_get_or (λ n. is_name n ≡ true) names [] (λ i h. ap is_name (at i [] h) ∙ numbered_is_name i (omega (arith, ok.few)));
+      distinct = λ i j d before h e. let same = numbered_apart i j (omega (arith, ok.few)) (omega (arith, ok.few)) (sym (at i d (omega arith)) ∙ e ∙ at j d h) in omega arith;
     }
 
 pub names_more : (n : ℕ) → map numbered_name (range_with_len 0 (n + 1)) ≡ map numbered_name (range_with_len 0 n) ++ numbered_name n ∷ []

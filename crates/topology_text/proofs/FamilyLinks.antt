@@ -1,5 +1,5 @@
 -- The sizes of families and their links.
-use Rattle.std.proofs.Common.{◌≡◌, ◌≢◌, ℕ, ◌+◌, ◌*◌, ◌/◌, ◌%◌, ◌<◌, ◌≤◌, Bool, true, false, ◌&&◌, ◌||◌, cond, eqb, leb, not, List, [], ◌∷◌, ◌++◌, map, length, get_or, ◌⊎◌, inl, inr, refl, sym, ap, ◌∙◌, subst, arith, bit_xor}
+use Rattle.std.proofs.Common.{◌≡◌, ◌≢◌, ℕ, ◌+◌, ◌*◌, ◌/◌, ◌%◌, ◌<◌, ◌≤◌, Bool, true, false, ◌&&◌, ◌||◌, cond, eqb, leb, not, List, [], ◌∷◌, ◌++◌, map, length, get_or, inl, inr, refl, sym, ap, ◌∙◌, subst, arith, bit_xor}
 use Rattle.std.{specs.{Int.Bits.xor_self, List.{All, filter, list_any, range_with_len}}, proofs.lemmas.List.{length-map, Kept.AllPairs-filter}}
 use Rattle.std.proofs.Math.Nat.{div-lt_iff_lt-mul, mod-eq-sub-div-mul, div-mul-le_self, mod-eq_of_lt, mod_self, mul-le-mul_left}
 use Rattle.std.proofs.lemmas.Bool.{cases_lt, and_parts, or_cases, leb-true, eqb-true, eqb-false, not-true}
@@ -8,7 +8,7 @@ use Rattle.std.proofs.lemmas.List.FromFn.{get_or-map-range_with_len, filter_of_m
 use Rattle.list_laws.proofs.Tests.{few_kept}
 use Rattle.text_lines.proofs.Distinct.{AreDistinct}
 use Rattle.schedule.specs.Links.{IsLink, IsBelow}
-use Rattle.topology_text.specs.declared.family_kind.FamilyKind.{FamilyKind, TheVariants.{Line, Ring, Complete, Cube, Shared, Torus, Mesh, Switch, Boxes}}
+use Rattle.topology_text.specs.declared.family_kind.FamilyKind.{FamilyKind, TheVariants.{Line, Ring, Cube, Shared, Torus, Mesh, Switch, Boxes}}
 use Rattle.topology_text.specs.Family.{is_allowed, are_next, rows, columns, is_torus_link, is_inside, is_family_link, pairs, family_links}
 
 -- ---- sizes
@@ -22,39 +22,32 @@ within low high size e = let (above, below) = and_parts (leb low size) (leb size
 
 -- what holds at each of three sizes
 pub at_three : (P : ℕ → Type 0) (a b c size : ℕ) → P a → P b → P c → (eqb size a || eqb size b || eqb size c) ≡ true → P size
-at_three P a b c size at_a at_b at_c e = by_last (or_cases (eqb size a || eqb size b) (eqb size c) e)
+at_three P a b c size at_a at_b at_c e = elim (or_cases (eqb size a || eqb size b) (eqb size c) e) [
+  | inl t ↦ elim (or_cases (eqb size a) (eqb size b) t) [ inl u ↦ is a at_a u | inr u ↦ is b at_b u ]
+  | inr t ↦ is c at_c t
+]
   where
     is : (n : ℕ) → P n → eqb size n ≡ true → P size
     is n at_n t = subst P (sym (eqb-true size n t)) at_n
-
-    by_first : (eqb size a ≡ true) ⊎ (eqb size b ≡ true) → P size
-    by_first (inl t) = is a at_a t
-    by_first (inr t) = is b at_b t
-
-    by_last : ((eqb size a || eqb size b) ≡ true) ⊎ (eqb size c ≡ true) → P size
-    by_last (inl t) = by_first (or_cases (eqb size a) (eqb size b) t)
-    by_last (inr t) = is c at_c t
 
 is_size : (n : ℕ) → 0 < n → n ≤ 16 → IsSize n
 is_size n some few = record { some = some; few = few }
 
 cube_size : (size : ℕ) → is_allowed Cube size ≡ true → IsSize size
-cube_size size e = by_size (or_cases (eqb size 2 || eqb size 4 || eqb size 8) (eqb size 16) e)
-  where
-    by_size : ((eqb size 2 || eqb size 4 || eqb size 8) ≡ true) ⊎ (eqb size 16 ≡ true) → IsSize size
-    by_size (inl t) = at_three IsSize 2 4 8 size (is_size 2 (omega arith) (omega arith)) (is_size 4 (omega arith) (omega arith)) (is_size 8 (omega arith) (omega arith)) t
-    by_size (inr t) = subst IsSize (sym (eqb-true size 16 t)) (is_size 16 (omega arith) (omega arith))
+cube_size size e = elim (or_cases (eqb size 2 || eqb size 4 || eqb size 8) (eqb size 16) e) [
+  | inl t ↦ at_three IsSize 2 4 8 size (is_size 2 (omega arith) (omega arith)) (is_size 4 (omega arith) (omega arith)) (is_size 8 (omega arith) (omega arith)) t
+  | inr t ↦ subst IsSize (sym (eqb-true size 16 t)) (is_size 16 (omega arith) (omega arith))
+]
 
 pub allowed_size : (kind : FamilyKind) (size : ℕ) → is_allowed kind size ≡ true → IsSize size
-allowed_size Line size e = let (low, high) = within 1 16 size e in record { some = omega arith; few = high }
 allowed_size Ring size e = let (low, high) = within 3 16 size e in record { some = omega arith; few = high }
-allowed_size Complete size e = let (low, high) = within 1 16 size e in record { some = omega arith; few = high }
 allowed_size Cube size e = cube_size size e
 allowed_size Shared size e = let (low, high) = within 2 16 size e in record { some = omega arith; few = high }
 allowed_size Torus size e = at_three IsSize 9 12 16 size (is_size 9 (omega arith) (omega arith)) (is_size 12 (omega arith) (omega arith)) (is_size 16 (omega arith) (omega arith)) e
 allowed_size Mesh size e = subst IsSize (sym (eqb-true size 8 e)) (is_size 8 (omega arith) (omega arith))
 allowed_size Switch size e = let (low, high) = within 2 16 size e in record { some = omega arith; few = high }
 allowed_size Boxes size e = at_three IsSize 8 12 16 size (is_size 8 (omega arith) (omega arith)) (is_size 12 (omega arith) (omega arith)) (is_size 16 (omega arith) (omega arith)) e
+allowed_size kind size e = let (low, high) = within 1 16 size e in record { some = omega arith; few = high }
 
 -- a torus has three rows and columns at least, and its nodes fill them
 pub record IsGrid (size : ℕ) : Type 0 where
@@ -85,8 +78,7 @@ pairs_below size some = All-from_get_or (IsBelow size) (pairs size) (0, 0) each
     each : (i : ℕ) → i < length (pairs size) → IsBelow size (get_or (pairs size) i (0, 0))
     each i h =
         let within : i < size * size = omega (arith, length-pairs size) in
-        let P : ℕ × ℕ → Type 0 = λ l. IsBelow size l in
-        subst P (sym (pair_at size i (0, 0) within)) (record { from = (div-lt_iff_lt-mul some).1 within; to = omega arith })
+        subst (IsBelow size) (sym (pair_at size i (0, 0) within)) (record { from = (div-lt_iff_lt-mul some).1 within; to = omega arith })
 
 -- a place by its row and its column
 place_is : (size i j : ℕ) → i / size ≡ j / size → i % size ≡ j % size → i ≡ j
@@ -104,28 +96,22 @@ pairs_distinct size some i j d before h e =
 -- each of these links joins two different nodes
 
 next_differs : (a b : ℕ) → (eqb b (a + 1) || eqb a (b + 1)) ≡ true → a ≢ b
-next_differs a b t same = by_side (or_cases (eqb b (a + 1)) (eqb a (b + 1)) t)
-  where
-    by_side : (eqb b (a + 1) ≡ true) ⊎ (eqb a (b + 1) ≡ true) → ⊥
-    by_side (inl h) = let next = eqb-true b (a + 1) h in omega arith
-    by_side (inr h) = let next = eqb-true a (b + 1) h in omega arith
+next_differs a b t same = elim (or_cases (eqb b (a + 1)) (eqb a (b + 1)) t) [ inl h ↦ omega (arith, same, eqb-true b (a + 1) h) | inr h ↦ omega (arith, same, eqb-true a (b + 1) h) ]
 
 round_differs : (size a : ℕ) → 3 ≤ size → a < size → a ≡ (a + 1) % size → ⊥
-round_differs size a large below e = by_size (cases_lt (a + 1) size)
-  where
-    by_size : (a + 1 < size) ⊎ (size ≤ a + 1) → ⊥
-    by_size (inl small) = let stays : (a + 1) % size ≡ a + 1 = mod-eq_of_lt small in omega arith
-    by_size (inr last) =
-        let whole : a + 1 ≡ size = omega arith in
-        let turned : (a + 1) % size ≡ 0 = ap (λ n. n % size) whole ∙ mod_self size in
-        omega arith
+round_differs size a large below e = elim (cases_lt (a + 1) size) [
+  | inl small ↦ let stays : (a + 1) % size ≡ a + 1 = mod-eq_of_lt small in omega arith
+  | inr last ↦
+      let whole : a + 1 ≡ size = omega arith in
+      let turned : (a + 1) % size ≡ 0 = ap (λ n. n % size) whole ∙ mod_self size in
+      omega arith
+]
 
 ring_differs : (size a b : ℕ) → 3 ≤ size → a < size → b < size → are_next size a b ≡ true → a ≢ b
-ring_differs size a b large low high t same = by_side (or_cases (eqb b ((a + 1) % size)) (eqb a ((b + 1) % size)) t)
-  where
-    by_side : (eqb b ((a + 1) % size) ≡ true) ⊎ (eqb a ((b + 1) % size) ≡ true) → ⊥
-    by_side (inl h) = round_differs size a large low (same ∙ eqb-true b ((a + 1) % size) h)
-    by_side (inr h) = round_differs size b large high (sym same ∙ eqb-true a ((b + 1) % size) h)
+ring_differs size a b large low high t same = elim (or_cases (eqb b ((a + 1) % size)) (eqb a ((b + 1) % size)) t) [
+  | inl h ↦ round_differs size a large low (same ∙ eqb-true b ((a + 1) % size) h)
+  | inr h ↦ round_differs size b large high (sym same ∙ eqb-true a ((b + 1) % size) h)
+]
 
 cube_differs : (a b : ℕ) → list_any (λ digit. eqb (bit_xor a b) digit) (1 ∷ 2 ∷ 4 ∷ 8 ∷ []) ≡ true → a ≢ b
 cube_differs a b t same =
@@ -135,16 +121,15 @@ cube_differs a b t same =
 
 torus_differs : (tall wide a b : ℕ) → 3 ≤ tall → 3 ≤ wide → a < tall * wide → b < tall * wide → is_torus_link tall wide (a, b) ≡ true → a ≢ b
 torus_differs tall wide a b rows_some columns_some low high t same =
-    by_side (or_cases (eqb (a / wide) (b / wide) && are_next wide (a % wide) (b % wide)) (eqb (a % wide) (b % wide) && are_next tall (a / wide) (b / wide)) t)
-  where
-    by_side : ((eqb (a / wide) (b / wide) && are_next wide (a % wide) (b % wide)) ≡ true) ⊎ ((eqb (a % wide) (b % wide) && are_next tall (a / wide) (b / wide)) ≡ true) → ⊥
-    by_side (inl h) =
-        let (row, next) = and_parts (eqb (a / wide) (b / wide)) (are_next wide (a % wide) (b % wide)) h in
-        ring_differs wide (a % wide) (b % wide) columns_some (omega arith) (omega arith) next (ap (λ n. n % wide) same)
-    by_side (inr h) =
-        let (column, next) = and_parts (eqb (a % wide) (b % wide)) (are_next tall (a / wide) (b / wide)) h in
-        let some : 0 < wide = omega arith in
-        ring_differs tall (a / wide) (b / wide) rows_some ((div-lt_iff_lt-mul some).1 low) ((div-lt_iff_lt-mul some).1 high) next (ap (λ n. n / wide) same)
+    elim (or_cases (eqb (a / wide) (b / wide) && are_next wide (a % wide) (b % wide)) (eqb (a % wide) (b % wide) && are_next tall (a / wide) (b / wide)) t) [
+      | inl h ↦
+          let (row, next) = and_parts (eqb (a / wide) (b / wide)) (are_next wide (a % wide) (b % wide)) h in
+          ring_differs wide (a % wide) (b % wide) columns_some (omega arith) (omega arith) next (ap (λ n. n % wide) same)
+      | inr h ↦
+          let (column, next) = and_parts (eqb (a % wide) (b % wide)) (are_next tall (a / wide) (b / wide)) h in
+          let some : 0 < wide = omega arith in
+          ring_differs tall (a / wide) (b / wide) rows_some ((div-lt_iff_lt-mul some).1 low) ((div-lt_iff_lt-mul some).1 high) next (ap (λ n. n / wide) same)
+    ]
 
 differs : (kind : FamilyKind) (size a b : ℕ) → is_allowed kind size ≡ true → a < size → b < size → is_family_link kind size (a, b) ≡ true → a ≢ b
 differs Line size a b ok low high t = next_differs a b t

@@ -1,30 +1,18 @@
 -- Where the checks of a topology text fail, some topology has the lines before the one that is blamed.
-use Rattle.std.proofs.Common.{◌≡◌, ℕ, zero, suc, ◌+◌, ◌≤◌, Bool, true, false, List, [], ◌∷◌, ◌++◌, map, length, Option, None, Some, Result, Ok, Err, inl, inr, refl, sym, ap, ◌∙◌, subst, append_assoc, arith, codes, if◌then◌else◌, IfSome}
-use Rattle.std.{specs.Option.is_some, proofs.lemmas.List.{append-nil, length-map, Elements.{All-nil, All-cons}}}
-use Rattle.text_lines.specs.{Text.{Row, Place}, Check.{◌>>=◌, first, line_part}}
-use Rattle.text_lines.proofs.{Checks.{bind_err, part_ok, part_err_at, line_err, at_line_ok}, Rows.row_of}
+use Rattle.std.proofs.Common.{◌≡◌, ℕ, zero, suc, ◌+◌, ◌≤◌, Bool, true, false, List, [], ◌∷◌, ◌++◌, map, length, replicate, Option, None, Some, Result, Ok, Err, refl, sym, ap, ◌∙◌, subst, append_assoc, arith, codes, IfSome}
+use Rattle.std.{specs.Option.is_some, proofs.lemmas.List.{append-nil, length-map, length-replicate, Elements.{All-nil, All-cons}}}
+use Rattle.text_lines.specs.{Text.{Row, Place}, Check.{first, line_part}}
+use Rattle.text_lines.proofs.{Checks.{part_ok, part_err_at, line_err, at_line_ok}, Rows.row_of}
 use Rattle.schedule.specs.Links.{GroupValue}
 use Rattle.collective_spec.specs.Patterns.{PatternValue, IsPattern}
 use Rattle.topology_text.specs.{declared.fault.TopologyCode.TopologyCode, Names.{is_name, AreNames}, Value.{NamedTopologyValue, IsNamed, named_with}}
 use Rattle.topology_text.specs.Spelling.{header_words, nodes_words, group_words, custom_lines, lines_of, head_words}
 use Rattle.topology_text.specs.Reading.{begins, header_line, nodes_line, group_row, groups_from, groups_at, custom_line, holders_line, Pairs, holders_at, pattern_at, named_at, topology_at}
-use Rattle.topology_text.proofs.{Front.head_is, Groups.{Groups, groups_nil, group_take, groups_take, push_group, place, line_taken}}
+use Rattle.topology_text.proofs.{Local.err_then, Front.{chosen, head_is}, Groups.{Groups, groups_nil, group_take, groups_take, push_group, place, line_taken}}
 use Rattle.topology_text.proofs.{PatternLines.{base_words, custom_take, named_words}, Cuts.{Cut, cut_here, cut_more, cut_after}}
 use Rattle.topology_text.proofs.HolderLines.{Holders, AreHeld, holder_lines, pushed, no_pairs, behind_after, behind_before, line_held}
 use Rattle.topology_text.proofs.Patterns.{pattern_from, pattern_valid, pattern_spelled, behind_holders, behind_base}
 use Rattle.topology_text.proofs.Laws.{named_valid, header_taken, names_taken, nodes_taken, group_lines, after_pattern, after_groups, after_names, after_header}
-
--- where a block fails, its first step does, or the rest after it
-err_then : {A B C : Type 0} {G : Type 0} {e : C} (r : Result A C) (f : A → Result B C) → (r >>= f) ≡ Err e → (r ≡ Err e → G) → ((x : A) → r ≡ Ok x → f x ≡ Err e → G) → G
-err_then {A} {B} {C} {G} {e} r f failed here later = elim (bind_err r f e failed) [
-  | inl first ↦ here first
-  | inr (x, read, there) ↦ later x read there
-]
-
--- where a test chose what fails
-goes : {X E : Type 0} {G : Type 0} (b : Bool) (r : Result X E) (x : X) (e : E) → (if b then r else Ok x) ≡ Err e → (b ≡ true → r ≡ Err e → G) → G
-goes true r x e failed later = later refl failed
-goes false r x e failed later = absurd (cc)
 
 -- ---- groups that go on
 
@@ -38,7 +26,7 @@ fill_groups names [] before n e ok failed = absurd (cc)
 fill_groups names (row ∷ rows) before n e ok failed =
     let p : Place = place n (row ∷ rows) in
     let G : List GroupValue → Type 0 = Groups (length names) in
-    goes (begins (codes "group ") row.bytes) _ (before, p) e failed (λ front k. err_then _ _ k
+    chosen (begins (codes "group ") row.bytes) _ _ failed (λ front k. err_then _ _ k
     (λ here. record { more = []; valid = subst G (sym (append-nil before)) ok; cut = cut_here [] p e.1 (line_err n (group_row names (length before) row) e here).1 })
     (λ g read there.
     let taken = group_take names (length before) row g front (at_line_ok n (group_row names (length before) row) g read) in
@@ -47,18 +35,13 @@ fill_groups names (row ∷ rows) before n e ok failed =
       more = g ∷ later.more;
       valid = subst G (append_assoc before (g ∷ []) later.more) later.valid;
       cut = cut_after (group_words names g ∷ []) (map (group_words names) later.more) p (place (n + 1) rows) e.1 (ap (λ r. r ∷ rows) taken.spelled) refl later.cut;
-    }))
+    })) (λ other k. absurd (cc))
 
 -- ---- lines of holders that go on
 
 -- so many chunks that no node holds
 abbrev nothing_held : ℕ → List Holders
-nothing_held zero = []
-nothing_held (suc left) = ([], []) ∷ nothing_held left
-
-length-nothing_held : (left : ℕ) → length (nothing_held left) ≡ left
-length-nothing_held zero = refl
-length-nothing_held (suc left) = ap suc (length-nothing_held left)
+nothing_held left = replicate left ([], [])
 
 nothing_valid : (nodes left : ℕ) → AreHeld nodes (nothing_held left)
 nothing_valid nodes zero = tt
@@ -80,7 +63,7 @@ fill_holders names (suc left) g found p e failed =
     err_then (line_part before p) (behind_before names left g found) failed
     (λ here. record {
       held = ([], []) ∷ rest;
-      many = ap suc (length-nothing_held left);
+      many = ap suc (length-replicate {A = Holders} left ([], []));
       valid = ((tt, tt), nothing_valid (length names) left);
       cut = cut_here (holder_lines names g (([], []) ∷ rest)) p e.1 (part_err_at before p e here).1;
     })
@@ -91,7 +74,7 @@ fill_holders names (suc left) g found p e failed =
     err_then (line_part after b.1) (behind_after names left g found b.0) there
     (λ here. record {
       held = (b.0, []) ∷ rest;
-      many = ap suc (length-nothing_held left);
+      many = ap suc (length-replicate {A = Holders} left ([], []));
       valid = ((one.valid, tt), nothing_valid (length names) left);
       cut = behind rest [] (cut_here (second [] rest) b.1 e.1 (part_err_at after b.1 e here).1);
     })
@@ -116,12 +99,11 @@ pub record PatternFilled (names : List (List ℕ)) (patterned : Bool) (p : Place
 -- a pattern of so many chunks
 pattern_with : (names : List (List ℕ)) (base : ℕ) (hs : List Holders) (p : Place) (n : ℕ) → length hs ≡ base → 1 ≤ base → base ≤ 16 → AreHeld (length names) hs → Cut (base_words base ∷ holder_lines names 0 hs) p n → PatternFilled names true p n
 pattern_with names base hs p n many some few held cut =
-    let P : List (List (List ℕ)) → Type 0 = λ lines. Cut lines p n in
     record {
       custom = Some (pattern_from base (length names) hs);
       shown = refl;
       valid = pattern_valid base (length names) hs many some few held;
-      cut = subst P (sym (pattern_spelled names base (length names) hs many held)) cut;
+      cut = subst (λ (lines : List (List (List ℕ))). Cut lines p n) (sym (pattern_spelled names base (length names) hs many held)) cut;
     }
 
 -- any pattern, where one is due at this line

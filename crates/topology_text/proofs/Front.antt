@@ -1,38 +1,36 @@
 -- The lines of the header and of the nodes: what is read stands there, and what stands there is read.
-use Rattle.std.proofs.Common.{◌≡◌, ℕ, ◌<◌, ◌≤◌, Bool, true, false, ◌&&◌, ◌||◌, not, cond, eqb, leb, ltb, List, [], ◌∷◌, ◌++◌, length, drop, Option, None, Some, Result, Ok, ◌⊎◌, inl, inr, refl, sym, ap, ◌∙◌, subst, append_assoc, arith, bytes_eq, codes, nat_le}
+use Rattle.std.proofs.Common.{◌≡◌, ℕ, ◌<◌, ◌≤◌, Bool, true, false, ◌&&◌, ◌||◌, not, cond, eqb, leb, ltb, List, [], ◌∷◌, ◌++◌, length, drop, Option, None, Some, Ok, inl, inr, refl, sym, ap, ◌∙◌, subst, append_assoc, arith, bytes_eq, codes, nat_le}
 use Rattle.std.{specs.{Option.is_some, List.{All, list_all, list_any}}, proofs.lemmas.List.{append-nil, length-append, Splits.length-slice_split}}
 use Rattle.std.proofs.lemmas.Bool.{and_parts, or_parts, not-false, leb-true, leb-false, ltb-true, lt-leb, cond-true, or_cases, eqb-true, ne_eqb, false_from_ne_true}
-use Rattle.std.proofs.lemmas.{List.{Elements.{All-nil, All-push, All-weaker, All-head, All-tail}, Sums.AllPass-from_list_all}, Slice.Eq.bytes_eq-Decides}
-use Rattle.text_lines.specs.{Text.{Row, words_of}, Check.{◌>>=◌, refuse, need}}
-use Rattle.text_lines.proofs.{Checks.{refuse_ok, need_ok, ok_is}, Distinct.{AreDistinct, distinct_nil, distinct_push, none_before, next_has}}
+use Rattle.std.proofs.lemmas.{List.{Elements.{All-nil, All-push, All-weaker, recursion_from_All}, Sums.AllPass-from_list_all}, Slice.Eq.bytes_eq-Decides}
+use Rattle.text_lines.specs.{Text.{Row, words_of}, Check.{need}}
+use Rattle.text_lines.proofs.{Checks.{if_some, refuse_ok, need_ok, ok_is}, Distinct.{AreDistinct, distinct_nil, distinct_push, none_before, next_has}}
 use Rattle.text_lines.proofs.{Rows.{row_of, row_back, words_again}, Words.{IsWord, AreWords, literal, tokens_from, none_empty, begins_is}}
 use Rattle.collective_spec.specs.Patterns.{PatternValue}
 use Rattle.topology_text.specs.declared.fault.TopologyCode.{TopologyCode, TheVariants.{BadHeader, BadLine, BadName, NameTwice, TooManyNodes, NoNodes}}
 use Rattle.topology_text.specs.{Names.{is_name_byte, is_name, name_of, AreNames}, Spelling.{header_words, nodes_words, head_words}}
 use Rattle.topology_text.specs.Reading.{begins, has_empty, version_of, header_line, names_from, nodes_line}
 
+-- what a test chose is the one, or the other
+pub chosen : {X G : Type 0} {z : X} (b : Bool) (x y : X) → cond b x y ≡ z → (b ≡ true → x ≡ z → G) → (b ≡ false → y ≡ z → G) → G
+chosen true x y e here there = here refl e
+chosen false x y e here there = there refl e
+
 -- ---- line 1
 
 version_is : (bytes : List ℕ) (patterned : Bool) → version_of bytes ≡ Some patterned → words_of bytes ≡ head_words patterned
-version_is bytes patterned e = by_first (bytes_eq bytes (codes "topology 1")) refl e
+version_is bytes patterned e =
+    chosen (bytes_eq bytes (codes "topology 1")) _ _ e (λ one k. found (codes "topology 1") false k one refl)
+    (λ other k. chosen (bytes_eq bytes (codes "topology 2")) _ _ k (λ two l. found (codes "topology 2") true l two refl) (λ neither l. absurd (cc)))
   where
     found : (word : List ℕ) (b : Bool) → Some b ≡ Some patterned → bytes_eq bytes word ≡ true → words_of word ≡ head_words b → words_of bytes ≡ head_words patterned
     found word b is same words = let it : b ≡ patterned = cc in ap words_of ((bytes_eq-Decides bytes word).0 same) ∙ words ∙ ap head_words it
 
-    by_second : (t : Bool) → bytes_eq bytes (codes "topology 2") ≡ t → cond t (Some true) None ≡ Some patterned → words_of bytes ≡ head_words patterned
-    by_second true same k = found (codes "topology 2") true k same refl
-    by_second false same k = absurd (cc)
-
-    by_first : (t : Bool) → bytes_eq bytes (codes "topology 1") ≡ t → cond t (Some false) (cond (bytes_eq bytes (codes "topology 2")) (Some true) None) ≡ Some patterned → words_of bytes ≡ head_words patterned
-    by_first true same k = found (codes "topology 1") false k same refl
-    by_first false same k = by_second (bytes_eq bytes (codes "topology 2")) refl k
-
 pub header_takes : (o : Option Row) (patterned : Bool) → header_line o ≡ Ok patterned → o ≡ Some (row_of (head_words patterned))
 header_takes None patterned e = absurd (cc)
 header_takes (Some r) patterned e =
-    let (whole, e1) = refuse_ok (not r.whole) BadHeader (λ u. need (version_of r.bytes) BadHeader) patterned e in
-    let version = needed (version_of r.bytes) e1 in
-    ap (λ row. Some row) (row_back r (head_words patterned) (not-false r.whole whole) (version_is r.bytes patterned version))
+    let (whole, e1) = refuse_ok (not r.whole) BadHeader _ patterned e in
+    ap (λ row. Some row) (row_back r (head_words patterned) (not-false r.whole whole) (version_is r.bytes patterned (needed (version_of r.bytes) e1)))
   where
     needed : (o : Option Bool) → need o BadHeader ≡ Ok patterned → o ≡ Some patterned
     needed None k = absurd (cc)
@@ -59,11 +57,9 @@ pub names_nil : Names []
 names_nil = record { few = omega arith; each = All-nil (λ n. is_name n ≡ true); distinct = distinct_nil }
 
 pub name_of_is : (word name : List ℕ) → name_of word ≡ Some name → (is_name word ≡ true) × (name ≡ word)
-name_of_is word name e = by_test (is_name word) refl e
-  where
-    by_test : (t : Bool) → is_name word ≡ t → cond t (Some word) None ≡ Some name → (is_name word ≡ true) × (name ≡ word)
-    by_test true is k = let same : name ≡ word = cc in (is, same)
-    by_test false is k = absurd (cc)
+name_of_is word name e =
+    let (is, some) = if_some (is_name word) (Some word) name e in
+    (is, cc)
 
 pub name_of_name : (word : List ℕ) → is_name word ≡ true → name_of word ≡ Some word
 name_of_name word is = cond-true (is_name word) (Some word) None is
@@ -75,22 +71,16 @@ push_name before name room is fresh ok = record {
   distinct = distinct_push bytes_eq bytes_eq-Decides before name fresh ok.distinct;
 }
 
--- what is left of the checks of a name after each of its steps
-abbrev after_name : List (List ℕ) → List (List ℕ) → List ℕ → Result (List (List ℕ)) TopologyCode
-after_name before words name = refuse (list_any (bytes_eq name) before) NameTwice >>= (λ u. names_from (before ++ name ∷ []) words)
-
 pub names_take : (before words names : List (List ℕ)) → names_from before words ≡ Ok names → Names before → (names ≡ before ++ words) × Names names
 names_take before [] names e ok =
     let same : before ≡ names = ok_is {C = TopologyCode} before names e in
-    let P : List (List ℕ) → Type 0 = λ n. Names n in
-    (sym same ∙ sym (append-nil before), subst P same ok)
+    (sym same ∙ sym (append-nil before), subst Names same ok)
 names_take before (word ∷ words) names e ok =
-    let (room, e1) = refuse_ok (nat_le 16 (length before)) TooManyNodes (λ u. need (name_of word) BadName >>= after_name before words) names e in
-    let (name, found, e2) = need_ok (name_of word) BadName (after_name before words) names e1 in
-    let (fresh, e3) = refuse_ok (list_any (bytes_eq name) before) NameTwice (λ u. names_from (before ++ name ∷ []) words) names e2 in
+    let (room, e1) = refuse_ok (nat_le 16 (length before)) TooManyNodes _ names e in
+    let (name, found, e2) = need_ok (name_of word) BadName _ names e1 in
+    let (fresh, e3) = refuse_ok (list_any (bytes_eq name) before) NameTwice _ names e2 in
     let (is, same) = name_of_is word name found in
-    let is_too : is_name name ≡ true = ap is_name same ∙ is in
-    let (all, valid) = names_take (before ++ name ∷ []) words names e3 (push_name before name room is_too fresh ok) in
+    let (all, valid) = names_take (before ++ name ∷ []) words names e3 (push_name before name room (ap is_name same ∙ is) fresh ok) in
     (all ∙ append_assoc before (name ∷ []) words ∙ ap (λ n. before ++ n ∷ words) same, valid)
 
 pub names_again : (before words : List (List ℕ)) → Names (before ++ words) → names_from before words ≡ Ok (before ++ words)
@@ -99,26 +89,20 @@ names_again before (word ∷ words) ok =
     let room : leb 16 (length before) ≡ false = lt-leb 16 (length before) (omega (arith, ok.few, length-append before (word ∷ words))) in
     let is : is_name word ≡ true = next_has (λ n. is_name n ≡ true) before word words ok.each in
     let fresh : list_any (bytes_eq word) before ≡ false = none_before bytes_eq bytes_eq-Decides before word words ok.distinct in
-    let P : List (List ℕ) → Type 0 = λ n. Names n in
-    let rest = names_again (before ++ word ∷ []) words (subst P (sym (append_assoc before (word ∷ []) words)) ok) in
+    let rest = names_again (before ++ word ∷ []) words (subst Names (sym (append_assoc before (word ∷ []) words)) ok) in
     rw (room, is, fresh) (rest ∙ ap (λ n. Ok n) (append_assoc before (word ∷ []) words))
 
 name_byte_is : (b : ℕ) → is_name_byte b ≡ true → (32 < b) × (eqb b 62 ≡ false)
-name_byte_is b e = by_kind (or_cases ((leb 97 b && leb b 122) || (leb 48 b && leb b 57)) (eqb b 95) e)
-  where
-    between : (low high : ℕ) → (leb low b && leb b high) ≡ true → (low ≤ b) × (b ≤ high)
-    between low high h = let (above, below) = and_parts (leb low b) (leb b high) h in (leb-true low b above, leb-true b high below)
-
-    found : (32 < b) → (b ≡ 62 → ⊥) → (32 < b) × (eqb b 62 ≡ false)
-    found above other = (above, ne_eqb b 62 other)
-
-    letter_or_digit : ((leb 97 b && leb b 122) ≡ true) ⊎ ((leb 48 b && leb b 57) ≡ true) → (32 < b) × (eqb b 62 ≡ false)
-    letter_or_digit (inl h) = let (low, high) = between 97 122 h in found (omega arith) (λ k. omega arith)
-    letter_or_digit (inr h) = let (low, high) = between 48 57 h in found (omega arith) (λ k. omega arith)
-
-    by_kind : (((leb 97 b && leb b 122) || (leb 48 b && leb b 57)) ≡ true) ⊎ (eqb b 95 ≡ true) → (32 < b) × (eqb b 62 ≡ false)
-    by_kind (inl h) = letter_or_digit (or_cases (leb 97 b && leb b 122) (leb 48 b && leb b 57) h)
-    by_kind (inr h) = let same = eqb-true b 95 h in found (omega arith) (λ k. omega arith)
+name_byte_is b e = (
+  elim (or_cases ((leb 97 b && leb b 122) || (leb 48 b && leb b 57)) (eqb b 95) e) [
+    | inl h ↦ elim (or_cases (leb 97 b && leb b 122) (leb 48 b && leb b 57) h) [
+      | inl letter ↦ omega (arith, leb-true 97 b (and_parts (leb 97 b) (leb b 122) letter).0)
+      | inr digit ↦ omega (arith, leb-true 48 b (and_parts (leb 48 b) (leb b 57) digit).0)
+    ]
+    | inr h ↦ omega (arith, eqb-true b 95 h)
+  ],
+  ne_eqb b 62 (λ k. let wrong : false ≡ true = sym (ap is_name_byte k) ∙ e in absurd (cc)),
+)
 
 pub name_word : (name : List ℕ) → is_name name ≡ true → IsWord name
 name_word name is =
@@ -132,8 +116,7 @@ name_free name is =
     All-weaker (λ b. is_name_byte b ≡ true) (λ b. eqb b 62 ≡ false) (λ b h. (name_byte_is b h).1) name (AllPass-from_list_all is_name_byte name bytes)
 
 pub names_are_words : (names : List (List ℕ)) → All (λ n. is_name n ≡ true) names → AreWords names
-names_are_words [] each = tt
-names_are_words (name ∷ names) each = (name_word name (All-head (λ n. is_name n ≡ true) name names each), names_are_words names (All-tail (λ n. is_name n ≡ true) name names each))
+names_are_words names each = recursion_from_All IsWord names (All-weaker (λ n. is_name n ≡ true) IsWord name_word names each)
 
 pub nodes_are_words : (names : List (List ℕ)) → AreNames names → AreWords (nodes_words names)
 nodes_are_words names ok = (literal (codes "nodes") refl, names_are_words names ok.each)
@@ -143,13 +126,9 @@ nodes_are_words names ok = (literal (codes "nodes") refl, names_are_words names 
 pub nodes_line_take : (o : Option Row) (names : List (List ℕ)) → nodes_line o ≡ Ok names → (o ≡ Some (row_of (nodes_words names))) × AreNames names
 nodes_line_take None names e = absurd (cc)
 nodes_line_take (Some r) names e =
-    let listed : Unit {0} → Result (List (List ℕ)) TopologyCode = λ u. names_from [] (drop 1 (words_of r.bytes)) in
-    let shape : Bool = not (begins (codes "nodes ") r.bytes) || has_empty (words_of r.bytes) in
-    let shaped : Unit {0} → Result (List (List ℕ)) TopologyCode = λ u. refuse shape BadLine >>= listed in
-    let some_names : Unit {0} → Result (List (List ℕ)) TopologyCode = λ u. refuse (bytes_eq r.bytes (codes "nodes")) NoNodes >>= shaped in
-    let (whole, e1) = refuse_ok (not r.whole) BadLine some_names names e in
-    let (other, e2) = refuse_ok (bytes_eq r.bytes (codes "nodes")) NoNodes shaped names e1 in
-    let (fits, e3) = refuse_ok shape BadLine listed names e2 in
+    let (whole, e1) = refuse_ok (not r.whole) BadLine _ names e in
+    let (other, e2) = refuse_ok (bytes_eq r.bytes (codes "nodes")) NoNodes _ names e1 in
+    let (fits, e3) = refuse_ok (not (begins (codes "nodes ") r.bytes) || has_empty (words_of r.bytes)) BadLine _ names e2 in
     let (front, full) = or_parts (not (begins (codes "nodes ") r.bytes)) (has_empty (words_of r.bytes)) fits in
     let (all, ok) = names_take [] (drop 1 (words_of r.bytes)) names e3 names_nil in
     let rest = drop 6 r.bytes in

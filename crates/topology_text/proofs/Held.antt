@@ -1,7 +1,8 @@
 -- Who holds each chunk, node by node ascending, and the placement of these pairs.
-use Rattle.std.proofs.Common.{◌≡◌, ℕ, zero, suc, ◌+◌, ◌<◌, ◌≤◌, Bool, true, false, ◌||◌, cond, eqb, ltb, List, [], ◌∷◌, ◌++◌, map, length, ⊎_elim, refl, sym, ap, ◌∙◌, subst, append_assoc, arith, nat_lt}
-use Rattle.std.{specs.List.{AllByRecursion, filter, flat_map, list_all, list_any, range_with_len}, proofs.lemmas.List.Elements.filter-append}
+use Rattle.std.proofs.Common.{◌≡◌, ℕ, zero, suc, ◌+◌, ◌-◌, ◌<◌, ◌≤◌, Bool, true, false, ◌||◌, cond, eqb, ltb, List, [], ◌∷◌, ◌++◌, map, length, get_or, ⊎_elim, refl, sym, ap, ◌∙◌, subst, arith, nat_lt}
+use Rattle.std.{specs.List.{AllByRecursion, filter, flat_map, list_all, list_any, range_with_len}, proofs.lemmas.List.Elements.{filter-append, filter_agree}}
 use Rattle.std.proofs.lemmas.{Bool.{and_parts, and_from, cases_eq, ltb-true, lt-ltb, ne_eqb, eq-eqb, or_from, or_left}, List.Folds.list_any-append}
+use Rattle.list_laws.proofs.{Each.each_always, Tests.filter_none}
 use Rattle.schedule.specs.Placed.{PlacementValue, same_pair, holds, IsPlacement}
 use Rattle.topology_text.{specs.Reading.row_of_pairs, proofs.Inserted.among}
 
@@ -50,40 +51,31 @@ range_alike f g lo (suc len) same =
     let rest = range_alike f g (lo + 1) len (λ n low high. same n (omega arith) (omega arith)) in
     rw (same lo (omega arith) (omega arith), rest) refl
 
-range_none : (lo len : ℕ) → filter (λ n. false) (range_with_len lo len) ≡ []
-range_none lo zero = refl
-range_none lo (suc len) = range_none (lo + 1) len
-
 pub range_ascends : (f : ℕ → Bool) (lo len : ℕ) → Ascends lo (lo + len) (filter f (range_with_len lo len))
 range_ascends f lo zero = tt
 range_ascends f lo (suc len) =
-    let P : ℕ → Type 0 = λ hi. Ascends (lo + 1) hi (filter f (range_with_len (lo + 1) len)) in
-    let Q : List ℕ → Type 0 = λ ns. Ascends lo (lo + suc len) ns in
-    let rest = subst P (omega arith) (range_ascends f (lo + 1) len) in
-    elim (f lo) as (λ b. Q (cond b (lo ∷ filter f (range_with_len (lo + 1) len)) (filter f (range_with_len (lo + 1) len)))) [
+    let rest : Ascends (lo + 1) (lo + suc len) (filter f (range_with_len (lo + 1) len)) = subst (λ (hi : ℕ). Ascends (lo + 1) hi (filter f (range_with_len (lo + 1) len))) (omega arith) (range_ascends f (lo + 1) len) in
+    elim (f lo) as (λ b. Ascends lo (lo + suc len) (cond b (lo ∷ filter f (range_with_len (lo + 1) len)) (filter f (range_with_len (lo + 1) len)))) [
       | true ↦ ((omega arith, omega arith), rest)
       | false ↦ ascends_lower lo (lo + 1) (lo + suc len) (filter f (range_with_len (lo + 1) len)) (omega arith) rest
     ]
 
 -- of a range, those among numbers that ascend within it are these numbers
 range_kept : (ns : List ℕ) (lo len : ℕ) → Ascends lo (lo + len) ns → filter (λ n. list_any (eqb n) ns) (range_with_len lo len) ≡ ns
-range_kept [] lo len ok = range_none lo len
+range_kept [] lo len ok = filter_none (λ (n : ℕ). false) (range_with_len lo len) (each_always (λ (n : ℕ). false ≡ false) (λ n. refl) (range_with_len lo len))
 range_kept (x ∷ ns) lo zero ok = let (low, high) = ok.0 in absurd (omega (arith, low, high))
 range_kept (x ∷ ns) lo (suc len) ok =
     let (low, high) = ok.0 in
-    let P : ℕ → Type 0 = λ hi. Ascends (lo + 1) hi ns in
-    let Q : ℕ → Type 0 = λ hi. Ascends (lo + 1) hi (x ∷ ns) in
     let rest : List ℕ → List ℕ = λ all. filter (λ n. list_any (eqb n) all) (range_with_len (lo + 1) len) in
     ⊎_elim
     (λ (same : lo ≡ x).
     let here : list_any (eqb lo) (x ∷ ns) ≡ true = or_left (eqb lo x) (list_any (eqb lo) ns) (eq-eqb lo x same) in
     let later : rest (x ∷ ns) ≡ rest ns = range_alike (λ n. list_any (eqb n) (x ∷ ns)) (λ n. list_any (eqb n) ns) (lo + 1) len (λ n above within. ap (λ b. b || list_any (eqb n) ns) (ne_eqb n x (λ e. omega (arith, same, above, e)))) in
-    let known = range_kept ns (lo + 1) len (subst P (omega arith) (ascends_lower (lo + 1) (x + 1) (lo + suc len) ns (omega (arith, same)) ok.1)) in
+    let known = range_kept ns (lo + 1) len (subst (λ (hi : ℕ). Ascends (lo + 1) hi ns) (omega arith) (ascends_lower (lo + 1) (x + 1) (lo + suc len) ns (omega (arith, same)) ok.1)) in
     ap (λ b. cond b (lo ∷ rest (x ∷ ns)) (rest (x ∷ ns))) here ∙ ap (λ r. lo ∷ r) (later ∙ known) ∙ ap (λ n. n ∷ ns) same)
     (λ (other : lo ≡ x → ⊥).
     let here : list_any (eqb lo) (x ∷ ns) ≡ false = or_from (eqb lo x) (list_any (eqb lo) ns) (ne_eqb lo x other) (none_below (x + 1) (lo + suc len) lo ns ok.1 (omega (arith, low))) in
-    let less : lo < x = omega (arith, low, other) in
-    let known = range_kept (x ∷ ns) (lo + 1) len (subst Q (omega arith) ((omega (arith, less), high), ok.1)) in
+    let known = range_kept (x ∷ ns) (lo + 1) len (subst (λ (hi : ℕ). Ascends (lo + 1) hi (x ∷ ns)) (omega arith) ((omega (arith, low, other), high), ok.1)) in
     ap (λ b. cond b (lo ∷ rest (x ∷ ns)) (rest (x ∷ ns))) here ∙ known)
     (cases_eq lo x)
 
@@ -108,8 +100,7 @@ EachAscends nodes rows = AllByRecursion (Ascends 0 nodes) rows
 pub held_ascends : (h : ℕ × ℕ → Bool) (nodes g len : ℕ) → EachAscends nodes (held_by h nodes g len)
 held_ascends h nodes g zero = tt
 held_ascends h nodes g (suc len) =
-    let P : ℕ → Type 0 = λ hi. Ascends 0 hi (nodes_with h nodes g) in
-    (subst P (omega arith) (range_ascends (λ node. h (g, node)) 0 nodes), held_ascends h nodes (g + 1) len)
+    (subst (λ (hi : ℕ). Ascends 0 hi (nodes_with h nodes g)) (omega arith) (range_ascends (λ node. h (g, node)) 0 nodes), held_ascends h nodes (g + 1) len)
 
 filter_row : (h : ℕ × ℕ → Bool) (g : ℕ) (ns : List ℕ) → filter h (map (λ n. (g, n)) ns) ≡ map (λ n. (g, n)) (filter (λ n. h (g, n)) ns)
 filter_row h g [] = refl
@@ -129,16 +120,16 @@ pairs_held h nodes g (suc len) =
     filter-append h (row g) rest ∙ ap (λ r. r ++ filter h rest) (filter_row h g (range_with_len 0 nodes)) ∙ ap (λ r. row_of_pairs g (nodes_with h nodes g) ++ r) (pairs_held h nodes (g + 1) len)
 
 -- of these chunks the test passes exactly the pairs with these nodes
-abbrev pub Fits : (ℕ × ℕ → Bool) → ℕ → List (List ℕ) → Type 0
-Fits h g [] = Unit {0}
-Fits h g (ns ∷ more) = ((n : ℕ) → h (g, n) ≡ list_any (eqb n) ns) × Fits h (g + 1) more
-
-pub held_same : (h : ℕ × ℕ → Bool) (nodes g : ℕ) (rows : List (List ℕ)) → EachAscends nodes rows → Fits h g rows → held_by h nodes g (length rows) ≡ rows
+pub held_same : (h : ℕ × ℕ → Bool) (nodes g : ℕ) (rows : List (List ℕ)) → EachAscends nodes rows → ((k n : ℕ) → g ≤ k → h (k, n) ≡ list_any (eqb n) (get_or rows (k - g) [])) → held_by h nodes g (length rows) ≡ rows
 held_same h nodes g [] ok fits = refl
 held_same h nodes g (ns ∷ more) ok fits =
-    let P : ℕ → Type 0 = λ hi. Ascends 0 hi ns in
-    let here : nodes_with h nodes g ≡ ns = range_alike (λ n. h (g, n)) (λ n. list_any (eqb n) ns) 0 nodes (λ n low high. fits.0 n) ∙ range_kept ns 0 nodes (subst P (omega arith) ok.0) in
-    ap (λ x. x ∷ held_by h nodes (g + 1) (length more)) here ∙ ap (λ xs. ns ∷ xs) (held_same h nodes (g + 1) more ok.1 fits.1)
+    let none : g - g ≡ 0 = omega arith in
+    let first : (n : ℕ) → h (g, n) ≡ list_any (eqb n) ns = λ n. fits g n (omega arith) ∙ ap (λ i. list_any (eqb n) (get_or (ns ∷ more) i [])) none in
+    let here : nodes_with h nodes g ≡ ns = filter_agree (λ n. h (g, n)) (λ n. list_any (eqb n) ns) first (range_with_len 0 nodes) ∙ range_kept ns 0 nodes (subst (λ (hi : ℕ). Ascends 0 hi ns) (omega arith) ok.0) in
+    let later : (k n : ℕ) → g + 1 ≤ k → h (k, n) ≡ list_any (eqb n) (get_or more (k - (g + 1)) []) = λ k n low.
+    let one : k - g ≡ suc (k - (g + 1)) = omega (arith, low) in
+    fits k n (omega (arith, low)) ∙ ap (λ i. list_any (eqb n) (get_or (ns ∷ more) i [])) one in
+    λ i. here i ∷ held_same h nodes (g + 1) more ok.1 later i
 
 -- ---- what these pairs hold
 
@@ -156,45 +147,30 @@ any_after k g n (ns ∷ more) h =
     list_any-append (same_pair (k, n)) (row_of_pairs g ns) (pairs_from (g + 1) more)
     ∙ or_from (list_any (same_pair (k, n)) (row_of_pairs g ns)) (list_any (same_pair (k, n)) (pairs_from (g + 1) more)) (other_row k g n ns (λ e. omega (arith, h, e))) (any_after k (g + 1) n more (omega (arith, h)))
 
-abbrev Before : ℕ → List (ℕ × ℕ) → Type 0
-Before g pairs = AllByRecursion (λ pair. pair.0 < g) pairs
-
-any_before : (g n : ℕ) (pairs : List (ℕ × ℕ)) → Before g pairs → list_any (same_pair (g, n)) pairs ≡ false
-any_before g n [] ok = refl
-any_before g n (pair ∷ pairs) ok = rw (ne_eqb g pair.0 (λ e. omega (arith, ok.0, e))) (any_before g n pairs ok.1)
-
-row_before : (g : ℕ) (ns : List ℕ) → Before (g + 1) (row_of_pairs g ns)
-row_before g [] = tt
-row_before g (n ∷ ns) = (omega arith, row_before g ns)
-
-before_append : (g : ℕ) (pairs more : List (ℕ × ℕ)) → Before g pairs → Before (g + 1) more → Before (g + 1) (pairs ++ more)
-before_append g [] more ok later = later
-before_append g (pair ∷ pairs) more ok later = (omega (arith, ok.0), before_append g pairs more ok.1 later)
-
-pairs_fit : (done : List (ℕ × ℕ)) (g : ℕ) (rows : List (List ℕ)) → Before g done → Fits (among (done ++ pairs_from g rows)) g rows
-pairs_fit done g [] ok = tt
-pairs_fit done g (ns ∷ more) ok =
+any_from : (k g n : ℕ) (rows : List (List ℕ)) → g ≤ k → list_any (same_pair (k, n)) (pairs_from g rows) ≡ list_any (eqb n) (get_or rows (k - g) [])
+any_from k g n [] low = refl
+any_from k g n (ns ∷ more) low =
     let rest = pairs_from (g + 1) more in
-    let P : List (ℕ × ℕ) → Type 0 = λ pairs. Fits (among pairs) (g + 1) more in (
-      λ n. list_any-append (same_pair (g, n)) done (row_of_pairs g ns ++ rest)
-          ∙ ap (λ b. b || among (row_of_pairs g ns ++ rest) (g, n)) (any_before g n done ok)
-          ∙ list_any-append (same_pair (g, n)) (row_of_pairs g ns) rest
-          ∙ ap (λ b. b || among rest (g, n)) (any_row g n ns)
-          ∙ ap (λ b. list_any (eqb n) ns || b) (any_after g (g + 1) n more (omega arith))
-          ∙ or_false (list_any (eqb n) ns),
-      subst P (append_assoc done (row_of_pairs g ns) rest) (pairs_fit (done ++ row_of_pairs g ns) (g + 1) more (before_append g done (row_of_pairs g ns) ok (row_before g ns))),
-    )
-  where
-    or_false : (b : Bool) → (b || false) ≡ b
-    or_false true = refl
-    or_false false = refl
+    list_any-append (same_pair (k, n)) (row_of_pairs g ns) rest
+    ∙ ⊎_elim
+    (λ (same : k ≡ g).
+    let none : k - g ≡ 0 = omega (arith, same) in
+    ap (λ c. among (row_of_pairs g ns) (c, n) || among rest (k, n)) same
+    ∙ ap (λ b. b || among rest (k, n)) (any_row g n ns)
+    ∙ ap (λ b. list_any (eqb n) ns || b) (any_after k (g + 1) n more (omega (arith, same)))
+    ∙ (elim (list_any (eqb n) ns) as (λ b. (b || false) ≡ b) [ true ↦ refl | false ↦ refl ])
+    ∙ ap (λ i. list_any (eqb n) (get_or (ns ∷ more) i [])) (sym none))
+    (λ (other : k ≡ g → ⊥).
+    let one : k - g ≡ suc (k - (g + 1)) = omega (arith, low, other) in
+    ap (λ b. b || among rest (k, n)) (other_row k g n ns other) ∙ any_from k (g + 1) n more (omega (arith, low, other)) ∙ ap (λ i. list_any (eqb n) (get_or (ns ∷ more) i [])) (sym one))
+    (cases_eq k g)
 
 -- the placement of these pairs
 abbrev pub placement_from : ℕ → ℕ → List (List ℕ) → PlacementValue
 placement_from chunks nodes rows = record { chunks = chunks; nodes = nodes; pairs = pairs_from 0 rows }
 
 pub rows_held : (chunks nodes : ℕ) (rows : List (List ℕ)) → length rows ≡ chunks → EachAscends nodes rows → held_by (holds (placement_from chunks nodes rows)) nodes 0 (length rows) ≡ rows
-rows_held chunks nodes rows long ok = held_same (holds (placement_from chunks nodes rows)) nodes 0 rows ok (pairs_fit [] 0 rows tt)
+rows_held chunks nodes rows long ok = held_same (holds (placement_from chunks nodes rows)) nodes 0 rows ok (λ k n low. any_from k 0 n rows low)
 
 pub rows_placement : (chunks nodes : ℕ) (rows : List (List ℕ)) → length rows ≡ chunks → EachAscends nodes rows → IsPlacement (placement_from chunks nodes rows)
 rows_placement chunks nodes rows long ok =

@@ -2,7 +2,7 @@
 use Rattle.std.proofs.Common.{◌≡◌, ℕ, zero, suc, ◌+◌, ◌-◌, ◌<◌, ◌≤◌, List, [], ◌∷◌, ◌++◌, map, length, Result, Ok, refl, sym, ap, ◌∙◌, subst, append_assoc, arith, codes}
 use Rattle.std.{specs.List.AllByRecursion, proofs.lemmas.List.append-nil}
 use Rattle.text_lines.specs.{Text.{Row, Place}, Check.{◌>>=◌, first, line_part}}
-use Rattle.text_lines.proofs.{Checks.{bind_ok, part_ok, ok_is}, Rows.{AreTokens, row_of}, Words.{IsWord, literal, tokens_from}}
+use Rattle.text_lines.proofs.{Checks.{bind_ok, part_ok, ok_is}, Rows.{AreTokens, row_of}, Words.{literal, tokens_from}}
 use Rattle.topology_text.specs.{declared.fault.TopologyCode.TopologyCode, Reading.{holders_line, Pairs, row_of_pairs, holders_at}}
 use Rattle.topology_text.proofs.{Front.Names, Groups.{place, line_taken, part_again}, Held.{Ascends, EachAscends, pairs_from}}
 use Rattle.topology_text.proofs.PatternLines.{named_words, named_are_words, holders_line_take, holders_line_again}
@@ -23,11 +23,11 @@ AreHeld nodes hs = AllByRecursion (λ h. Ascends 0 nodes h.0 × Ascends 0 nodes 
 
 pub befores_ascend : (nodes : ℕ) (hs : List Holders) → AreHeld nodes hs → EachAscends nodes (befores hs)
 befores_ascend nodes [] ok = tt
-befores_ascend nodes (h ∷ hs) ok = let (one, two) = ok.0 in (one, befores_ascend nodes hs ok.1)
+befores_ascend nodes (h ∷ hs) ok = (ok.0.0, befores_ascend nodes hs ok.1)
 
 pub afters_ascend : (nodes : ℕ) (hs : List Holders) → AreHeld nodes hs → EachAscends nodes (afters hs)
 afters_ascend nodes [] ok = tt
-afters_ascend nodes (h ∷ hs) ok = let (one, two) = ok.0 in (two, afters_ascend nodes hs ok.1)
+afters_ascend nodes (h ∷ hs) ok = (ok.0.1, afters_ascend nodes hs ok.1)
 
 -- the lines of chunks numbered from g on
 abbrev pub holder_lines : List (List ℕ) → ℕ → List Holders → List (List (List ℕ))
@@ -38,19 +38,13 @@ pub length-holder_lines : (names : List (List ℕ)) (g : ℕ) (hs : List Holders
 length-holder_lines names g [] = refl
 length-holder_lines names g (h ∷ hs) = omega (arith, length-holder_lines names (g + 1) hs)
 
-before_word : IsWord (codes "before")
-before_word = literal (codes "before") refl
-
-after_word : IsWord (codes "after")
-after_word = literal (codes "after") refl
-
 pub holder_lines_are_words : (names : List (List ℕ)) (g : ℕ) (hs : List Holders) → Names names → AreHeld (length names) hs → g + length hs ≤ 16 → AllByRecursion AreTokens (holder_lines names g hs)
 holder_lines_are_words names g [] ok held few = tt
 holder_lines_are_words names g (h ∷ hs) ok held few =
     let (one, two) = held.0 in (
-      tokens_from (named_words names (codes "before") g h.0) (omega arith) (named_are_words names (codes "before") g h.0 before_word (omega (arith, few)) ok one),
+      tokens_from (named_words names (codes "before") g h.0) (omega arith) (named_are_words names (codes "before") g h.0 (literal (codes "before") refl) (omega (arith, few)) ok one),
       (
-        tokens_from (named_words names (codes "after") g h.1) (omega arith) (named_are_words names (codes "after") g h.1 after_word (omega (arith, few)) ok two),
+        tokens_from (named_words names (codes "after") g h.1) (omega arith) (named_are_words names (codes "after") g h.1 (literal (codes "after") refl) (omega (arith, few)) ok two),
         holder_lines_are_words names (g + 1) hs ok held.1 (omega (arith, few)),
       ),
     )
@@ -100,16 +94,14 @@ pub record LineHeld (names : List (List ℕ)) (word : List ℕ) (g : ℕ) (p : P
 
 pub line_held : (names : List (List ℕ)) (word : List ℕ) (g : ℕ) (p : Place) (x : List ℕ × Place) → line_part (holders_line names word g) p ≡ Ok x → LineHeld names word g p x
 line_held names word g p x e =
-    let (passed, at) = part_ok (holders_line names word g) p x e in
-    let here = holders_line_take names word g (first p.rows) x.0 passed in
+    let here = holders_line_take names word g (first p.rows) x.0 (part_ok (holders_line names word g) p x e).0 in
     let (rows, number) = line_taken (holders_line names word g) p x (row_of (named_words names word g x.0)) e (λ y read. here.spelled) in
     record { rows = rows; number = number; valid = here.valid }
 
 pub holders_at_take : (names : List (List ℕ)) (left g : ℕ) (found : Pairs) (p : Place) (x : Pairs × Place) → holders_at names left g found p ≡ Ok x → HoldersTaken names left g found p x
 holders_at_take names zero g found p x e =
     let same : (found, p) ≡ x = ok_is {C = TopologyCode × ℕ} (found, p) x e in
-    let P : Pairs × Place → Type 0 = λ y. HoldersTaken names zero g found p y in
-    subst P same (record { held = []; many = refl; pairs = none_more found g; lines = refl; number = omega arith; valid = tt })
+    subst (HoldersTaken names zero g found p) same (record { held = []; many = refl; pairs = none_more found g; lines = refl; number = omega arith; valid = tt })
 holders_at_take names (suc left) g found p x e =
     let (b, e1, k1) = bind_ok (line_part (holders_line names (codes "before") g) p) (behind_before names left g found) x e in
     let (a, e2, k2) = bind_ok (line_part (holders_line names (codes "after") g) b.1) (behind_after names left g found b.0) x k1 in
@@ -128,15 +120,14 @@ holders_at_take names (suc left) g found p x e =
 pub holders_at_again : (names : List (List ℕ)) (g : ℕ) (hs : List Holders) (found : Pairs) (n : ℕ) (rest : List Row) → Names names → AreHeld (length names) hs → g + length hs ≤ 16
     → holders_at names (length hs) g found (place n (map row_of (holder_lines names g hs) ++ rest)) ≡ Ok (with_holders found g hs, place (n + (length hs + length hs)) rest)
 holders_at_again names g [] found n rest ok held few =
-    let size : n ≡ n + (0 + 0) = omega arith in
-    ap (λ f. Ok (f, place n rest)) (none_more found g) ∙ ap (λ k. Ok (with_holders found g [], place k rest)) size
+    ap (λ f. Ok (f, place n rest)) (none_more found g) ∙ ap (λ k. Ok (with_holders found g [], place k rest)) (omega arith)
 holders_at_again names g (h ∷ hs) found n rest ok held few =
     let (one, two) = held.0 in
     let rows = map row_of (holder_lines names (g + 1) hs) ++ rest in
     let second = row_of (named_words names (codes "after") g h.1) ∷ rows in
     let size : n + 1 + 1 + (length hs + length hs) ≡ n + (length (h ∷ hs) + length (h ∷ hs)) = omega arith in
-    ap (λ r. r >>= behind_before names (length hs) g found) (part_again (holders_line names (codes "before") g) n (row_of (named_words names (codes "before") g h.0)) second h.0 (holders_line_again names (codes "before") g h.0 before_word (omega (arith, few)) ok one))
-    ∙ ap (λ r. r >>= behind_after names (length hs) g found h.0) (part_again (holders_line names (codes "after") g) (n + 1) (row_of (named_words names (codes "after") g h.1)) rows h.1 (holders_line_again names (codes "after") g h.1 after_word (omega (arith, few)) ok two))
+    ap (λ r. r >>= behind_before names (length hs) g found) (part_again (holders_line names (codes "before") g) n (row_of (named_words names (codes "before") g h.0)) second h.0 (holders_line_again names (codes "before") g h.0 (literal (codes "before") refl) (omega (arith, few)) ok one))
+    ∙ ap (λ r. r >>= behind_after names (length hs) g found h.0) (part_again (holders_line names (codes "after") g) (n + 1) (row_of (named_words names (codes "after") g h.1)) rows h.1 (holders_line_again names (codes "after") g h.1 (literal (codes "after") refl) (omega (arith, few)) ok two))
     ∙ holders_at_again names (g + 1) hs (pushed found g h.0 h.1) (n + 1 + 1) rest ok held.1 (omega (arith, few))
     ∙ ap (λ f. Ok (f, place (n + 1 + 1 + (length hs + length hs)) rest)) (one_more found g h hs)
     ∙ ap (λ k. Ok (with_holders found g (h ∷ hs), place k rest)) size

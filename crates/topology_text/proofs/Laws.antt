@@ -1,7 +1,7 @@
 -- Whole topologies: what is read stands there, and what stands there is read.
-use Rattle.std.proofs.Common.{◌≡◌, ℕ, ◌+◌, Bool, List, [], ◌∷◌, ◌++◌, map, length, Option, None, Some, Result, Ok, Err, refl, sym, ap, ◌∙◌, subst, append_assoc, arith, IfOk, IfSome, codes}
+use Rattle.std.proofs.Common.{◌≡◌, ℕ, ◌+◌, Bool, List, [], ◌∷◌, ◌++◌, get_or, map, length, Option, None, Some, Result, Ok, Err, refl, sym, ap, ◌∙◌, subst, append_assoc, arith, IfOk, IfSome, codes}
 use Rattle.std.{specs.{Option.is_some, List.{All, AllByRecursion}}, proofs.lemmas.List.{append-nil, length-append, length-map, map-append}}
-use Rattle.std.proofs.lemmas.List.Elements.{All-head, All-tail}
+use Rattle.std.proofs.lemmas.List.Elements.{All-map, recursion_from_All}
 use Rattle.text_lines.specs.{Text.{Row, Place, rows_of, start}, Check.{◌>>=◌, refuse, first, line_part}}
 use Rattle.text_lines.proofs.{Checks.{bind_ok, ok_is, part_ok}, Rows.{AreTokens, row_of, rows_again, text_back}, Words.{literal, tokens_from}}
 use Rattle.schedule.{specs.Links.{GroupValue, IsGroup, IsBelow}, proofs.First.each_append}
@@ -29,25 +29,17 @@ named_valid names groups custom ok valid pattern = record {
 
 pub header_taken : (p : Place) (x : Bool × Place) → line_part header_line p ≡ Ok x → (p.rows ≡ row_of (head_words x.0) ∷ x.1.rows) × (x.1.number ≡ p.number + 1)
 header_taken p x e =
-    let (passed, place_is) = part_ok header_line p x e in
-    let row = header_takes (first p.rows) x.0 passed in
-    line_taken header_line p x (row_of (head_words x.0)) e (λ y read. row)
+    line_taken header_line p x (row_of (head_words x.0)) e (λ y read. header_takes (first p.rows) x.0 (part_ok header_line p x e).0)
 
 pub names_taken : (p : Place) (x : List (List ℕ) × Place) → line_part nodes_line p ≡ Ok x → AreNames x.0
-names_taken p x e =
-    let (passed, place_is) = part_ok nodes_line p x e in
-    (nodes_line_take (first p.rows) x.0 passed).1
+names_taken p x e = (nodes_line_take (first p.rows) x.0 (part_ok nodes_line p x e).0).1
 
 pub nodes_taken : (p : Place) (x : List (List ℕ) × Place) → line_part nodes_line p ≡ Ok x → (p.rows ≡ row_of (nodes_words x.0) ∷ x.1.rows) × (x.1.number ≡ p.number + 1)
-nodes_taken p x e =
-    let (passed, place_is) = part_ok nodes_line p x e in
-    let row = (nodes_line_take (first p.rows) x.0 passed).0 in
-    line_taken nodes_line p x (row_of (nodes_words x.0)) e (λ y read. row)
+nodes_taken p x e = line_taken nodes_line p x (row_of (nodes_words x.0)) e (λ y read. (nodes_line_take (first p.rows) x.0 (part_ok nodes_line p x e).0).0)
 
 pub named_are : (q : Place) (names : List (List ℕ)) (groups : List GroupValue) (custom : Option PatternValue) (rest : Place) → AreNames names → groups_at names q ≡ Ok (groups, rest) → IfSome custom (IsPattern (length names)) → IsNamed (named_with names groups custom)
 named_are q names groups custom rest ok e2 pattern =
-    let taken = groups_take names [] q.number q.rows groups rest e2 (groups_nil (length names)) in
-    named_valid names groups custom ok taken.valid pattern
+    named_valid names groups custom ok (groups_take names [] q.number q.rows groups rest e2 (groups_nil (length names))).valid pattern
 
 pub parts_are : (p q : Place) (names : List (List ℕ)) (groups : List GroupValue) (custom : Option PatternValue) (rest : Place) → line_part nodes_line p ≡ Ok (names, q) → groups_at names q ≡ Ok (groups, rest) → IfSome custom (IsPattern (length names)) → IsNamed (named_with names groups custom)
 parts_are p q names groups custom rest e1 e2 pattern = named_are q names groups custom rest (names_taken p (names, q) e1) e2 pattern
@@ -87,10 +79,6 @@ body_join : (groups custom : List (List (List ℕ))) (rows more rest : List Row)
 body_join groups custom rows more rest a b =
     a ∙ ap (λ r. map row_of groups ++ r) b ∙ sym (append_assoc (map row_of groups) (map row_of custom) rest) ∙ ap (λ r. r ++ rest) (sym (map-append row_of groups custom))
 
--- behind the lines of the header and of the nodes
-lines_join : (x y : Row) (rows second third body rest : List Row) → rows ≡ x ∷ second → second ≡ y ∷ third → third ≡ body ++ rest → rows ≡ (x ∷ y ∷ body) ++ rest
-lines_join x y rows second third body rest a b c = a ∙ ap (λ r. x ∷ r) b ∙ ap (λ r. x ∷ y ∷ r) c
-
 pub length-topology_rows : (t : NamedTopologyValue) → length (topology_rows t) ≡ 2 + (length t.topology.groups + length (custom_lines t.names t.custom))
 length-topology_rows t =
     omega (arith, length-map (lines_of t) row_of, length-append (map (group_words t.names) t.topology.groups) (custom_lines t.names t.custom), length-map t.topology.groups (group_words t.names))
@@ -111,10 +99,9 @@ topology_take p t rest e =
     let first_row : row_of (head_words h.0) ≡ row_of (header_words c.0) = ap (λ b. row_of (head_words b)) (sym pattern.shown) ∙ ap row_of (sym (head_is c.0)) in
     let groups = group_lines n.0 g.0 taken.more n.1.rows g.1.rows taken.all taken.lines in
     let body = body_join (map (group_words n.0) g.0) (custom_lines n.0 c.0) n.1.rows g.1.rows c.1.rows groups pattern.lines in
-    let P : NamedTopologyValue × Place → Type 0 = λ x. TopologyTaken p x.0 x.1 in
-    subst P same (record {
+    subst (λ (x : NamedTopologyValue × Place). TopologyTaken p x.0 x.1) same (record {
       valid = named_valid n.0 g.0 c.0 (names_taken h.1 n e2) taken.valid pattern.valid;
-      lines = lines_join (row_of (header_words c.0)) (row_of (nodes_words n.0)) p.rows h.1.rows n.1.rows (map row_of (map (group_words n.0) g.0 ++ custom_lines n.0 c.0)) c.1.rows (head ∙ ap (λ r. r ∷ h.1.rows) first_row) nodes body;
+      lines = head ∙ ap (λ r. r ∷ h.1.rows) first_row ∙ ap (λ r. row_of (header_words c.0) ∷ r) (nodes ∙ ap (λ r. row_of (nodes_words n.0) ∷ r) body);
       number = omega (arith, second, third, taken.number, pattern.number, ap length taken.all, length-topology_rows made);
     })
 
@@ -125,14 +112,10 @@ pub nodes_part_again : (n : ℕ) (names : List (List ℕ)) (rows : List Row) →
 nodes_part_again n names rows ok = part_again nodes_line n (row_of (nodes_words names)) rows names (nodes_again names ok)
 
 pub groups_are : (t : NamedTopologyValue) → IsNamed t → Groups (length t.names) t.topology.groups
-groups_are t ok =
-    let P : ℕ → Type 0 = λ n. All (λ g. All (IsBelow n) g.links) t.topology.groups in
-    record { few = ok.topology.limit; each = ok.topology.groups; below = subst P (sym ok.as_many) ok.topology.nodes }
+groups_are t ok = record { few = ok.topology.limit; each = ok.topology.groups; below = subst (λ (n : ℕ). All (λ g. All (IsBelow n) g.links) t.topology.groups) (sym ok.as_many) ok.topology.nodes }
 
 pub pattern_is : (t : NamedTopologyValue) → IsNamed t → IfSome t.custom (IsPattern (length t.names))
-pattern_is t ok =
-    let P : ℕ → Type 0 = λ n. IfSome t.custom (IsPattern n) in
-    subst P (sym ok.as_many) ok.custom
+pattern_is t ok = subst (λ (n : ℕ). IfSome t.custom (IsPattern n)) (sym ok.as_many) ok.custom
 
 pub topology_again : (n : ℕ) (t : NamedTopologyValue) (rest : List Row) → IsNamed t → EndsGroups rest → topology_at (place n (topology_rows t ++ rest)) ≡ Ok (t, place (n + length (topology_rows t)) rest)
 unfolding topology_at named_at
@@ -160,11 +143,9 @@ topology_again n t rest ok ends =
 -- ---- a topology and nothing else
 
 groups_are_words : (names : List (List ℕ)) (groups : List GroupValue) → Names names → All IsGroup groups → All (λ g. All (IsBelow (length names)) g.links) groups → AllByRecursion AreTokens (map (group_words names) groups)
-groups_are_words names [] ok valid below = tt
-groups_are_words names (g ∷ groups) ok valid below = (
-  tokens_from (group_words names g) (omega arith) (group_is_words names g ok (All-head IsGroup g groups valid) (All-head (λ x. All (IsBelow (length names)) x.links) g groups below)),
-  groups_are_words names groups ok (All-tail IsGroup g groups valid) (All-tail (λ x. All (IsBelow (length names)) x.links) g groups below),
-)
+groups_are_words names groups ok valid below =
+    recursion_from_All AreTokens (map (group_words names) groups) (All-map AreTokens (group_words names) groups (λ i d h.
+    tokens_from (group_words names (get_or groups i d)) (omega arith) (group_is_words names (get_or groups i d) ok (valid i d h) (below i d h))))
 
 header_are_words : (custom : Option PatternValue) → AreTokens (header_words custom)
 header_are_words None = tokens_from (header_words None) (omega arith) (literal (codes "topology") refl, (literal (codes "1") refl, tt))
@@ -203,11 +184,9 @@ all_take text t e =
     let (end, passed, k2) = bind_ok (line_part no_line found.1) (λ u. Ok found.0) t k1 in
     let same : found.0 ≡ t = ok_is {C = TopologyCode × ℕ} found.0 t k2 in
     let taken = topology_take (start text) found.0 found.1 read in
-    let (last, place_is) = part_ok no_line found.1 end passed in
-    let nothing : found.1.rows ≡ [] = no_more found.1.rows end.0 last in
+    let nothing = no_more found.1.rows end.0 (part_ok no_line found.1 end passed).0 in
     let rows : rows_of text ≡ topology_rows found.0 = taken.lines ∙ ap (λ x. topology_rows found.0 ++ x) nothing ∙ append-nil (topology_rows found.0) in
-    let P : NamedTopologyValue → Type 0 = λ x. IsNamed x × (text ≡ spelling x) in
-    subst P same (taken.valid, text_back text (lines_of found.0) rows)
+    subst (λ (x : NamedTopologyValue). IsNamed x × (text ≡ spelling x)) same (taken.valid, text_back text (lines_of found.0) rows)
 
 pub all_again : (t : NamedTopologyValue) → IsNamed t → topology_of (spelling t) ≡ Ok t
 unfolding topology_of after_topology
@@ -219,8 +198,3 @@ all_again t ok =
 pub is_found : (text : List ℕ) (r : Result NamedTopologyValue TopologyFault) → Answers r (topology_of text) → IfOk r (λ t. IsNamed t × (text ≡ spelling t))
 is_found text (Ok t) e = all_take text t e
 is_found text (Err fault) e = tt
-
-pub only_it : (text : List ℕ) (r : Result NamedTopologyValue TopologyFault) → Answers r (topology_of text) → (t : NamedTopologyValue) → IsNamed t → text ≡ spelling t → Answers r (Ok t)
-only_it text r e t ok same =
-    let P : Result NamedTopologyValue (TopologyCode × ℕ) → Type 0 = λ x. Answers r x in
-    subst P (ap topology_of same ∙ all_again t ok) e

@@ -1,4 +1,3 @@
-pub mod Kept
 pub mod Sides
 pub mod Front
 pub mod Held

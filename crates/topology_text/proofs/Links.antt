@@ -1,13 +1,13 @@
 -- The links and the width of a group's line: what is read stands there, and what stands there is read.
-use Rattle.std.proofs.Common.{◌≡◌, ℕ, ◌<◌, ◌≤◌, true, false, eqb, ltb, List, [], ◌∷◌, ◌++◌, map, length, get_or, None, Some, Result, Ok, refl, sym, ap, ◌∙◌, subst, append_assoc, arith, bytes_eq, decimal}
+use Rattle.std.proofs.Common.{◌≡◌, ℕ, ◌<◌, ◌≤◌, true, false, eqb, ltb, List, [], ◌∷◌, ◌++◌, map, length, get_or, None, Some, Ok, refl, sym, ap, ◌∙◌, subst, append_assoc, arith, bytes_eq, decimal}
 use Rattle.std.{specs.{Bool.Decides, List.{All, list_any, join_with_byte, position_or_len}}, proofs.lemmas.List.{append-nil, length-map, map_push}}
-use Rattle.std.proofs.lemmas.{Bool.{and_parts, and_from, eqb-true, eqb-false, eq-eqb, ne_eqb, cond-true, lt-ltb, false_from_ne_true}, Slice.Eq.bytes_eq-Decides}
+use Rattle.std.proofs.lemmas.{Bool.{eqb-false, ne_eqb, cond-true, lt-ltb, false_from_ne_true}, Slice.Eq.bytes_eq-Decides}
 use Rattle.std.proofs.lemmas.List.{Elements.{All-nil, All-push, All-get_or}, Quantifiers.position-Some, Sums.position_or_len_is}
 use Rattle.std.proofs.lemmas.List.Splits.{slice_split_at, slice_split_none, join_with_byte-slice_split}
-use Rattle.text_lines.specs.{Check.{◌>>=◌, refuse, need}, Number.number_up_to}
+use Rattle.text_lines.specs.Number.{number_up_to}
 use Rattle.text_lines.proofs.{Checks.{bind_ok, refuse_ok, need_ok, ok_is}, Distinct.{AreDistinct, distinct_nil, distinct_push, none_before, next_has}}
 use Rattle.text_lines.proofs.Numbers.{up_to_found, up_to_some}
-use Rattle.schedule.specs.{Links.{IsLink, IsBelow, IsGroup}, Placed.same_pair}
+use Rattle.schedule.{specs.{Links.{IsLink, IsBelow, IsGroup}, Placed.same_pair}, proofs.Placing.{pair_is, pair_itself}}
 use Rattle.topology_text.specs.{declared.fault.TopologyCode.{TopologyCode, TheVariants.{UnknownNode, SelfLink, LinkTwice, WidthRange}}, Names.is_name}
 use Rattle.topology_text.specs.{Spelling.{name_at, link_word}, Reading.{both_sides, node_of, link_of, links_from, one_to_16}}
 use Rattle.topology_text.proofs.{Front.{Names, name_free}, Sides.{pieces, sides}}
@@ -36,16 +36,6 @@ sides_are (a ∷ []) x e = absurd (cc)
 sides_are (a ∷ b ∷ []) x e = let same : (a, b) ≡ x = ok_is {C = TopologyCode} (a, b) x e in ap (λ y. y.0 ∷ y.1 ∷ []) same
 sides_are (a ∷ b ∷ c ∷ parts) x e = absurd (cc)
 
--- what is left of the checks of a link after each of its steps
-abbrev after_to : ℕ → ℕ → Result (ℕ × ℕ) TopologyCode
-after_to from to = refuse (eqb from to) SelfLink >>= (λ u. Ok (from, to))
-
-abbrev after_from : List (List ℕ) → List ℕ × List ℕ → ℕ → Result (ℕ × ℕ) TopologyCode
-after_from names x from = need (node_of names x.1) UnknownNode >>= after_to from
-
-abbrev after_sides : List (List ℕ) → List ℕ × List ℕ → Result (ℕ × ℕ) TopologyCode
-after_sides names x = need (node_of names x.0) UnknownNode >>= after_from names x
-
 pub record Taken (names : List (List ℕ)) (word : List ℕ) (link : ℕ × ℕ) : Type 0 where
   pub apart : IsLink link
   pub below : IsBelow (length names) link
@@ -53,17 +43,16 @@ pub record Taken (names : List (List ℕ)) (word : List ℕ) (link : ℕ × ℕ)
 
 pub link_take : (names : List (List ℕ)) (word : List ℕ) (link : ℕ × ℕ) → link_of names word ≡ Ok link → Taken names word link
 link_take names word link e =
-    let (x, cut, e1) = bind_ok (sides word) (after_sides names) link e in
-    let (from, first, e2) = need_ok (node_of names x.0) UnknownNode (after_from names x) link e1 in
-    let (to, second, e3) = need_ok (node_of names x.1) UnknownNode (after_to from) link e2 in
-    let (differ, e4) = refuse_ok (eqb from to) SelfLink (λ u. Ok (from, to)) link e3 in
+    let (x, cut, e1) = bind_ok (sides word) _ link e in
+    let (from, first, e2) = need_ok (node_of names x.0) UnknownNode _ link e1 in
+    let (to, second, e3) = need_ok (node_of names x.1) UnknownNode _ link e2 in
+    let (differ, e4) = refuse_ok (eqb from to) SelfLink _ link e3 in
     let same : (from, to) ≡ link = ok_is {C = TopologyCode} (from, to) link e4 in
     let (low, spelled) = node_is names x.0 from first in
     let (high, spelled_too) = node_is names x.1 to second in
     let parts : word ≡ x.0 ++ 62 ∷ x.1 = sym (join_with_byte-slice_split 62 word) ∙ ap (join_with_byte 62) (sides_are (pieces word) x cut) in
     let words : x.0 ++ 62 ∷ x.1 ≡ link_word names (from, to) = ap (λ a. a ++ 62 ∷ x.1) (sym spelled) ∙ ap (λ b. name_at names from ++ 62 ∷ b) (sym spelled_too) in
-    let P : ℕ × ℕ → Type 0 = λ l. Taken names word l in
-    subst P same (record { apart = record { apart = eqb-false from to differ }; below = record { from = low; to = high }; spelled = parts ∙ words })
+    subst (Taken names word) same (record { apart = record { apart = eqb-false from to differ }; below = record { from = low; to = high }; spelled = parts ∙ words })
 
 pub link_again : (names : List (List ℕ)) (link : ℕ × ℕ) → Names names → IsLink link → IsBelow (length names) link → link_of names (link_word names link) ≡ Ok link
 link_again names link ok apart below =
@@ -73,24 +62,12 @@ link_again names link ok apart below =
     let free_too = name_free to_name (All-get_or (λ n. is_name n ≡ true) names link.1 [] below.to ok.each) in
     let cut : pieces (link_word names link) ≡ from_name ∷ to_name ∷ [] =
     slice_split_at (λ b. eqb b 62) from_name 62 to_name free refl ∙ ap (λ ps. from_name ∷ ps) (slice_split_none (λ b. eqb b 62) to_name free_too) in
-    let first = node_again names link.0 ok.distinct below.from in
-    let second = node_again names link.1 ok.distinct below.to in
-    let differ : eqb link.0 link.1 ≡ false = ne_eqb link.0 link.1 apart.apart in
-    ap (λ ps. both_sides ps >>= after_sides names) cut ∙ ap (λ o. need o UnknownNode >>= after_from names (from_name, to_name)) first
-    ∙ ap (λ o. need o UnknownNode >>= after_to link.0) second ∙ ap (λ t. refuse t SelfLink >>= (λ u. Ok link)) differ
+    rw (cut, node_again names link.0 ok.distinct below.from, node_again names link.1 ok.distinct below.to, ne_eqb link.0 link.1 apart.apart) refl
 
 -- ---- the links of a group
 
 pub same_pair-Decides : (a b : ℕ × ℕ) → Decides (same_pair a b) (a ≡ b)
-same_pair-Decides a b = (both, again)
-  where
-    both : same_pair a b ≡ true → a ≡ b
-    both t =
-        let (from, to) = and_parts (eqb a.0 b.0) (eqb a.1 b.1) t in
-        λ i. (eqb-true a.0 b.0 from i, eqb-true a.1 b.1 to i)
-
-    again : a ≡ b → same_pair a b ≡ true
-    again e = and_from (eqb a.0 b.0) (eqb a.1 b.1) (eq-eqb a.0 b.0 (ap (λ l. l.0) e)) (eq-eqb a.1 b.1 (ap (λ l. l.1) e))
+same_pair-Decides a b = (pair_is a b, λ e. subst (λ (x : ℕ × ℕ). same_pair a x ≡ true) e (pair_itself a))
 
 -- links that were read, of which there may be none
 pub record Links (nodes : ℕ) (links : List (ℕ × ℕ)) : Type 0 where
@@ -108,17 +85,13 @@ push_link nodes before link apart below fresh ok = record {
   distinct = distinct_push same_pair same_pair-Decides before link fresh ok.distinct;
 }
 
-abbrev after_link : List (List ℕ) → List (ℕ × ℕ) → List (List ℕ) → ℕ × ℕ → Result (List (ℕ × ℕ)) TopologyCode
-after_link names before words link = refuse (list_any (same_pair link) before) LinkTwice >>= (λ u. links_from names (before ++ link ∷ []) words)
-
 pub links_take : (names : List (List ℕ)) (before : List (ℕ × ℕ)) (words : List (List ℕ)) (links : List (ℕ × ℕ)) → links_from names before words ≡ Ok links → Links (length names) before → (map (link_word names) links ≡ map (link_word names) before ++ words) × Links (length names) links
 links_take names before [] links e ok =
     let same : before ≡ links = ok_is {C = TopologyCode} before links e in
-    let P : List (ℕ × ℕ) → Type 0 = λ l. Links (length names) l in
-    (ap (map (link_word names)) (sym same) ∙ sym (append-nil (map (link_word names) before)), subst P same ok)
+    (ap (map (link_word names)) (sym same) ∙ sym (append-nil (map (link_word names) before)), subst (Links (length names)) same ok)
 links_take names before (word ∷ words) links e ok =
-    let (link, read, e1) = bind_ok (link_of names word) (after_link names before words) links e in
-    let (fresh, e2) = refuse_ok (list_any (same_pair link) before) LinkTwice (λ u. links_from names (before ++ link ∷ []) words) links e1 in
+    let (link, read, e1) = bind_ok (link_of names word) _ links e in
+    let (fresh, e2) = refuse_ok (list_any (same_pair link) before) LinkTwice _ links e1 in
     let taken = link_take names word link read in
     let (all, valid) = links_take names (before ++ link ∷ []) words links e2 (push_link (length names) before link taken.apart taken.below fresh ok) in (
       all ∙ ap (λ ws. ws ++ words) (map_push (link_word names) before link) ∙ append_assoc (map (link_word names) before) (link_word names link ∷ []) words
@@ -131,19 +104,15 @@ links_again names before [] ok valid = ap (λ l. Ok l) (sym (append-nil before))
 links_again names before (link ∷ rest) ok valid =
     let read = link_again names link ok (next_has IsLink before link rest valid.each) (next_has (IsBelow (length names)) before link rest valid.below) in
     let fresh = none_before same_pair same_pair-Decides before link rest valid.distinct in
-    let P : List (ℕ × ℕ) → Type 0 = λ l. Links (length names) l in
-    let more = links_again names (before ++ link ∷ []) rest ok (subst P (sym (append_assoc before (link ∷ []) rest)) valid) in
-    ap (λ r. r >>= after_link names before (map (link_word names) rest)) read
-    ∙ ap (λ t. refuse t LinkTwice >>= (λ u. links_from names (before ++ link ∷ []) (map (link_word names) rest))) fresh
-    ∙ more ∙ ap (λ l. Ok l) (append_assoc before (link ∷ []) rest)
+    let more = links_again names (before ++ link ∷ []) rest ok (subst (Links (length names)) (sym (append_assoc before (link ∷ []) rest)) valid) in
+    rw (read, fresh) (more ∙ ap (λ l. Ok l) (append_assoc before (link ∷ []) rest))
 
 -- ---- a number from 1 to 16
 
 pub small_take : (code : TopologyCode) (word : List ℕ) (n : ℕ) → one_to_16 code word ≡ Ok n → (word ≡ decimal n) × (0 < n) × (n ≤ 16)
 small_take code word n e =
-    let checked : ℕ → Result ℕ TopologyCode = λ k. refuse (eqb k 0) code >>= (λ u. Ok k) in
-    let (k, found, e1) = need_ok (number_up_to 16 word) code checked n e in
-    let (positive, e2) = refuse_ok (eqb k 0) code (λ u. Ok k) n e1 in
+    let (k, found, e1) = need_ok (number_up_to 16 word) code _ n e in
+    let (positive, e2) = refuse_ok (eqb k 0) code _ n e1 in
     let same : k ≡ n = ok_is {C = TopologyCode} k n e2 in
     let (spelled, small) = up_to_found 16 k word found in
     let some = eqb-false k 0 positive in
@@ -151,9 +120,7 @@ small_take code word n e =
 
 pub small_again : (code : TopologyCode) (n : ℕ) → 0 < n → n ≤ 16 → one_to_16 code (decimal n) ≡ Ok n
 small_again code n some small =
-    let found = up_to_some 16 n (decimal n) (omega arith) refl small in
-    let positive : eqb n 0 ≡ false = ne_eqb n 0 (λ e. omega arith) in
-    ap (λ o. need o code >>= (λ k. refuse (eqb k 0) code >>= (λ u. Ok k))) found ∙ ap (λ t. refuse t code >>= (λ u. Ok n)) positive
+    rw (up_to_some 16 n (decimal n) (omega arith) refl small, ne_eqb n 0 (λ e. omega arith)) refl
 
 -- ---- what was read is a group
 

@@ -1,8 +1,8 @@
 -- The lines of a pattern: what is read stands there, and what stands there is read.
-use Rattle.std.proofs.Common.{◌≡◌, ℕ, ◌+◌, ◌^◌, ◌<◌, ◌≤◌, Bool, true, false, ◌||◌, not, eqb, List, [], ◌∷◌, ◌++◌, map, length, get_or, drop, Option, None, Some, Result, Ok, Err, refl, sym, ap, ◌∙◌, subst, append_assoc, arith, bytes_eq, codes, decimal, nat_lt, slice_index_or}
+use Rattle.std.proofs.Common.{◌≡◌, ℕ, ◌+◌, ◌^◌, ◌<◌, ◌≤◌, Bool, true, false, ◌||◌, not, eqb, List, [], ◌∷◌, ◌++◌, map, length, get_or, drop, Option, None, Some, Ok, Err, refl, sym, ap, ◌∙◌, subst, append_assoc, arith, bytes_eq, codes, decimal, nat_lt, slice_index_or}
 use Rattle.std.{specs.List.list_all, proofs.lemmas.Bool.{and_parts, and_from, eqb-true, eqb-false, false_from_ne_true, not-false, or_parts}}
 use Rattle.std.proofs.lemmas.{Fmt.decimal_injective, List.{append-nil, map_push, Elements.All-get_or}, Slice.Eq.bytes_eq-Decides}
-use Rattle.text_lines.specs.{Text.{Row, words_of}, Check.{◌>>=◌, refuse, need}}
+use Rattle.text_lines.specs.Text.{Row, words_of}
 use Rattle.text_lines.proofs.{Checks.{refuse_ok, need_ok, ok_is}, Rows.{row_of, row_back, words_again}}
 use Rattle.text_lines.proofs.Words.{IsWord, AreWords, literal, tokens_from, none_empty, begins_is, decimal_word}
 use Rattle.topology_text.specs.{declared.fault.TopologyCode.{TopologyCode, TheVariants.{BadLine, UnknownNode, BaseRange, NameOrder}}, Names.is_name}
@@ -35,14 +35,12 @@ custom_take (Some r) base e =
     let words = words_of r.bytes in
     let front : Bool = begins (codes "custom ") r.bytes in
     let two : Bool = eqb (length words) 2 in
-    let (shape, e1) = refuse_ok (not r.whole || not front || not two) BadLine (λ u. one_to_16 BaseRange (slice_index_or words 1 [])) base e in
+    let (shape, e1) = refuse_ok (not r.whole || not front || not two) BadLine _ base e in
     let (early, pair) = or_parts (not r.whole || not front) (not two) shape in
     let (whole, begun) = or_parts (not r.whole) (not front) early in
     let (spelled, some, few) = small_take BaseRange (slice_index_or words 1 []) base e1 in
-    let parts = two_words words (not-false two pair) in
-    let rest = drop 7 r.bytes in
-    let first : words ≡ codes "custom" ∷ words_of rest = begins_is (codes "custom") r.bytes refl (not-false front begun) in
-    let line : words ≡ base_words base = parts ∙ ap (λ w. get_or w 0 [] ∷ get_or words 1 [] ∷ []) first ∙ ap (λ w. codes "custom" ∷ w ∷ []) spelled in
+    let first = begins_is (codes "custom") r.bytes refl (not-false front begun) in
+    let line : words ≡ base_words base = two_words words (not-false two pair) ∙ ap (λ w. get_or w 0 [] ∷ get_or words 1 [] ∷ []) first ∙ ap (λ w. codes "custom" ∷ w ∷ []) spelled in
     record { spelled = ap (λ x. Some x) (row_back r (base_words base) (not-false r.whole whole) line); some = some; few = few }
 
 custom_at : (r : Row) (base : ℕ) → r.whole ≡ true → begins (codes "custom ") r.bytes ≡ true → words_of r.bytes ≡ base_words base → 0 < base → base ≤ 16 → custom_line (Some r) ≡ Ok base
@@ -51,30 +49,22 @@ custom_at r base whole front words some few =
     let read : one_to_16 BaseRange (slice_index_or (words_of r.bytes) 1 []) ≡ Ok base = ap (λ w. one_to_16 BaseRange (slice_index_or w 1 [])) words ∙ small_again BaseRange base some few in
     rw (whole, front, two) read
 
-pub custom_begins : (base : ℕ) → begins (codes "custom ") (row_of (base_words base)).bytes ≡ true
-custom_begins base = refl
-
 pub custom_again : (base : ℕ) → 0 < base → base ≤ 16 → custom_line (Some (row_of (base_words base))) ≡ Ok base
-custom_again base some few = custom_at (row_of (base_words base)) base refl (custom_begins base) (words_again (base_words base) (tokens_from (base_words base) (omega arith) (base_are_words base few))) some few
+custom_again base some few = custom_at (row_of (base_words base)) base refl refl (words_again (base_words base) (tokens_from (base_words base) (omega arith) (base_are_words base few))) some few
 
 -- ---- the nodes that hold a chunk
 
-abbrev after_node : List (List ℕ) → List ℕ → List (List ℕ) → ℕ → Result (List ℕ) TopologyCode
-after_node names before words node = refuse (not (list_all (λ other. nat_lt other node) before)) NameOrder >>= (λ u. holders_from names (before ++ node ∷ []) words)
-
 pub out_of_order : (names : List (List ℕ)) (before : List ℕ) (word : List ℕ) (words : List (List ℕ)) (node : ℕ) → Some node ≡ node_of names word → list_all (λ other. nat_lt other node) before ≡ false → holders_from names before (word ∷ words) ≡ Err NameOrder
-out_of_order names before word words node found behind =
-    ap (λ o. need o UnknownNode >>= after_node names before words) (sym found) ∙ ap (λ t. refuse (not t) NameOrder >>= (λ u. holders_from names (before ++ node ∷ []) words)) behind
+out_of_order names before word words node found behind = rw (sym found, behind) refl
 
 pub holders_take : (names : List (List ℕ)) (before : List ℕ) (words : List (List ℕ)) (nodes : List ℕ) → holders_from names before words ≡ Ok nodes → Ascends 0 (length names) before → (map (name_at names) nodes ≡ map (name_at names) before ++ words) × Ascends 0 (length names) nodes
 holders_take names before [] nodes e ok =
     let same : before ≡ nodes = ok_is {C = TopologyCode} before nodes e in
-    let P : List ℕ → Type 0 = λ ns. Ascends 0 (length names) ns in
-    (ap (map (name_at names)) (sym same) ∙ sym (append-nil (map (name_at names) before)), subst P same ok)
+    (ap (map (name_at names)) (sym same) ∙ sym (append-nil (map (name_at names) before)), subst (Ascends 0 (length names)) same ok)
 holders_take names before (word ∷ words) nodes e ok =
-    let (node, found, e1) = need_ok (node_of names word) UnknownNode (after_node names before words) nodes e in
+    let (node, found, e1) = need_ok (node_of names word) UnknownNode _ nodes e in
     let above : Bool = list_all (λ other. nat_lt other node) before in
-    let (behind, e2) = refuse_ok (not above) NameOrder (λ u. holders_from names (before ++ node ∷ []) words) nodes e1 in
+    let (behind, e2) = refuse_ok (not above) NameOrder _ nodes e1 in
     let (within, named) = node_is names word node found in
     let (all, valid) = holders_take names (before ++ node ∷ []) words nodes e2 (ascends_push 0 (length names) before node ok (omega arith) within (not-false above behind)) in (
       all ∙ ap (λ ws. ws ++ words) (map_push (name_at names) before node) ∙ append_assoc (map (name_at names) before) (name_at names node ∷ []) words
@@ -86,13 +76,8 @@ pub holders_again : (names : List (List ℕ)) (before more : List ℕ) → Names
 holders_again names before [] ok valid = ap (λ ns. Ok ns) (sym (append-nil before))
 holders_again names before (node ∷ more) ok valid =
     let (low, within) = ascends_next 0 (length names) before node more valid in
-    let found = node_again names node ok.distinct within in
-    let above : not (list_all (λ other. nat_lt other node) before) ≡ false = ap not (ascends_above 0 (length names) before node more valid) in
-    let P : List ℕ → Type 0 = λ ns. Ascends 0 (length names) ns in
-    let rest = holders_again names (before ++ node ∷ []) more ok (subst P (sym (append_assoc before (node ∷ []) more)) valid) in
-    ap (λ o. need o UnknownNode >>= after_node names before (map (name_at names) more)) found
-    ∙ ap (λ t. refuse t NameOrder >>= (λ u. holders_from names (before ++ node ∷ []) (map (name_at names) more))) above
-    ∙ rest ∙ ap (λ ns. Ok ns) (append_assoc before (node ∷ []) more)
+    let rest = holders_again names (before ++ node ∷ []) more ok (subst (Ascends 0 (length names)) (sym (append_assoc before (node ∷ []) more)) valid) in
+    rw (node_again names node ok.distinct within, ascends_above 0 (length names) before node more valid) (rest ∙ ap (λ ns. Ok ns) (append_assoc before (node ∷ []) more))
 
 -- ---- the number of a chunk
 
@@ -137,7 +122,7 @@ holders_line_take names word g None nodes e = absurd (cc)
 holders_line_take names word g (Some r) nodes e =
     let words = words_of r.bytes in
     let front : Bool = has_front word (decimal g) words in
-    let (shape, e1) = refuse_ok (not r.whole || not front || has_empty words) BadLine (λ u. holders_from names [] (drop 2 words)) nodes e in
+    let (shape, e1) = refuse_ok (not r.whole || not front || has_empty words) BadLine _ nodes e in
     let (early, full) = or_parts (not r.whole || not front) (has_empty words) shape in
     let (whole, begun) = or_parts (not r.whole) (not front) early in
     let (all, valid) = holders_take names [] (drop 2 words) nodes e1 tt in

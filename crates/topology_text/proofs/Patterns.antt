@@ -60,12 +60,8 @@ pub record PatternHeld (nodes : ℕ) (p : PatternValue) : Type 0 where
 pub pattern_held : (nodes : ℕ) (p : PatternValue) → IsPattern nodes p → PatternHeld nodes p
 pattern_held nodes p ok =
     let hs = held_in p.before p.after 0 p.base in
-    let P : ℕ → Type 0 = λ n. EachAscends n (befores hs) in
-    let Q : ℕ → Type 0 = λ n. EachAscends n (afters hs) in
-    let R : List (List ℕ) → Type 0 = λ rows. EachAscends p.before.nodes rows in
-    let S : List (List ℕ) → Type 0 = λ rows. EachAscends p.after.nodes rows in
-    let one = subst P ok.before_nodes (subst R (sym (befores_in p.before p.after 0 p.base)) (held_ascends (holds p.before) p.before.nodes 0 p.base)) in
-    let two = subst Q ok.after_nodes (subst S (sym (afters_in p.before p.after 0 p.base)) (held_ascends (holds p.after) p.after.nodes 0 p.base)) in
+    let one = subst (λ (n : ℕ). EachAscends n (befores hs)) ok.before_nodes (subst (EachAscends p.before.nodes) (sym (befores_in p.before p.after 0 p.base)) (held_ascends (holds p.before) p.before.nodes 0 p.base)) in
+    let two = subst (λ (n : ℕ). EachAscends n (afters hs)) ok.after_nodes (subst (EachAscends p.after.nodes) (sym (afters_in p.before p.after 0 p.base)) (held_ascends (holds p.after) p.after.nodes 0 p.base)) in
     let before : p.before.pairs ≡ pairs_from 0 (befores hs) = placement_rows p.before ok.before ∙ ap (λ c. pairs_from 0 (held_by (holds p.before) p.before.nodes 0 c)) ok.before_chunks ∙ ap (pairs_from 0) (sym (befores_in p.before p.after 0 p.base)) in
     let after : p.after.pairs ≡ pairs_from 0 (afters hs) = placement_rows p.after ok.after ∙ ap (λ c. pairs_from 0 (held_by (holds p.after) p.after.nodes 0 c)) ok.after_chunks ∙ ap (pairs_from 0) (sym (afters_in p.before p.after 0 p.base)) in
     record {
@@ -87,9 +83,7 @@ lines_spelled names p q g (h ∷ hs) one two =
     let here : nodes_with (holds p) p.nodes g ≡ h.0 = ap (λ l. get_or l 0 []) one in
     let there : nodes_with (holds q) q.nodes g ≡ h.1 = ap (λ l. get_or l 0 []) two in
     let rest = lines_spelled names p q (g + 1) hs (ap (drop 1) one) (ap (drop 1) two) in
-    ap (λ b. named_words names (codes "before") g b ∷ holder_words names (codes "after") q g ∷ flat_map (λ k. holder_words names (codes "before") p k ∷ holder_words names (codes "after") q k ∷ []) (range_with_len (g + 1) (length hs))) here
-    ∙ ap (λ a. named_words names (codes "before") g h.0 ∷ named_words names (codes "after") g a ∷ flat_map (λ k. holder_words names (codes "before") p k ∷ holder_words names (codes "after") q k ∷ []) (range_with_len (g + 1) (length hs))) there
-    ∙ ap (λ r. named_words names (codes "before") g h.0 ∷ named_words names (codes "after") g h.1 ∷ r) rest
+    λ i. named_words names (codes "before") g (here i) ∷ named_words names (codes "after") g (there i) ∷ rest i
 
 pub pattern_spelled : (names : List (List ℕ)) (base nodes : ℕ) (hs : List Holders) → length hs ≡ base → AreHeld nodes hs → custom_lines names (Some (pattern_from base nodes hs)) ≡ base_words base ∷ holder_lines names 0 hs
 pattern_spelled names base nodes hs many held =
@@ -102,20 +96,17 @@ pattern_spelled names base nodes hs many held =
 
 -- ---- a pattern at a place
 
-pub lines_valid : (names : List (List ℕ)) (p : Place) (base : ℕ) (q : Place) (found : Pairs) (rest : Place) → line_part custom_line p ≡ Ok (base, q) → holders_at names base 0 no_pairs q ≡ Ok (found, rest) → IsPattern (length names) (pattern_of base (length names) found)
-lines_valid names p base q found rest e1 e2 =
-    let (passed, at) = part_ok custom_line p (base, q) e1 in
-    let head = custom_take (first p.rows) base passed in
+pub lines_valid : (names : List (List ℕ)) (p : Place) (base : ℕ) (q : Place) (found : Pairs) (rest : Place) (count : ℕ) → line_part custom_line p ≡ Ok (base, q) → holders_at names base 0 no_pairs q ≡ Ok (found, rest) → length names ≡ count → IsPattern count (pattern_of base count found)
+lines_valid names p base q found rest count e1 e2 same =
+    let head = custom_take (first p.rows) base (part_ok custom_line p (base, q) e1).0 in
     let taken = holders_at_take names base 0 no_pairs q (found, rest) e2 in
-    let P : Pairs → Type 0 = λ f. IsPattern (length names) (pattern_of base (length names) f) in
-    subst P (sym taken.pairs) (pattern_valid base (length names) taken.held taken.many head.some head.few taken.valid)
+    subst (λ (n : ℕ). IsPattern n (pattern_of base n found)) same
+    (subst (λ (f : Pairs). IsPattern (length names) (pattern_of base (length names) f)) (sym taken.pairs) (pattern_valid base (length names) taken.held taken.many head.some head.few taken.valid))
 
-pub pattern_made : (nodes base count : ℕ) (found : Pairs) (b a : PlacementValue) → IsPattern nodes (pattern_of base nodes found) → nodes ≡ count → b ≡ record { chunks = base; nodes = count; pairs = found.before } → a ≡ record { chunks = base; nodes = count; pairs = found.after } → IsPattern b.nodes (record { base = base; before = b; after = a })
-pattern_made nodes base count found b a ok same one two =
-    let P : ℕ → Type 0 = λ n. IsPattern n (pattern_of base n found) in
-    let Q : PlacementValue → Type 0 = λ x. IsPattern x.nodes (record { base = base; before = x; after = record { chunks = base; nodes = count; pairs = found.after } }) in
-    let R : PlacementValue → Type 0 = λ y. IsPattern b.nodes (record { base = base; before = b; after = y }) in
-    subst R (sym two) (subst Q (sym one) (subst P same ok))
+pub pattern_made : (base count : ℕ) (found : Pairs) (b a : PlacementValue) → IsPattern count (pattern_of base count found) → b ≡ record { chunks = base; nodes = count; pairs = found.before } → a ≡ record { chunks = base; nodes = count; pairs = found.after } → IsPattern b.nodes (record { base = base; before = b; after = a })
+pattern_made base count found b a ok one two =
+    subst (λ (y : PlacementValue). IsPattern b.nodes (record { base = base; before = b; after = y })) (sym two)
+    (subst (λ (x : PlacementValue). IsPattern x.nodes (record { base = base; before = x; after = record { chunks = base; nodes = count; pairs = found.after } })) (sym one) ok)
 
 abbrev pub behind_holders : List (List ℕ) → ℕ → Pairs × Place → Result (Option PatternValue × Place) (TopologyCode × ℕ)
 behind_holders names base found = Ok (Some (pattern_of base (length names) found.0), found.1)
@@ -132,23 +123,18 @@ pub record PatternTaken (names : List (List ℕ)) (patterned : Bool) (p : Place)
 pub pattern_take : (patterned : Bool) (names : List (List ℕ)) (p : Place) (x : Option PatternValue × Place) → pattern_at patterned names p ≡ Ok x → PatternTaken names patterned p x
 unfolding pattern_at
 pattern_take false names p x e =
-    let none : Option PatternValue × Place = (None, p) in
-    let same : none ≡ x = ok_is {C = TopologyCode × ℕ} none x e in
-    let P : Option PatternValue × Place → Type 0 = λ y. PatternTaken names false p y in
-    subst P same (record { valid = tt; shown = refl; lines = refl; number = omega arith })
+    subst (PatternTaken names false p) (ok_is {A = Option PatternValue × Place} {C = TopologyCode × ℕ} (None, p) x e) (record { valid = tt; shown = refl; lines = refl; number = omega arith })
 pattern_take true names p x e =
     let (base, e1, k1) = bind_ok (line_part custom_line p) (behind_base names) x e in
     let (found, e2, k2) = bind_ok (holders_at names base.0 0 no_pairs base.1) (behind_holders names base.0) x k1 in
-    let (passed, at) = part_ok custom_line p base e1 in
-    let head = custom_take (first p.rows) base.0 passed in
+    let head = custom_take (first p.rows) base.0 (part_ok custom_line p base e1).0 in
     let (rows, number) = line_taken custom_line p base (row_of (base_words base.0)) e1 (λ y read. head.spelled) in
     let taken = holders_at_take names base.0 0 no_pairs base.1 found e2 in
     let hs = taken.held in
     let made : Option PatternValue × Place = (Some (pattern_from base.0 (length names) hs), found.1) in
     let same : made ≡ x = ap (λ f. (Some (pattern_of base.0 (length names) f), found.1)) (sym taken.pairs) ∙ ok_is {C = TopologyCode × ℕ} (Some (pattern_of base.0 (length names) found.0), found.1) x k2 in
     let spelled = pattern_spelled names base.0 (length names) hs taken.many taken.valid in
-    let P : Option PatternValue × Place → Type 0 = λ y. PatternTaken names true p y in
-    subst P same (record {
+    subst (PatternTaken names true p) same (record {
       valid = pattern_valid base.0 (length names) hs taken.many head.some head.few taken.valid;
       shown = refl;
       lines = rows ∙ ap (λ r. row_of (base_words base.0) ∷ r) taken.lines ∙ ap (λ l. map row_of l ++ found.1.rows) (sym spelled);
@@ -167,9 +153,8 @@ pattern_again names (Some p) n rest ok valid =
     let spelled : custom_lines names (Some p) ≡ base_words base ∷ holder_lines names 0 hs = ap (λ q. custom_lines names (Some q)) h.is ∙ pattern_spelled names base (length names) hs h.many h.valid in
     let rows = map row_of (holder_lines names 0 hs) ++ rest in
     let size : n + 1 + (length hs + length hs) ≡ n + length (custom_lines names (Some p)) = omega (arith, ap length spelled, length-holder_lines names 0 hs) in
-    let few : 0 + length hs ≤ 16 = omega (arith, h.many, valid.few) in
     let P : ℕ → Type 0 = λ m. holders_at names m 0 no_pairs (place (n + 1) rows) ≡ Ok (with_holders no_pairs 0 hs, place (n + 1 + (length hs + length hs)) rest) in
-    let read = subst P h.many (holders_at_again names 0 hs no_pairs (n + 1) rest ok h.valid few) in
+    let read = subst P h.many (holders_at_again names 0 hs no_pairs (n + 1) rest ok h.valid (omega (arith, h.many, valid.few))) in
     ap (λ l. pattern_at true names (place n (map row_of l ++ rest))) spelled
     ∙ ap (λ r. r >>= behind_base names) (part_again custom_line n (row_of (base_words base)) rows base (custom_again base valid.some valid.few))
     ∙ ap (λ r. r >>= behind_holders names base) read
@@ -181,8 +166,7 @@ custom_are_words names None ok valid = tt
 custom_are_words names (Some p) ok valid =
     let h = pattern_held (length names) p valid in
     let spelled : custom_lines names (Some p) ≡ base_words p.base ∷ holder_lines names 0 h.held = ap (λ q. custom_lines names (Some q)) h.is ∙ pattern_spelled names p.base (length names) h.held h.many h.valid in
-    let P : List (List (List ℕ)) → Type 0 = λ l. AllByRecursion AreTokens l in
-    subst P (sym spelled) (
+    subst (AllByRecursion AreTokens) (sym spelled) (
       tokens_from (base_words p.base) (omega arith) (base_are_words p.base valid.few),
       holder_lines_are_words names 0 h.held ok h.valid (omega (arith, h.many, valid.few)),
     )

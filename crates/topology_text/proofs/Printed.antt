@@ -11,17 +11,11 @@ use Rattle.topology_text.specs.Spelling.{name_at, link_word, header_words, nodes
 
 -- four pieces, appended one after another
 pub appended : (a b c d e x y z w all : List ℕ) → b ≡ a ++ x → c ≡ b ++ y → d ≡ c ++ z → e ≡ d ++ w → x ++ (y ++ (z ++ w)) ≡ all → e ≡ a ++ all
-appended a b c d e x y z w all hb hc hd he whole =
-    let first : c ≡ a ++ (x ++ y) = hc ∙ ap (λ t. t ++ y) hb ∙ append_assoc a x y in
-    let second : d ≡ a ++ ((x ++ y) ++ z) = hd ∙ ap (λ t. t ++ z) first ∙ append_assoc a (x ++ y) z in
-    let third : e ≡ a ++ (((x ++ y) ++ z) ++ w) = he ∙ ap (λ t. t ++ w) second ∙ append_assoc a ((x ++ y) ++ z) w in
-    third ∙ ap (λ t. a ++ t) (append_assoc (x ++ y) z w ∙ append_assoc x y (z ++ w) ∙ whole)
+appended a b c d e x y z w all hb hc hd he whole = rw (he, hd, hc, hb, sym whole) (simp append_assoc)
 
 -- three pieces
 pub appended_three : (a b c d x y z all : List ℕ) → b ≡ a ++ x → c ≡ b ++ y → d ≡ c ++ z → x ++ (y ++ z) ≡ all → d ≡ a ++ all
-appended_three a b c d x y z all hb hc hd whole =
-    let second : c ≡ a ++ (x ++ y) = hc ∙ ap (λ t. t ++ y) hb ∙ append_assoc a x y in
-    hd ∙ ap (λ t. t ++ z) second ∙ append_assoc a (x ++ y) z ∙ ap (λ t. a ++ t) (append_assoc x y z ∙ whole)
+appended_three a b c d x y z all hb hc hd whole = rw (hd, hc, hb, sym whole) (simp append_assoc)
 
 pub group_is : (names : List (List ℕ)) (g : GroupValue) → codes "group " ++ (decimal g.width ++ (fields (map (link_word names) g.links) ++ codes "\n")) ≡ line (group_words names g)
 group_is names g =
@@ -90,6 +84,16 @@ spelling_is t =
     let custom = custom_lines t.names t.custom in
     ap (λ r. text_of front ++ r) (sym (flat_map-append line groups custom)) ∙ sym (flat_map-append line front (groups ++ custom))
 
+-- a topology that was printed in three pieces, of which the groups were shown one by one
+pub topology_printed : (t : NamedTopologyValue) (names : List (List ℕ)) (shown : List GroupValue) (count : ℕ) (out first second last more : List ℕ)
+    → first ≡ out ++ text_of (header_words t.custom ∷ nodes_words t.names ∷ []) → second ≡ first ++ text_of (map (group_words names) (take count shown)) → length shown ≤ count → shown ≡ t.topology.groups → names ≡ t.names
+    → last ≡ second ++ more → more ≡ text_of (custom_lines t.names t.custom) → last ≡ out ++ spelling t
+topology_printed t names shown count out first second last more begun so_far end same named ended custom =
+    let front = text_of (header_words t.custom ∷ nodes_words t.names ∷ []) in
+    let groups = text_of (map (group_words t.names) t.topology.groups) in
+    let printed : second ≡ first ++ groups = so_far ∙ ap (λ n. first ++ text_of (map (group_words n) (take count shown))) named ∙ ap (λ g. first ++ text_of (map (group_words t.names) g)) (take_all count shown end ∙ same) in
+    appended_three out first second last front groups more (spelling t) begun printed ended (ap (λ r. front ++ (groups ++ r)) custom ∙ spelling_is t)
+
 -- ---- what stays in front where memory runs out
 
 pub kept_same : (new old : List ℕ) → new ≡ old → StartsWith new old
@@ -114,7 +118,3 @@ front_kept out first second third x y z a b c = kept_on third second out (kept_m
 pub at_err : {A E : Type 0} (r : Result A E) (P : Type 0) → P → OnErr r P
 at_err (Ok x) P p = tt
 at_err (Err e) P p = p
-
-pub on_err : {A E : Type 0} (r : Result A E) (P Q : Type 0) → (P → Q) → OnErr r P → OnErr r Q
-on_err (Ok x) P Q f p = tt
-on_err (Err e) P Q f p = f p

@@ -17,16 +17,14 @@ IsFree word from to = (k : ℕ) → from ≤ k → k < to → get_or word k 0 �
 pub no_side : (word : List ℕ) (at : ℕ) → at ≡ length word → IsFree word 0 at → sides word ≡ Err BadLine
 no_side word at end free =
     let all : slice_range word 0 (length word) ≡ word = take_rest word 0 in
-    let P : List ℕ → Type 0 = λ w. pieces w ≡ slice_range word 0 at ∷ [] in
-    let cut : pieces word ≡ slice_range word 0 at ∷ [] = subst P all (parts_end_at 62 word 0 at (length word) (omega arith) (omega arith) (omega arith) (omega arith) free) in
+    let cut = subst (λ (w : List ℕ). pieces w ≡ slice_range word 0 at ∷ []) all (parts_end_at 62 word 0 at (length word) (omega arith) (omega arith) (omega arith) (omega arith) free) in
     ap both_sides cut
 
 -- the pieces behind the first `>`
 after_first : (word : List ℕ) (at : ℕ) → at < length word → IsFree word 0 at → get_or word at 0 ≡ 62 → pieces word ≡ slice_range word 0 at ∷ pieces (slice_range word (at + 1) (length word))
 after_first word at within free here =
     let all : slice_range word 0 (length word) ≡ word = take_rest word 0 in
-    let P : List ℕ → Type 0 = λ w. pieces w ≡ slice_range word 0 at ∷ pieces (slice_range word (at + 1) (length word)) in
-    subst P all (parts_step 62 word 0 at (length word) (omega arith) within (omega arith) free here)
+    subst (λ (w : List ℕ). pieces w ≡ slice_range word 0 at ∷ pieces (slice_range word (at + 1) (length word))) all (parts_step 62 word 0 at (length word) (omega arith) within (omega arith) free here)
 
 more : (a b : List ℕ) (rest : List (List ℕ)) → 0 < length rest → both_sides (a ∷ b ∷ rest) ≡ Err BadLine
 more a b [] some = absurd (omega arith)

@@ -10,13 +10,10 @@ use Rattle.topology_text.proofs.Steady.{Moves, Alike, moves_line, alike_line, mo
 
 -- ---- groups
 
--- there is a line, and it begins with the word
-abbrev begins_here : List ℕ → Option Row → Bool
-begins_here word None = false
-begins_here word (Some row) = begins word row.bytes
-
+-- there is a line, and it begins a group
 abbrev is_group : Option Row → Bool
-is_group row = begins_here (codes "group ") row
+is_group None = false
+is_group (Some row) = begins (codes "group ") row.bytes
 
 module _ (names : List (List ℕ)) where
   abbrev group_line : List GroupValue → Option Row → Result GroupValue TopologyCode
@@ -37,19 +34,16 @@ module _ (names : List (List ℕ)) where
   moves_groups [] before n = moves_found before (place n [])
   moves_groups (row ∷ rows) before n =
       let p : Place = place n (row ∷ rows) in
-      let P : Result (List GroupValue × Place) (TopologyCode × ℕ) → Type 0 = λ z. Moves z p in
-      subst P (sym (groups_is before p))
+      subst (λ (z : Result (List GroupValue × Place) (TopologyCode × ℕ)). Moves z p) (sym (groups_is before p))
       (moves_choose (is_group (first p.rows)) before (line_part (group_line before) p >>= next_group before) p
       (λ goes. moves_bind (line_part (group_line before) p) (next_group before) p (moves_line (group_line before) p)
-      (λ x read. let (passed, at) = part_ok (group_line before) p x read in
-      let Q : Place → Type 0 = λ z. Moves (next_group before (x.0, z)) z in subst Q (sym at) (moves_groups rows (before ++ x.0 ∷ []) (n + 1)))))
+      (λ x read. subst (λ (z : Place). Moves (next_group before (x.0, z)) z) (sym (part_ok (group_line before) p x read).1) (moves_groups rows (before ++ x.0 ∷ []) (n + 1)))))
 
   alike_groups : (rows : List Row) (before : List GroupValue) (n : ℕ) (q : Place) → Alike (groups_from names before n rows) (groups_from names before q.number q.rows) (place n rows) q
   alike_groups [] before n q =
       let p : Place = place n [] in
-      let P : Result (List GroupValue × Place) (TopologyCode × ℕ) → Type 0 = λ z. Alike (found {C = TopologyCode} before p) z p q in
       let goes = line_part (group_line before) q >>= next_group before in
-      subst P (sym (groups_is before q)) (alike_stop is_group before goes goes p q refl)
+      subst (λ (z : Result (List GroupValue × Place) (TopologyCode × ℕ)). Alike (found {C = TopologyCode} before p) z p q) (sym (groups_is before q)) (alike_stop is_group before goes goes p q refl)
   alike_groups (row ∷ rows) before n q =
       let p : Place = place n (row ∷ rows) in
       let r = line_part (group_line before) p >>= next_group before in
@@ -61,8 +55,7 @@ module _ (names : List (List ℕ)) where
       (alike_choose is_group before r s p q
       (λ goes. moves_bind (line_part (group_line before) p) (next_group before) p (moves_line (group_line before) p) moved)
       (λ goes too. alike_bind (line_part (group_line before) p) (line_part (group_line before) q) (next_group before) (next_group before) p q (alike_line (group_line before) p q) moved
-      (λ x y read other. let (passed, at) = part_ok (group_line before) p x read in
-      let Q : Place → Type 0 = λ z. Alike (next_group before (x.0, z)) (next_group before (x.0, y)) z y in subst Q (sym at) (alike_groups rows (before ++ x.0 ∷ []) (n + 1) y)))))
+      (λ x y read other. subst (λ (z : Place). Alike (next_group before (x.0, z)) (next_group before (x.0, y)) z y) (sym (part_ok (group_line before) p x read).1) (alike_groups rows (before ++ x.0 ∷ []) (n + 1) y)))))
 
   pub steady_groups : Steady (groups_at names) (groups_at names)
   steady_groups = record { moves = λ p. moves_groups p.rows [] p.number; alike = λ p q. alike_groups p.rows [] p.number q }
@@ -92,21 +85,16 @@ module _ (names : List (List ℕ)) where
 
 -- ---- a topology
 
-abbrev given : List (List ℕ) → List GroupValue → Option PatternValue → Place → Result (NamedTopologyValue × Place) (TopologyCode × ℕ)
-given names groups custom p = Ok (named_with names groups custom, p)
-
-abbrev from_groups : Bool → List (List ℕ) → List GroupValue → Place → Result (NamedTopologyValue × Place) (TopologyCode × ℕ)
-from_groups patterned names groups p = pattern_at patterned names p >>= (λ x. given names groups x.0 x.1)
-
-abbrev from_names : Bool → List (List ℕ) → Place → Result (NamedTopologyValue × Place) (TopologyCode × ℕ)
-from_names patterned names p = groups_at names p >>= (λ x. from_groups patterned names x.0 x.1)
-
-abbrev from_header : Bool → Place → Result (NamedTopologyValue × Place) (TopologyCode × ℕ)
-from_header patterned p = line_part nodes_line p >>= (λ x. from_names patterned x.0 x.1)
+abbrev Topologies : Type 0
+Topologies = Place → Result (NamedTopologyValue × Place) (TopologyCode × ℕ)
 
 pub steady_topology : Steady topology_at topology_at
 unfolding topology_at named_at
 steady_topology =
+    let given : List (List ℕ) → List GroupValue → Option PatternValue → Topologies = λ names groups custom p. Ok (named_with names groups custom, p) in
+    let from_groups : Bool → List (List ℕ) → List GroupValue → Topologies = λ patterned names groups p. pattern_at patterned names p >>= (λ x. given names groups x.0 x.1) in
+    let from_names : Bool → List (List ℕ) → Topologies = λ patterned names p. groups_at names p >>= (λ x. from_groups patterned names x.0 x.1) in
+    let from_header : Bool → Topologies = λ patterned p. line_part nodes_line p >>= (λ x. from_names patterned x.0 x.1) in
     steady_then (line_part header_line) (line_part header_line) from_header from_header (steady_line header_line)
     (λ patterned. steady_then (line_part nodes_line) (line_part nodes_line) (from_names patterned) (from_names patterned) (steady_line nodes_line)
     (λ names. steady_then (groups_at names) (groups_at names) (from_groups patterned names) (from_groups patterned names) (steady_groups names)

@@ -6,35 +6,28 @@ use Rattle.topology_text.proofs.pattern.pattern_part.Goals as goal
 
 pub placement_of-requires : goal.placement_of-requires
 placement_of-requires c =
-    let names = c.args.names.now.keys in
     let base = c.in_ok-base.base in
     let found : Pairs = record { before = c.in_ok-found.found.before.items; after = c.in_ok-found.found.after.items } in
     let read : line_part custom_line c.args.lines.now.place ≡ Ok (base, c.custom_part.new.lines.place) = search rules in
-    let valid = lines_valid names c.args.lines.now.place base c.custom_part.new.lines.place found c.pairs_part.new.lines.place read c.in_ok-found.ensures.read in
-    let count : length names ≡ c.len-nodes.result = search rules in
-    let P : ℕ → Type 0 = λ n. IsPlacement (of_pairs base n found.before) in
-    let Q : List (ℕ × ℕ) → Type 0 = λ pairs. IsPlacement (of_pairs base c.len-nodes.result pairs) in
-    subst Q (sym c.deref.ensures.value) (subst P count valid.before)
+    let count : length c.args.names.now.keys ≡ c.len-nodes.result = search rules in
+    subst (λ (pairs : List (ℕ × ℕ)). IsPlacement (of_pairs base c.len-nodes.result pairs)) (sym c.deref.ensures.value)
+    (lines_valid c.args.names.now.keys c.args.lines.now.place base c.custom_part.new.lines.place found c.pairs_part.new.lines.place c.len-nodes.result read c.in_ok-found.ensures.read count).before
 
 pub placement_of-requires-2 : goal.placement_of-requires-2
 placement_of-requires-2 c =
-    let names = c.args.names.now.keys in
     let base = c.in_ok-base.base in
     let found : Pairs = record { before = c.in_ok-found.found.before.items; after = c.in_ok-found.found.after.items } in
     let read : line_part custom_line c.args.lines.now.place ≡ Ok (base, c.custom_part.new.lines.place) = search rules in
-    let valid = lines_valid names c.args.lines.now.place base c.custom_part.new.lines.place found c.pairs_part.new.lines.place read c.in_ok-found.ensures.read in
-    let count : length names ≡ c.len-nodes.result = search rules in
-    let P : ℕ → Type 0 = λ n. IsPlacement (of_pairs base n found.after) in
-    let Q : List (ℕ × ℕ) → Type 0 = λ pairs. IsPlacement (of_pairs base c.len-nodes.result pairs) in
-    subst Q (sym c.deref-2.ensures.value) (subst P count valid.after)
+    let count : length c.args.names.now.keys ≡ c.len-nodes.result = search rules in
+    subst (λ (pairs : List (ℕ × ℕ)). IsPlacement (of_pairs base c.len-nodes.result pairs)) (sym c.deref-2.ensures.value)
+    (lines_valid c.args.names.now.keys c.args.lines.now.place base c.custom_part.new.lines.place found c.pairs_part.new.lines.place c.len-nodes.result read c.in_ok-found.ensures.read count).after
 
 pub new-requires : goal.new-requires
 new-requires c =
-    let names = c.args.names.now.keys in
     let base = c.in_ok-base.base in
     let nodes = c.len-nodes.result in
     let found : Pairs = record { before = c.in_ok-found.found.before.items; after = c.in_ok-found.found.after.items } in
     let read : line_part custom_line c.args.lines.now.place ≡ Ok (base, c.custom_part.new.lines.place) = search rules in
-    let valid = lines_valid names c.args.lines.now.place base c.custom_part.new.lines.place found c.pairs_part.new.lines.place read c.in_ok-found.ensures.read in
-    let count : length names ≡ nodes = search rules in
-    pattern_made (length names) base nodes found c.in_ok-before.before c.in_ok-after.after valid count (c.in_ok-before.ensures ∙ ap (of_pairs base nodes) c.deref.ensures.value) (c.in_ok-after.ensures ∙ ap (of_pairs base nodes) c.deref-2.ensures.value)
+    let count : length c.args.names.now.keys ≡ nodes = search rules in
+    let valid = lines_valid c.args.names.now.keys c.args.lines.now.place base c.custom_part.new.lines.place found c.pairs_part.new.lines.place nodes read c.in_ok-found.ensures.read count in
+    pattern_made base nodes found c.in_ok-before.before c.in_ok-after.after valid (c.in_ok-before.ensures ∙ ap (of_pairs base nodes) c.deref.ensures.value) (c.in_ok-after.ensures ∙ ap (of_pairs base nodes) c.deref-2.ensures.value)

@@ -53,9 +53,6 @@ pub returns-in_err-push_name-clause-kept : goal.returns-in_err-push_name-clause-
 returns-in_err-push_name-clause-kept c =
     let old = c.args.out.now.items in
     let begun = c.push_number.new.out.items in
-    let middle = c.loop-node.out.items in
-    let held : ℕ → Bool = λ node. holds c.args.held.now (c.args.chunk, node) in
-    let words = fields (map (name_at c.args.names.now) (filter held (range_with_len 0 c.loop-node.node))) in
-    let first : StartsWith begun old = front_kept old c.push_word.new.out.items c.push_word-2.new.out.items begun _ _ _ c.in_ok-push_word.ensures.appended c.in_ok-push_word-2.ensures.appended c.in_ok-push_number.ensures.appended in
-    at_err c.from_residual-in_err-push_name.result (StartsWith c.push_name.new.out.items old)
-    (kept_on c.push_name.new.out.items begun old (kept_behind c.push_name.new.out.items middle begun words c.in_err-push_name.ensures.kept c.loop-node.invariant) first)
+    let last = c.push_name.new.out.items in
+    let first = front_kept old c.push_word.new.out.items c.push_word-2.new.out.items begun _ _ _ c.in_ok-push_word.ensures.appended c.in_ok-push_word-2.ensures.appended c.in_ok-push_number.ensures.appended in
+    at_err c.from_residual-in_err-push_name.result (StartsWith last old) (kept_on last begun old (kept_behind last c.loop-node.out.items begun _ c.in_err-push_name.ensures.kept c.loop-node.invariant) first)

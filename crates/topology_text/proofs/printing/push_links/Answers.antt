@@ -17,7 +17,5 @@ loop-from-preserved c = links_more c.args.names.now c.args.links.now c.loop-from
 
 pub returns-in_err-push_link-clause-kept : goal.returns-in_err-push_link-clause-kept
 returns-in_err-push_link-clause-kept c =
-    let old = c.args.out.now.items in
-    let middle = c.loop-from.out.items in
-    let words = fields (map (link_word c.args.names.now) (take c.loop-from.from-index c.args.links.now)) in
-    at_err c.from_residual.result (StartsWith c.push_link.new.out.items old) (kept_behind c.push_link.new.out.items middle old words c.in_err-push_link.ensures.kept c.loop-from.invariant)
+    let last = c.push_link.new.out.items in
+    at_err c.from_residual.result (StartsWith last c.args.out.now.items) (kept_behind last c.loop-from.out.items c.args.out.now.items _ c.in_err-push_link.ensures.kept c.loop-from.invariant)

@@ -21,18 +21,15 @@ pub returns-in_err-push_holders-clause-kept : goal.returns-in_err-push_holders-c
 returns-in_err-push_holders-clause-kept c =
     let old = c.args.out.now.items in
     let begun = c.push_word-2.new.out.items in
-    let lines = text_of (flat_map (chunk_lines c.args.names.now c.args.pattern.now) (range_with_len 0 c.loop-chunk.chunk)) in
+    let last = c.push_holders.new.out.items in
     let first = front_kept old c.push_word.new.out.items c.push_number.new.out.items begun _ _ _ c.in_ok-push_word.ensures.appended c.in_ok-push_number.ensures.appended c.in_ok-push_word-2.ensures.appended in
-    at_err c.from_residual-in_err-push_holders.result (StartsWith c.push_holders.new.out.items old)
-    (kept_on c.push_holders.new.out.items begun old (kept_behind c.push_holders.new.out.items c.loop-chunk.out.items begun lines c.in_err-push_holders.ensures.kept c.loop-chunk.invariant) first)
+    at_err c.from_residual-in_err-push_holders.result (StartsWith last old) (kept_on last begun old (kept_behind last c.loop-chunk.out.items begun _ c.in_err-push_holders.ensures.kept c.loop-chunk.invariant) first)
 
 pub returns-in_err-push_holders-2-clause-kept : goal.returns-in_err-push_holders-2-clause-kept
 returns-in_err-push_holders-2-clause-kept c =
     let old = c.args.out.now.items in
     let begun = c.push_word-2.new.out.items in
-    let middle = c.push_holders.new.out.items in
     let last = c.push_holders-in-loop-chunk.new.out.items in
-    let lines = text_of (flat_map (chunk_lines c.args.names.now c.args.pattern.now) (range_with_len 0 c.loop-chunk.chunk)) in
     let first = front_kept old c.push_word.new.out.items c.push_number.new.out.items begun _ _ _ c.in_ok-push_word.ensures.appended c.in_ok-push_number.ensures.appended c.in_ok-push_word-2.ensures.appended in
-    let second = kept_behind last middle c.loop-chunk.out.items _ c.in_err-push_holders-2.ensures.kept c.in_ok-push_holders.ensures.appended in
-    at_err c.from_residual-in_err-push_holders-2.result (StartsWith last old) (kept_on last begun old (kept_behind last c.loop-chunk.out.items begun lines second c.loop-chunk.invariant) first)
+    let second = kept_behind last c.push_holders.new.out.items c.loop-chunk.out.items _ c.in_err-push_holders-2.ensures.kept c.in_ok-push_holders.ensures.appended in
+    at_err c.from_residual-in_err-push_holders-2.result (StartsWith last old) (kept_on last begun old (kept_behind last c.loop-chunk.out.items begun _ second c.loop-chunk.invariant) first)
