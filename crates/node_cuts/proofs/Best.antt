@@ -34,7 +34,7 @@ not_both f x greater =
     let less : x.above * f.below < f.above * x.below = ltb-true (x.above * f.below) (f.above * x.below) greater in
     le-ltb (f.above * x.below) (x.above * f.below) (omega (arith, less))
 
-not_itself : (f : Floor) → exceeds f f ≡ false
+pub not_itself : (f : Floor) → exceeds f f ≡ false
 not_itself f = le-ltb (f.above * f.below) (f.above * f.below) (omega arith)
 
 -- ---- the first of the greatest

@@ -1,52 +1,23 @@
 -- The groups of each cover have every usable link into the set, so that they carry all that comes in.
-use Rattle.std.proofs.Common.{◌≡◌, ℕ, zero, suc, ◌+◌, ◌*◌, ◌<◌, ◌≤◌, Bool, true, false, ◌||◌, ◌&&◌, cond, List, [], ◌∷◌, ◌++◌, length, reverse, get_or, refl, sym, ap, ◌∙◌, ⊎_elim, arith, ◌==◌, count_by, filter, nat_lt, not, Option, None, Some}
-use Rattle.std.{specs.{List.{list_any, range_with_len}, Option.{is_some, option_map_or}}, proofs.{Math.Nat.add-mul, lemmas.List.get_or_past}}
-use Rattle.std.proofs.lemmas.Bool.{false≢true, cases_Bool, cases_eq, cases_lt, or_left, or_right, or_cases, and_parts, and_from, not_from_false, eq-eqb}
-use Rattle.std.proofs.lemmas.List.{Folds.list_any-append, Sorted.{IsPermutation-reverse, list_any-IsPermutation}, Sums.sum_by-cons}
-use Rattle.schedule.specs.{declared.hop.Hop.Hop, Links.{TopologyValue, has_link, is_usable}, Placed.same_pair, Sends.{ScheduleValue, link_of}, Judging.group_at}
+use Rattle.std.proofs.Common.{◌≡◌, ℕ, zero, suc, ◌+◌, ◌*◌, ◌<◌, ◌≤◌, Bool, true, false, ◌||◌, ◌&&◌, cond, List, [], ◌∷◌, ◌++◌, length, reverse, refl, sym, ap, ◌∙◌, ⊎_elim, arith, ◌==◌, count_by, nat_lt, not, Option, None, Some}
+use Rattle.std.{specs.{List.list_any, Option.option_map_or}, proofs.{Math.Nat.add-mul, lemmas.List.{get_or_default, get_or_past}}}
+use Rattle.std.proofs.lemmas.Bool.{both_ways, cases_Bool, cases_lt, cond_both, false≢true, or_left, or_right, or_cases, and_parts, and_from, not_from_false, eq-eqb}
+use Rattle.std.proofs.lemmas.List.{Folds.{Any-from_list_any, list_any-append}, Sorted.{IsPermutation-reverse, list_any-IsPermutation}, Sums.sum_by-cons}
+use Rattle.schedule.specs.{declared.hop.Hop.Hop, Links.{TopologyValue, has_link, is_usable}, Sends.{ScheduleValue, link_of}, Judging.group_at}
 use Rattle.schedule.specs.Fitting.{load, rounds_at}
-use Rattle.schedule.proofs.{Placing.pair_is, First.{any_found, any_among, among_kept}}
+use Rattle.schedule.proofs.{First.{any_found, any_among}, Ordered.among_from_any}
 use Rattle.list_laws.proofs.Ranges.{any_at}
 use Rattle.node_cuts.specs.{declared.sets.Sets.{Sets, TheVariants.{Nothing, Listed, All}}, Sides.NodeSet}
-use Rattle.node_cuts.specs.Cuts.{enters, is_among, opens, opens_more, taken_along, best_of, best_taken, all_groups, ascending, cover, cover_back, cover_greedily, cover_by, narrower, width_of}
-use Rattle.node_cuts.proofs.Counting.{no_more_than_both, none_counted}
+use Rattle.node_cuts.specs.Cuts.{enters, is_among, opens, taken_along, best_of, best_taken, all_groups, ascending, cover, cover_back, cover_greedily, cover_by, narrower, width_of}
+use Rattle.node_cuts.proofs.{Choosing.{any_filter, chosen, is_new}, Counting.{no_more_than_both, none_counted}}
 
--- an element that passes stands at a place
-place_of : {X : Type 0} (p : X → Bool) (xs : List X) (d : X) → list_any p xs ≡ true → (k : ℕ) × (k < length xs) × (p (get_or xs k d) ≡ true)
-place_of p [] d some = absurd (false≢true some)
-place_of p (x ∷ xs) d some =
+-- a group that has a link is one of the topology's
+pub in_range : (t : TopologyValue) (g : ℕ) (link : ℕ × ℕ) → has_link (group_at t g) link ≡ true → g < length t.groups
+in_range t g link stands =
     ⊎_elim
-    (λ (here : p x ≡ true). (0, omega arith, here))
-    (λ (later : p x ≡ false). let rest = place_of p xs d (rw later at some) in (suc rest.0, omega (arith, rest.1), rest.2))
-    (cases_Bool (p x))
-
-some_best : (u : NodeSet) (t : TopologyValue) (taken : List ℕ) (best : ℕ) (others : List ℕ) → best_of u t taken (Some best) others ≡ None → ⊥
-some_best u t taken best [] is = false≢true (sym (ap is_some is))
-some_best u t taken best (g ∷ others) is =
-    ⊎_elim
-    (λ (more : opens_more u t taken g best ≡ true). some_best u t taken g others (rw more at is))
-    (λ (no_more : opens_more u t taken g best ≡ false). some_best u t taken best others (rw no_more at is))
-    (cases_Bool (opens_more u t taken g best))
-
--- where no group is the best, none opens the set
-pub none_opens : (u : NodeSet) (t : TopologyValue) (taken : List ℕ) (k a n : ℕ) → best_of u t taken None (range_with_len a n) ≡ None → a ≤ k → k < a + n → opens u t taken k ≡ false
-none_opens u t taken k a zero is from to = absurd (omega (arith, from, to))
-none_opens u t taken k a (suc n) is from to =
-    ⊎_elim
-    (λ (yes : opens u t taken a ≡ true). absurd (some_best u t taken a (range_with_len (a + 1) n) (ap (λ b. best_of u t taken (cond b (Some a) None) (range_with_len (a + 1) n)) (sym yes) ∙ is)))
-    (λ (no : opens u t taken a ≡ false).
-    ⊎_elim
-    (λ (here : k ≡ a). ap (opens u t taken) here ∙ no)
-    (λ (later : k ≡ a → ⊥). none_opens u t taken k (a + 1) n (ap (λ b. best_of u t taken (cond b (Some a) None) (range_with_len (a + 1) n)) (sym no) ∙ is) (omega (arith, from, later)) (omega (arith, to)))
-    (cases_eq k a))
-    (cases_Bool (opens u t taken a))
-
--- what passes both tests is found among what passes the first
-any_kept : {X : Type 0} (p q : X → Bool) (xs : List X) → list_any (λ x. p x && q x) xs ≡ true → list_any q (filter p xs) ≡ true
-any_kept p q xs some =
-    let found = any_found (λ x. p x && q x) xs some in
-    let parts = and_parts (p found.0) (q found.0) found.2 in
-    any_among q found.0 (filter p xs) (among_kept p found.0 xs found.1 parts.0) parts.1
+    (λ (inside : g < length t.groups). inside)
+    (λ (past : length t.groups ≤ g). absurd (false≢true (sym (ap (λ group. has_link group link) (get_or_past t.groups g (record { links = []; width = 0 }) past)) ∙ stands)))
+    (cases_lt g (length t.groups))
 
 module _ (u : NodeSet) (t : TopologyValue) where
   module _ (link : ℕ × ℕ) (into : enters u link ≡ true) where
@@ -56,10 +27,8 @@ module _ (u : NodeSet) (t : TopologyValue) where
     -- a group that has the link opens the set, where the link stands in no group taken before
     opens_here : (taken : List ℕ) (n : ℕ) → has n ≡ true → is_among t taken link ≡ false → opens u t taken n ≡ true
     opens_here taken n stands not_yet =
-        let found = any_found (same_pair link) (group_at t n).links stands in
-        let it : link ≡ found.0 = pair_is link found.0 found.2 in
-        let new : (enters u found.0 && not (is_among t taken found.0)) ≡ true = ap (λ l. enters u l && not (is_among t taken l)) (sym it) ∙ and_from (enters u link) (not (is_among t taken link)) into (not_from_false (is_among t taken link) not_yet) in
-        any_among (λ l. enters u l && not (is_among t taken l)) found.0 (group_at t n).links found.1 new
+        any_among (is_new u t taken) link (group_at t n).links (among_from_any link (group_at t n).links stands)
+        (and_from (enters u link) (not (is_among t taken link)) into (not_from_false (is_among t taken link) not_yet))
 
     stays_along : (taken gs : List ℕ) → is_among t taken link ≡ true → is_among t (taken_along u t taken gs) link ≡ true
     stays_along taken [] already = already
@@ -82,22 +51,13 @@ module _ (u : NodeSet) (t : TopologyValue) where
         (λ (later : list_any has gs ≡ true). covers_along (taken ++ more) gs later)
         (or_cases (has g) (list_any has gs) some)
 
-    -- a group that has the link is one of the topology's
-    in_range : (g : ℕ) → has g ≡ true → g < length t.groups
-    in_range g stands =
-        ⊎_elim
-        (λ (inside : g < length t.groups). inside)
-        (λ (past : length t.groups ≤ g). absurd (false≢true (sym (ap (λ group. has_link group link) (get_or_past t.groups g (record { links = []; width = 0 }) past)) ∙ stands)))
-        (cases_lt g (length t.groups))
-
     stays_ascending : (taken : List ℕ) → is_among t taken link ≡ true → is_among t (ascending t taken) link ≡ true
     stays_ascending taken already =
+        let among : ℕ → Bool = λ g. list_any (λ other. other == g) taken in
         let found = any_found has taken already in
-        let inside : found.0 < length t.groups = in_range found.0 found.2 in
-        let taken_one : list_any (λ other. other == found.0) taken ≡ true = any_among (λ other. other == found.0) found.0 taken found.1 (eq-eqb found.0 found.0 refl) in
-        any_kept (λ g. list_any (λ other. other == g) taken) has (all_groups t)
-        (any_at (λ g. list_any (λ other. other == g) taken && has g) 0 (length t.groups) found.0 (omega arith) (omega (arith, inside))
-        (and_from (list_any (λ other. other == found.0) taken) (has found.0) taken_one found.2))
+        any_filter among has (all_groups t)
+        ∙ any_at (λ g. among g && has g) 0 (length t.groups) found.0 (omega arith) (omega (arith, in_range t found.0 link found.2))
+        (and_from (among found.0) (has found.0) (any_among (λ other. other == found.0) found.0 taken found.1 (eq-eqb found.0 found.0 refl)) found.2)
 
     by_best : (turns : ℕ) (taken : List ℕ) (k : ℕ) → has k ≡ true → ((g : ℕ) → is_among t (best_taken u t turns (taken ++ g ∷ [])) link ≡ true)
         → (best : Option ℕ) → best_of u t taken None (all_groups t) ≡ best → is_among t (option_map_or (λ g. best_taken u t turns (taken ++ g ∷ [])) best (ascending t taken)) link ≡ true
@@ -105,14 +65,12 @@ module _ (u : NodeSet) (t : TopologyValue) where
     by_best turns taken k stands more None is =
         ⊎_elim
         (λ (already : is_among t taken link ≡ true). stays_ascending taken already)
-        (λ (not_yet : is_among t taken link ≡ false).
-        let none : opens u t taken k ≡ false = none_opens u t taken k 0 (length t.groups) is (omega arith) (omega (arith, in_range k stands)) in
-        absurd (false≢true (sym none ∙ opens_here taken k stands not_yet)))
+        (λ (not_yet : is_among t taken link ≡ false). absurd (both_ways (opens u t taken k) (chosen u t taken None is k (in_range t k link stands)) (opens_here taken k stands not_yet)))
         (cases_Bool (is_among t taken link))
 
     -- until no group opens the set, each link into it that stands in a group stands in one that is taken
     covers_best : (turns : ℕ) (taken : List ℕ) (k : ℕ) → has k ≡ true → is_among t (best_taken u t turns taken) link ≡ true
-    covers_best zero taken k stands = any_at has 0 (length t.groups) k (omega arith) (omega (arith, in_range k stands)) stands
+    covers_best zero taken k stands = any_at has 0 (length t.groups) k (omega arith) (omega (arith, in_range t k link stands)) stands
     covers_best (suc turns) taken k stands =
         by_best turns taken k stands (λ g. covers_best turns (taken ++ g ∷ []) k stands) (best_of u t taken None (all_groups t)) refl
 
@@ -120,17 +78,15 @@ module _ (u : NodeSet) (t : TopologyValue) where
   Covers groups = (link : ℕ × ℕ) → enters u link ≡ true → is_usable t link ≡ true → is_among t groups link ≡ true
 
   stands_at : (link : ℕ × ℕ) → is_usable t link ≡ true → (k : ℕ) × (k < length t.groups) × (has_link (group_at t k) link ≡ true)
-  stands_at link usable = place_of (λ group. has_link group link) t.groups (record { links = []; width = 0 }) usable
+  stands_at link usable =
+      let at = Any-from_list_any (λ group. has_link group link) t.groups usable in
+      (at.0, at.2, ap (λ group. has_link group link) (get_or_default t.groups at.0 (record { links = []; width = 0 }) at.1 at.2 ∙ at.3) ∙ at.4)
 
   stands_in_all : (link : ℕ × ℕ) → is_usable t link ≡ true → list_any (λ g. has_link (group_at t g) link) (all_groups t) ≡ true
   stands_in_all link usable = let at = stands_at link usable in any_at (λ g. has_link (group_at t g) link) 0 (length t.groups) at.0 (omega arith) (omega (arith, at.1)) at.2
 
   narrower_covers : (first second : List ℕ) → Covers first → Covers second → Covers (narrower t first second)
-  narrower_covers first second one other =
-      ⊎_elim
-      (λ (less : nat_lt (width_of t second) (width_of t first) ≡ true). rw less other)
-      (λ (no_less : nat_lt (width_of t second) (width_of t first) ≡ false). rw no_less one)
-      (cases_Bool (nat_lt (width_of t second) (width_of t first)))
+  narrower_covers first second one other = cond_both (nat_lt (width_of t second) (width_of t first)) second first Covers (λ less. other) (λ no_less. one)
 
   cover_covers : Covers (cover u t)
   cover_covers link into usable = covers_along link into [] (all_groups t) (stands_in_all link usable)
@@ -157,17 +113,16 @@ pub carried : (t : TopologyValue) (s : ScheduleValue) (step : ℕ) (p : Hop → 
 carried t s step p now within [] =
     omega (arith, none_counted (λ (h : Hop). p h && false) (λ h both. false≢true (and_parts (p h) false both).1) s.sends)
 carried t s step p now within (g ∷ gs) =
-    let here : Hop → Bool = λ h. h.step == step && has_link (group_at t g) (link_of h) in
-    let rest : Hop → Bool = λ h. p h && is_among t gs (link_of h) in
-    let one_of : (h : Hop) → (p h && (has_link (group_at t g) (link_of h) || is_among t gs (link_of h))) ≡ true → (here h || rest h) ≡ true = λ h both.
-    let parts = and_parts (p h) (has_link (group_at t g) (link_of h) || is_among t gs (link_of h)) both in
+    let has : Hop → Bool = λ h. has_link (group_at t g) (link_of h) in
+    let later : Hop → Bool = λ h. is_among t gs (link_of h) in
+    let here : Hop → Bool = λ h. h.step == step && has h in
+    let rest : Hop → Bool = λ h. p h && later h in
+    let one_of : (h : Hop) → (p h && (has h || later h)) ≡ true → (here h || rest h) ≡ true = λ h both.
+    let parts = and_parts (p h) (has h || later h) both in
     ⊎_elim
-    (λ (first : has_link (group_at t g) (link_of h) ≡ true). or_left (here h) (rest h) (and_from (h.step == step) (has_link (group_at t g) (link_of h)) (eq-eqb h.step step (now h parts.0)) first))
-    (λ (later : is_among t gs (link_of h) ≡ true). or_right (here h) (rest h) (and_from (p h) (is_among t gs (link_of h)) parts.0 later))
-    (or_cases (has_link (group_at t g) (link_of h)) (is_among t gs (link_of h)) parts.1) in
-    let split : count_by (λ (h : Hop). p h && is_among t (g ∷ gs) (link_of h)) s.sends ≤ count_by here s.sends + count_by rest s.sends = no_more_than_both (λ (h : Hop). p h && is_among t (g ∷ gs) (link_of h)) here rest one_of s.sends in
-    let first : count_by here s.sends ≤ (group_at t g).width * rounds_at s step = within g in
-    let others : count_by rest s.sends ≤ width_of t gs * rounds_at s step = carried t s step p now within gs in
-    let whole : width_of t (g ∷ gs) ≡ (group_at t g).width + width_of t gs = sum_by-cons (λ group. (group_at t group).width) g gs in
-    let product : width_of t (g ∷ gs) * rounds_at s step ≡ (group_at t g).width * rounds_at s step + width_of t gs * rounds_at s step = ap (λ w. w * rounds_at s step) whole ∙ add-mul (group_at t g).width (width_of t gs) (rounds_at s step) in
-    omega (arith, split, first, others, product)
+    (λ (first : has h ≡ true). or_left (here h) (rest h) (and_from (h.step == step) (has h) (eq-eqb h.step step (now h parts.0)) first))
+    (λ (other : later h ≡ true). or_right (here h) (rest h) (and_from (p h) (later h) parts.0 other))
+    (or_cases (has h) (later h) parts.1) in
+    let product : width_of t (g ∷ gs) * rounds_at s step ≡ (group_at t g).width * rounds_at s step + width_of t gs * rounds_at s step =
+    ap (λ w. w * rounds_at s step) (sum_by-cons (λ group. (group_at t group).width) g gs) ∙ add-mul (group_at t g).width (width_of t gs) (rounds_at s step) in
+    omega (arith, no_more_than_both (λ (h : Hop). p h && is_among t (g ∷ gs) (link_of h)) here rest one_of s.sends, within g, carried t s step p now within gs, product)

@@ -1,9 +1,9 @@
 use Rattle.std.proofs.Common.{◌≡◌, ◌+◌, ◌-◌, ◌<◌, ◌&&◌, ℕ, suc, Bool, true, List, [], ◌∷◌, ◌++◌, length, sym, ap, ◌∙◌, subst, arith, None, Some, filter, not}
-use Rattle.std.{specs.{List.list_any, Option.option_map_or}, proofs.lemmas.List.Elements.{All-append, All-cons, All-filter, All-nil, All-same}}
+use Rattle.std.{specs.{List.list_any, Option.option_map_or}, proofs.lemmas.List.Elements.{All-append, All-cons, All-filter, All-nil, All-same, filter_agree}}
 use Rattle.std.proofs.lemmas.Result.{IfOk-weaker}
 use Rattle.schedule.specs.{Links.{GroupValue, has_link}, Placed.same_pair, Tables.{Marks, marked_at}, Judging.group_at}
 use Rattle.node_cuts.specs.{Cuts.{all_groups, ascending, best_of, best_taken, opens}, Opened.{MarksOpen, RemovesGroups, is_alone, is_open}}
-use Rattle.node_cuts.proofs.{Apart.{alone_first, first_ones}, Choosing.{best_left, filter_alike, filter_both, left_after}, Within.all_within}
+use Rattle.node_cuts.proofs.{Apart.{alone_first, first_ones}, Choosing.{best_left, filter_both, left_after}, Within.all_within}
 use Rattle.node_cuts.proofs.Opening.{open_after, open_first, taken_next, told}
 use Rattle.node_cuts.proofs.greedy.cover_greedily.Goals as goal
 
@@ -47,10 +47,10 @@ loop-turn-init c =
           let marks : MarksOpen new u t taken = open_after u t cells new taken start removed in
           let first : length t.groups - c.len-first.result ≡ length t.groups - length taken = omega (arith, c.len-first.ensures, c.in_ok-taken.taken.ok) in
           let alone_is : taken ≡ filter (first_ones u t) (all_groups t) = taken_is
-          ∙ filter_alike keeps (opens u t []) (λ g. told u t [] cells (open_first u t cells start) g c.groups-turn-end.ensures.limits) alone
+          ∙ filter_agree keeps (opens u t []) (λ g. told u t [] cells (open_first u t cells start) g c.groups-turn-end.ensures.limits) alone
           ∙ filter_both (is_alone t) (opens u t []) (all_groups t) in (
             marks,
-            left_is ∙ filter_alike keeps_now (opens u t taken) (λ g. told u t taken new marks g c.groups-turn-end.ensures.limits) (all_groups t),
+            left_is ∙ filter_agree keeps_now (opens u t taken) (λ g. told u t taken new marks g c.groups-turn-end.ensures.limits) (all_groups t),
             ap (λ n. best_taken u t n taken) first ∙ ap (λ gs. best_taken u t (length t.groups - length gs) gs) alone_is ∙ alone_first u t,
           );
     }
@@ -98,7 +98,7 @@ loop-turn-preserved c =
           let after : Marks new (λ link. marked_at cells link && not (has_link (group_at t best) link)) = subst (λ links. Marks new (λ link. marked_at cells link && not (list_any (same_pair link) links))) links_are c.remove.ensures in
           let marks : MarksOpen new u t (taken ++ best ∷ []) = taken_next u t taken cells prior.0 best true new after in (
             subst (MarksOpen new u t) (sym taken_is) marks,
-            left_is ∙ filter_alike keeps (opens u t (taken ++ best ∷ [])) (λ g. told u t (taken ++ best ∷ []) new marks g c.groups-turn-end.ensures.limits) left
+            left_is ∙ filter_agree keeps (opens u t (taken ++ best ∷ [])) (λ g. told u t (taken ++ best ∷ []) new marks g c.groups-turn-end.ensures.limits) left
                 ∙ ap (filter (opens u t (taken ++ best ∷ []))) prior.1 ∙ left_after u t taken best (all_groups t) ∙ ap (λ gs. filter (opens u t gs) (all_groups t)) (sym taken_is),
             ap (best_taken u t (length t.groups - (turn + 1))) taken_is
                 ∙ ap (λ o. option_map_or (λ b. best_taken u t (length t.groups - (turn + 1)) (taken ++ b ∷ [])) o (ascending t taken)) (sym chosen)
