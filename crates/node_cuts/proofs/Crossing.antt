@@ -1,15 +1,15 @@
 -- Whatever its steps, a schedule that solves brings each needed chunk into the set by a send of its own, so that they are no more than come in in its rounds.
-use Rattle.std.proofs.Common.{◌≡◌, ℕ, zero, suc, ◌+◌, ◌-◌, ◌*◌, ◌<◌, ◌≤◌, Bool, true, false, ◌||◌, ◌&&◌, cond, List, [], ◌∷◌, length, get_or, take, refl, sym, ap, ◌∙◌, inl, inr, ⊎_elim, arith, Option, None, Some, find, ◌==◌, count_by, not, nat_le, nat_lt, sum, ◌⊎◌}
+use Rattle.std.proofs.Common.{◌≡◌, ℕ, zero, suc, ◌+◌, ◌-◌, ◌*◌, ◌<◌, ◌≤◌, Bool, true, false, ◌||◌, ◌&&◌, cond, List, [], ◌∷◌, length, get_or, take, refl, sym, ap, ◌∙◌, inl, inr, ⊎_elim, arith, Some, find, ◌==◌, count_by, not, nat_le, nat_lt, sum, ◌⊎◌}
 use Rattle.std.{specs.{Option.{is_some, option_map}, List.{list_any, range_with_len}}, proofs.{Math.Nat.mul-add, lemmas.List.{take_all, get_or_past}}}
 use Rattle.std.proofs.lemmas.Bool.{false≢true, cases_Bool, cases_eq, cases_lt, or_left, or_right, or_cases, and_parts, and_from, and_left, both_ways, lt-leb, not_from_false, not-true, eq-eqb, eqb-true, le-leb, leb-true, lt-ltb, ltb-true}
-use Rattle.std.proofs.lemmas.{List.{Sums.{sum_by-cons, sum_by_more}, Elements.{All-get_or, recursion_from_All}}, Map.Views.any-filter_same}
+use Rattle.std.proofs.lemmas.{List.{Sums.sum_by_more, Elements.{All-get_or, recursion_from_All}}, Map.Views.any-filter_same}
 use Rattle.list_laws.proofs.Tests.{find-map}
 use Rattle.schedule.specs.{declared.hop.Hop.Hop, Links.{TopologyValue, is_usable}, Placed.{PlacementValue, holds, placed, same_pair, all_pairs}, Solving.Solves}
 use Rattle.schedule.specs.{Sends.{ScheduleValue, link_of}, Running.{after, brings}, Fitting.{Fits, load, rounds_at}, Judging.group_at}
-use Rattle.schedule.proofs.{First.{Among, among_each, any_found, any_among}, Placing.pair_is}
+use Rattle.schedule.proofs.{First.{Among, among_each, any_found, any_among}, Ordered.among_from_any, Placing.pair_is}
 use Rattle.node_cuts.specs.{declared.sets.Sets.Sets, Sides.{NodeSet, node_sets}}
 use Rattle.node_cuts.specs.{Cuts.{stands_in, is_needed, need_of, enters, is_among, cover_by, width_by, CutValue, cut_of, first_cut_of}, inner.Refuting.cut_refutes}
-use Rattle.node_cuts.proofs.{Counting.{no_fewer, no_fewer_of, one_more, no_more_than_both, none_counted}, Covered.{covered, carried}}
+use Rattle.node_cuts.proofs.{Counting.{counted, no_fewer, no_fewer_of, one_more, no_more_than_both, none_counted}, Covered.{covered, carried}}
 
 -- what the placement of a test holds passes it
 passes_placed : (chunks nodes : ℕ) (f : ℕ × ℕ → Bool) (pair : ℕ × ℕ) → holds (placed chunks nodes f) pair ≡ true → f pair ≡ true
@@ -26,8 +26,8 @@ module _ (u : NodeSet) (s : ScheduleValue) where
   comes_in_later n h in_time =
       let first = and_parts (nat_lt 0 h.step) (nat_le h.step n && enters u (link_of h)) in_time in
       let second = and_parts (nat_le h.step n) (enters u (link_of h)) first.1 in
-      let low : h.step ≤ suc n = omega (arith, leb-true h.step n second.0) in
-      and_from (nat_lt 0 h.step) (nat_le h.step (suc n) && enters u (link_of h)) first.0 (and_from (nat_le h.step (suc n)) (enters u (link_of h)) (le-leb h.step (suc n) low) second.1)
+      and_from (nat_lt 0 h.step) (nat_le h.step (suc n) && enters u (link_of h)) first.0
+      (and_from (nat_le h.step (suc n)) (enters u (link_of h)) (le-leb h.step (suc n) (omega (arith, leb-true h.step n second.0))) second.1)
 
   -- some send of the chunk comes in
   pub record Enters (n chunk : ℕ) : Type 0 where
@@ -42,9 +42,7 @@ module _ (u : NodeSet) (s : ScheduleValue) where
   -- what stands in the set after so many steps stood in it before all of them, or came in by a send
   arrives : (pre : PlacementValue) (n chunk node : ℕ) → u node ≡ true → holds (after pre s n) (chunk, node) ≡ true → (stands_in u pre chunk ≡ true) ⊎ Enters n chunk
   arrives pre zero chunk node member held =
-      let found = any_found (same_pair (chunk, node)) pre.pairs held in
-      let it : (chunk, node) ≡ found.0 = pair_is (chunk, node) found.0 found.2 in
-      inl (any_among (λ pair. pair.0 == chunk && u pair.1) found.0 pre.pairs found.1 (ap (λ (pair : ℕ × ℕ). pair.0 == chunk && u pair.1) (sym it) ∙ and_from (chunk == chunk) (u node) (eq-eqb chunk chunk refl) member))
+      inl (any_among (λ pair. pair.0 == chunk && u pair.1) (chunk, node) pre.pairs (among_from_any (chunk, node) pre.pairs held) (and_from (chunk == chunk) (u node) (eq-eqb chunk chunk refl) member))
   arrives pre (suc n) chunk node member held =
       let before : PlacementValue = after pre s n in
       let either : (holds before (chunk, node) || list_any (brings before (n + 1) (chunk, node)) s.sends) ≡ true = passes_placed before.chunks before.nodes (λ pair. holds before pair || list_any (brings before (n + 1) pair) s.sends) (chunk, node) held in
@@ -58,7 +56,6 @@ module _ (u : NodeSet) (s : ScheduleValue) where
       let rest = and_parts (same_pair (h.chunk, h.to) (chunk, node)) (holds before (h.chunk, h.from)) parts.1 in
       let same : (h.chunk, h.to) ≡ (chunk, node) = pair_is (h.chunk, h.to) (chunk, node) rest.0 in
       let chunk_is : h.chunk ≡ chunk = ap (λ (pair : ℕ × ℕ). pair.0) same in
-      let to_is : h.to ≡ node = ap (λ (pair : ℕ × ℕ). pair.1) same in
       ⊎_elim
       (λ (inside : u h.from ≡ true). up (arrives pre n chunk h.from inside (ap (λ c. holds before (c, h.from)) (sym chunk_is) ∙ rest.1)))
       (λ (outside : u h.from ≡ false).
@@ -69,7 +66,7 @@ module _ (u : NodeSet) (s : ScheduleValue) where
         chunk_is = chunk_is;
         inside = and_from (nat_lt 0 h.step) (nat_le h.step (suc n) && enters u (link_of h)) (lt-ltb 0 h.step (omega (arith, step_is)))
             (and_from (nat_le h.step (suc n)) (enters u (link_of h)) (le-leb h.step (suc n) (omega (arith, step_is)))
-            (and_from (not (u h.from)) (u h.to) (not_from_false (u h.from) outside) (ap u to_is ∙ member)));
+            (and_from (not (u h.from)) (u h.to) (not_from_false (u h.from) outside) (ap (λ (pair : ℕ × ℕ). u pair.1) same ∙ member)));
       }))
       (cases_Bool (u h.from)))
       (or_cases (holds before (chunk, node)) (list_any (brings before (n + 1) (chunk, node)) s.sends) either)
@@ -90,12 +87,8 @@ module _ (u : NodeSet) (s : ScheduleValue) where
       let chunk_is : e.hop.chunk ≡ a = e.chunk_is in
       let passes : here e.hop ≡ true = and_from (nat_le a e.hop.chunk) (comes_in n e.hop) (le-leb a e.hop.chunk (omega (arith, chunk_is))) e.inside in
       let fails : next e.hop ≡ false = and_left (nat_le (a + 1) e.hop.chunk) (comes_in n e.hop) (lt-leb (a + 1) e.hop.chunk (omega (arith, chunk_is))) in
-      let more : count_by next s.sends + 1 ≤ count_by here s.sends = one_more next here weaker s.sends e.hop e.sent passes fails in
-      let whole : count_by p (a ∷ range_with_len (a + 1) len) ≡ cond {A = ℕ} (p a) 1 0 + count_by p (range_with_len (a + 1) len) = sum_by-cons (λ x. cond (p x) 1 0) a (range_with_len (a + 1) len) in
-      omega (arith, whole, ap (λ b. cond {A = ℕ} b 1 0) yes, rest, more))
-      (λ (no : p a ≡ false).
-      let whole : count_by p (a ∷ range_with_len (a + 1) len) ≡ cond {A = ℕ} (p a) 1 0 + count_by p (range_with_len (a + 1) len) = sum_by-cons (λ x. cond (p x) 1 0) a (range_with_len (a + 1) len) in
-      omega (arith, whole, ap (λ b. cond {A = ℕ} b 1 0) no, rest, no_fewer next here weaker s.sends))
+      omega (arith, counted p a (range_with_len (a + 1) len), ap (λ b. cond {A = ℕ} b 1 0) yes, rest, one_more next here weaker s.sends e.hop e.sent passes fails))
+      (λ (no : p a ≡ false). omega (arith, counted p a (range_with_len (a + 1) len), ap (λ b. cond {A = ℕ} b 1 0) no, rest, no_fewer next here weaker s.sends))
       (cases_Bool (p a))
 
   -- ---- what comes in in the first steps
@@ -106,9 +99,11 @@ module _ (u : NodeSet) (s : ScheduleValue) where
         ⊎_elim
         (λ (inside : g < length t.groups). All-get_or (λ group. load group step s.sends ≤ group.width * rounds_at s step) t.groups g (record { links = []; width = 0 }) inside (fits.within step from to))
         (λ (past : length t.groups ≤ g).
-        let none : group_at t g ≡ record { links = []; width = 0 } = get_or_past t.groups g (record { links = []; width = 0 }) past in
-        let no_load : load (group_at t g) step s.sends ≡ 0 = ap (λ group. load group step s.sends) none ∙ none_counted (λ (h : Hop). h.step == step && false) (λ h both. false≢true (and_parts (h.step == step) false both).1) s.sends in
-        omega (arith, no_load))
+        omega (
+          arith,
+          ap (λ group. load group step s.sends) (get_or_past t.groups g (record { links = []; width = 0 }) past)
+              ∙ none_counted (λ (h : Hop). h.step == step && false) (λ h both. false≢true (and_parts (h.step == step) false both).1) s.sends,
+        ))
         (cases_lt g (length t.groups))
 
     in_first_steps : (n : ℕ) → n ≤ length s.rounds → count_by (comes_in n) s.sends ≤ width_by sets u t * sum (take n s.rounds)
@@ -135,10 +130,10 @@ module _ (u : NodeSet) (s : ScheduleValue) where
         and_from (now h) (is_among t (cover_by sets u t) (link_of h)) it (covered u t sets (link_of h) parts.1 usable)) s.sends (recursion_from_All (λ (h : Hop). is_usable t (link_of h) ≡ true) s.sends fits.usable) in
         let most : count_by (λ (h : Hop). now h && is_among t (cover_by sets u t) (link_of h)) s.sends ≤ width_by sets u t * rounds_at s step = carried t s step now (λ (h : Hop) it. eqb-true h.step step (and_parts (h.step == step) (enters u (link_of h)) it).0) (within step (omega arith) (omega (arith, low))) (cover_by sets u t) in
         let place : step - 1 ≡ n = omega arith in
-        let rounds_are : rounds_at s step ≡ get_or s.rounds n 0 = ap (λ k. get_or s.rounds k 0) place in
         let one : suc n ≡ n + 1 = omega arith in
-        let more : sum (take (suc n) s.rounds) ≡ sum (take n s.rounds) + get_or s.rounds n 0 = ap (λ k. sum (take k s.rounds)) one ∙ sum_by_more (λ x. x) s.rounds n 0 (omega (arith, low)) in
-        let product : width_by sets u t * sum (take (suc n) s.rounds) ≡ width_by sets u t * sum (take n s.rounds) + width_by sets u t * rounds_at s step = ap (λ k. width_by sets u t * k) (more ∙ ap (λ k. sum (take n s.rounds) + k) (sym rounds_are)) ∙ mul-add (width_by sets u t) (sum (take n s.rounds)) (rounds_at s step) in
+        let more : sum (take (suc n) s.rounds) ≡ sum (take n s.rounds) + rounds_at s step =
+        ap (λ k. sum (take k s.rounds)) one ∙ sum_by_more (λ x. x) s.rounds n 0 (omega (arith, low)) ∙ ap (λ k. sum (take n s.rounds) + get_or s.rounds k 0) (sym place) in
+        let product : width_by sets u t * sum (take (suc n) s.rounds) ≡ width_by sets u t * sum (take n s.rounds) + width_by sets u t * rounds_at s step = ap (λ k. width_by sets u t * k) more ∙ mul-add (width_by sets u t) (sum (take n s.rounds)) (rounds_at s step) in
         omega (arith, split, over, most, product, in_first_steps n (omega (arith, low)))
 
 -- chunks that come in by some send each are no more than what can in all rounds
@@ -172,25 +167,17 @@ needed_comes_in sets u t pre post s steps rounds solves =
 pub cut_says : (sets : Sets) (u : NodeSet) (t : TopologyValue) (pre post : PlacementValue) (s : ScheduleValue) (steps rounds : ℕ) → width_by sets u t * rounds < need_of u pre post → Solves t pre post s steps rounds → ⊥
 cut_says sets u t pre post s steps rounds refutes solves = omega (arith, refutes, needed_comes_in sets u t pre post s steps rounds solves)
 
-some_mapped : {X Y : Type 0} (f : X → Y) (o : Option X) → is_some (option_map f o) ≡ is_some o
-some_mapped f None = refl
-some_mapped f (Some x) = refl
-
 -- the first cut is that of the first set that refutes
 pub first_by_set : (sets : Sets) (t : TopologyValue) (pre post : PlacementValue) (rounds : ℕ) → first_cut_of sets t pre post rounds ≡ option_map (cut_of sets t pre post) (find (λ u. cut_refutes sets u t pre post rounds) (node_sets sets t.nodes))
 first_by_set sets t pre post rounds = find-map (λ (cut : CutValue). nat_lt (cut.width * rounds) cut.need) (cut_of sets t pre post) (node_sets sets t.nodes)
 
-found_one : {X : Type 0} (p : X → Bool) (xs : List X) → is_some (find p xs) ≡ true → (x : X) × (p x ≡ true)
-found_one p [] some = absurd (false≢true some)
-found_one p (x ∷ xs) some =
-    ⊎_elim
-    (λ (here : p x ≡ true). (x, here))
-    (λ (later : p x ≡ false). found_one p xs (rw later at some))
-    (cases_Bool (p x))
+pub found_any : {X Y : Type 0} (f : X → Y) (p : X → Bool) (xs : List X) → is_some (option_map f (find p xs)) ≡ list_any p xs
+found_any f p [] = refl
+found_any f p (x ∷ xs) = elim (p x) as (λ b. is_some (option_map f (cond b (Some x) (find p xs))) ≡ (b || list_any p xs)) [ true ↦ refl | false ↦ found_any f p xs ]
 
 -- where there is a first cut, no schedule of so many rounds solves
 pub first_says : (sets : Sets) (t : TopologyValue) (pre post : PlacementValue) (s : ScheduleValue) (steps rounds : ℕ) → is_some (first_cut_of sets t pre post rounds) ≡ true → Solves t pre post s steps rounds → ⊥
 first_says sets t pre post s steps rounds cut solves =
     let p : NodeSet → Bool = λ u. cut_refutes sets u t pre post rounds in
-    let it = found_one p (node_sets sets t.nodes) (sym (ap is_some (first_by_set sets t pre post rounds) ∙ some_mapped (cut_of sets t pre post) (find p (node_sets sets t.nodes))) ∙ cut) in
-    cut_says sets it.0 t pre post s steps rounds (ltb-true (width_by sets it.0 t * rounds) (need_of it.0 pre post) it.1) solves
+    let it = any_found p (node_sets sets t.nodes) (sym (ap is_some (first_by_set sets t pre post rounds) ∙ found_any (cut_of sets t pre post) p (node_sets sets t.nodes)) ∙ cut) in
+    cut_says sets it.0 t pre post s steps rounds (ltb-true (width_by sets it.0 t * rounds) (need_of it.0 pre post) it.2) solves

@@ -1,15 +1,15 @@
 -- The greatest fraction alone tells whether one of the sets refutes so many rounds.
-use Rattle.std.proofs.Common.{◌≡◌, ℕ, ◌*◌, ◌<◌, ◌≤◌, Bool, true, false, ◌||◌, List, [], ◌∷◌, ◌++◌, map, refl, sym, ap, ◌∙◌, ⊎_elim, subst, arith, append_assoc, Option, None, Some, find, filter, nat_lt}
-use Rattle.std.{specs.{List.{AllByRecursion, list_any}, Option.{is_some, option_map, unwrap_or}}, proofs.lemmas.List.append-nil}
-use Rattle.std.proofs.Math.Nat.{mul_comm, mul_assoc, mul_right_comm, mul-le-mul_right, mul-lt-mul_of_pos_right, lt_of_mul-lt-mul_right, mul-pos}
-use Rattle.std.proofs.lemmas.Bool.{cases_Bool, cases_eq, cases_lt, ltb-true, ltb-false, lt-ltb, le-ltb}
+use Rattle.std.proofs.Common.{◌≡◌, ℕ, ◌*◌, ◌<◌, ◌≤◌, Bool, true, false, ◌||◌, List, [], ◌∷◌, ◌++◌, map, refl, sym, ap, ◌∙◌, subst, arith, append_assoc, Option, None, Some, filter, nat_lt}
+use Rattle.std.{specs.{List.{AllByRecursion, list_any}, Option.{is_some, unwrap_or}}, proofs.lemmas.List.append-nil}
+use Rattle.std.proofs.Math.Nat.{mul_comm, mul_right_comm, mul-le-mul_right, mul-lt-mul_of_pos_right, lt_of_mul-lt-mul_right, mul-pos}
+use Rattle.std.proofs.lemmas.Bool.{cond_both, ltb-true, ltb-false, lt-ltb, le-ltb, true_from_ne_false}
 use Rattle.list_laws.proofs.{Each.each_middle, Tests.same_test}
 use Rattle.schedule.{specs.Links.TopologyValue, proofs.First.{any_found, among_each, each_append, each_passes}}
 use Rattle.collective_spec.specs.{declared.{spec.Spec.Spec, instance.Instance.Instance}, Kinds.allows, Collectives.{kind_in, spec_instance}}
 use Rattle.node_cuts.specs.{declared.{sets.Sets.Sets, floor.Floor.Floor}, Sides.{NodeSet, node_sets}}
 use Rattle.node_cuts.specs.{Cuts.{cut_of, first_cut_of, need_of, width_by}, inner.Refuting.cut_refutes}
 use Rattle.node_cuts.specs.Floors.{exceeds, first_greatest, floor_of, fraction_of, fractions, greater_of, has_need, least_count, nothing_over_1}
-use Rattle.node_cuts.proofs.{Best.{IsBest, Positive, any_middle, best_is, step}, Crossing.first_by_set, Least.{least_least, least_positive}, Scaling.{IsScaled, scales}}
+use Rattle.node_cuts.proofs.{Best.{IsBest, Positive, any_middle, best_is, step}, Crossing.{first_by_set, found_any}, Least.{least_least, least_positive}, Scaling.in_proportion}
 
 -- the fraction times the chunk count is more than the rounds
 abbrev pub is_above : ℕ → ℕ → Floor → Bool
@@ -21,24 +21,15 @@ greater_is_above : (c r : ℕ) (b x : Floor) → 0 < c → 0 < b.above → excee
 greater_is_above c r b x some b_some no_greater above =
     let first : x.above * b.below ≤ b.above * x.below = ltb-false (b.above * x.below) (x.above * b.below) no_greater in
     let second : x.below * r < x.above * c = ltb-true (x.below * r) (x.above * c) above in
+    true_from_ne_false (is_above c r b) (λ under.
+    let no_less : b.above * c ≤ b.below * r = ltb-false (b.below * r) (b.above * c) under in
     let positive : 0 < b.above * c = mul-pos b_some some in
-    lt-ltb (b.below * r) (b.above * c)
-    (⊎_elim
-    (λ (none : b.below ≡ 0). let nothing : b.below * r ≡ 0 * r = ap (λ v. v * r) none in let zero_is : 0 * r ≡ 0 = omega arith in omega (arith, nothing, zero_is, positive))
-    (λ (other : b.below ≡ 0 → ⊥).
-    let b_below : 0 < b.below = omega (arith, other) in
-    ⊎_elim
-    (λ (less : b.below * r < b.above * c). less)
-    (λ (no_less : b.above * c ≤ b.below * r).
+    let some_below : 0 * r < b.below * r = omega arith in
     let one : b.above * c * x.below ≤ b.below * r * x.below = mul-le-mul_right x.below no_less in
-    let two : x.below * r * b.below < x.above * c * b.below = mul-lt-mul_of_pos_right second b_below in
+    let two : x.below * r * b.below < x.above * c * b.below = mul-lt-mul_of_pos_right second (lt_of_mul-lt-mul_right r some_below) in
     let three : x.above * b.below * c ≤ b.above * x.below * c = mul-le-mul_right c first in
     let left : b.below * r * x.below ≡ x.below * r * b.below = mul_right_comm b.below r x.below ∙ ap (λ v. v * r) (mul_comm b.below x.below) ∙ sym (mul_right_comm x.below r b.below) in
-    let middle : x.above * c * b.below ≡ x.above * b.below * c = mul_right_comm x.above c b.below in
-    let right : b.above * x.below * c ≡ b.above * c * x.below = mul_right_comm b.above x.below c in
-    absurd (omega (arith, one, two, three, left, middle, right)))
-    (cases_lt (b.below * r) (b.above * c)))
-    (cases_eq b.below 0))
+    omega (arith, mul_right_comm x.above c b.below, mul_right_comm b.above x.below c))
 
 -- ---- the first of the greatest
 
@@ -67,52 +58,34 @@ greatest_decides c r fs some each =
 
 -- ---- the sets
 
-found_any : {X Y : Type 0} (f : X → Y) (p : X → Bool) (xs : List X) → is_some (option_map f (find p xs)) ≡ list_any p xs
-found_any f p [] = refl
-found_any f p (x ∷ xs) =
-    ⊎_elim
-    (λ (here : p x ≡ true). rw here refl)
-    (λ (later : p x ≡ false). rw later (found_any f p xs))
-    (cases_Bool (p x))
-
 nothing_above : (c r : ℕ) (f : Floor) → has_need f ≡ false → is_above c r f ≡ false
 nothing_above c r f none =
     let zero_is : f.above ≡ 0 = omega (arith, ltb-false 0 f.above none) in
-    let nothing : f.above * c ≡ 0 * c = ap (λ v. v * c) zero_is in
-    let zero_times : 0 * c ≡ 0 = omega arith in
-    le-ltb (f.below * r) (f.above * c) (omega (arith, nothing, zero_times))
+    le-ltb (f.below * r) (f.above * c) (omega (arith, ap (λ v. v * c) zero_is))
 
 any_kept : {X : Type 0} (c r : ℕ) (q : X → Bool) (g : X → Floor) → ((x : X) → q x ≡ is_above c r (g x)) → (xs : List X) → list_any q xs ≡ list_any (is_above c r) (filter has_need (map g xs))
 any_kept c r q g told [] = refl
 any_kept c r q g told (x ∷ xs) =
-    ⊎_elim
-    (λ (kept : has_need (g x) ≡ true). rw kept (ap (λ b. b || list_any q xs) (told x) ∙ ap (λ b. is_above c r (g x) || b) (any_kept c r q g told xs)))
-    (λ (left : has_need (g x) ≡ false). rw left (ap (λ b. b || list_any q xs) (told x ∙ nothing_above c r (g x) left) ∙ any_kept c r q g told xs))
-    (cases_Bool (has_need (g x)))
+    let rest : List Floor = filter has_need (map g xs) in
+    ap (λ b. b || list_any q xs) (told x) ∙ ap (λ b. is_above c r (g x) || b) (any_kept c r q g told xs)
+    ∙ cond_both (has_need (g x)) (g x ∷ rest) rest (λ fs. (is_above c r (g x) || list_any (is_above c r) rest) ≡ list_any (is_above c r) fs) (λ kept. refl) (λ left. ap (λ b. b || list_any (is_above c r) rest) (nothing_above c r (g x) left))
 
 -- a set refutes exactly where its fraction times the chunk count is more than the rounds
 set_told : (sets : Sets) (t : TopologyValue) (spec : Spec) (c r : ℕ) → 0 < t.nodes → allows (kind_in spec) t.nodes c ≡ true → (u : NodeSet)
     → cut_refutes sets u t (spec_instance spec t.nodes c).pre (spec_instance spec t.nodes c).post r ≡ is_above c r (fraction_of sets t spec u)
 set_told sets t spec c r some allowed u =
     let least : ℕ = least_count (kind_in spec) t.nodes in
-    let i : Instance = spec_instance spec t.nodes least in
-    let scaled : IsScaled u spec t.nodes c = scales u spec t.nodes c some allowed in
-    let positive : 0 < least = least_positive (kind_in spec) t.nodes some in
-    let n : ℕ = need_of u i.pre i.post in
+    let n : ℕ = need_of u (spec_instance spec t.nodes least).pre (spec_instance spec t.nodes least).post in
+    let k : ℕ = need_of u (spec_instance spec t.nodes c).pre (spec_instance spec t.nodes c).post in
     let w : ℕ = width_by sets u t in
-    let m : ℕ = scaled.times in
     let left : w * least * r ≡ w * r * least = mul_right_comm w least r in
-    let right : n * c ≡ m * n * least = ap (λ v. n * v) scaled.count ∙ sym (mul_assoc n m least) ∙ ap (λ v. v * least) (mul_comm n m) in
-    ap (nat_lt (w * r)) scaled.needed
-    ∙ same_test (nat_lt (w * r) (m * n)) (nat_lt (w * least * r) (n * c))
-    (λ less. let more : w * r * least < m * n * least = mul-lt-mul_of_pos_right (ltb-true (w * r) (m * n) less) positive in lt-ltb (w * least * r) (n * c) (omega (arith, more, left, right)))
-    (λ less.
-    let more : w * least * r < n * c = ltb-true (w * least * r) (n * c) less in
-    let whole : w * r * least < m * n * least = omega (arith, more, left, right) in
-    lt-ltb (w * r) (m * n) (lt_of_mul-lt-mul_right least whole))
+    let right : k * least ≡ n * c = in_proportion u spec t.nodes c some allowed in
+    same_test (nat_lt (w * r) k) (nat_lt (w * least * r) (n * c))
+    (λ less. let more : w * r * least < k * least = mul-lt-mul_of_pos_right (ltb-true (w * r) k less) (least_positive (kind_in spec) t.nodes some) in lt-ltb (w * least * r) (n * c) (omega arith))
+    (λ less. let whole : w * r * least < k * least = omega (arith, ltb-true (w * least * r) (n * c) less) in lt-ltb (w * r) k (lt_of_mul-lt-mul_right least whole))
 
 allowed_some : (spec : Spec) (nodes c : ℕ) → 0 < nodes → allows (kind_in spec) nodes c ≡ true → 0 < c
-allowed_some spec nodes c some allowed = let one = least_least (kind_in spec) nodes c allowed in let positive = least_positive (kind_in spec) nodes some in omega (arith, one, positive)
+allowed_some spec nodes c some allowed = omega (arith, least_least (kind_in spec) nodes c allowed, least_positive (kind_in spec) nodes some)
 
 pub floor_decides : (sets : Sets) (t : TopologyValue) (spec : Spec) (c r : ℕ) → 0 < t.nodes → allows (kind_in spec) t.nodes c ≡ true
     → is_some (first_cut_of sets t (spec_instance spec t.nodes c).pre (spec_instance spec t.nodes c).post r) ≡ is_above c r (floor_of sets t spec)

@@ -1,11 +1,12 @@
 -- The floor is a fraction of a set of nodes, or nothing over 1, and no schedule is below it.
-use Rattle.std.proofs.Common.{◌≡◌, ℕ, ◌*◌, ◌<◌, ◌≤◌, Bool, true, false, List, [], ◌∷◌, sym, ap, ◌∙◌, ⊎_elim, subst, arith, find, filter, map}
-use Rattle.std.{specs.{List.AllByRecursion, Option.unwrap_or}, proofs.{Math.Nat.{mul_comm, mul_assoc, mul-le-mul_right}, lemmas.Bool.cases_Bool}}
-use Rattle.schedule.specs.{Links.TopologyValue, Sends.ScheduleValue, Solving.Solves}
+use Rattle.std.proofs.Common.{◌≡◌, ℕ, ◌*◌, ◌<◌, ◌≤◌, Bool, true, List, [], ◌∷◌, sym, ap, ◌∙◌, arith, find, map, Some}
+use Rattle.std.{specs.{List.AllByRecursion, Option.unwrap_or}, proofs.{Math.Nat.{mul_comm, mul_assoc, mul-le-mul_right}, lemmas.Bool.cond_both}}
+use Rattle.list_laws.proofs.Each.{every_map}
+use Rattle.schedule.{specs.{Links.TopologyValue, Sends.ScheduleValue, Solving.Solves}, proofs.First.each_filter}
 use Rattle.collective_spec.specs.{declared.spec.Spec.Spec, Kinds.allows, Collectives.{kind_in, spec_instance}}
 use Rattle.node_cuts.specs.{declared.{sets.Sets.Sets, floor.Floor.Floor}, Sides.{NodeSet, node_sets}, Cuts.{need_of, width_by}}
 use Rattle.node_cuts.specs.Floors.{least_count, fraction_of, has_need, fractions, is_greatest, nothing_over_1, floor_of}
-use Rattle.node_cuts.proofs.{Crossing.needed_comes_in, Scaling.{IsScaled, scales}}
+use Rattle.node_cuts.proofs.{Crossing.needed_comes_in, Scaling.in_proportion}
 
 -- what has to come into each set of nodes can in so many rounds
 abbrev pub IsBroughtIn : Sets → TopologyValue → Spec → ℕ → ℕ → Type 0
@@ -14,31 +15,17 @@ IsBroughtIn sets t spec rounds c = (u : NodeSet) → need_of u (spec_instance sp
 -- what is said of each element, and of nothing over 1, is said of the first that passes
 of_found : (P : Floor → Type 0) (p : Floor → Bool) (fs : List Floor) → AllByRecursion P fs → P nothing_over_1 → P (unwrap_or (find p fs) nothing_over_1)
 of_found P p [] each none = none
-of_found P p (f ∷ fs) each none =
-    ⊎_elim
-    (λ (here : p f ≡ true). rw here each.0)
-    (λ (later : p f ≡ false). rw later (of_found P p fs each.1 none))
-    (cases_Bool (p f))
-
-of_some : (P : Floor → Type 0) (g : NodeSet → Floor) → ((u : NodeSet) → P (g u)) → (sides : List NodeSet) → AllByRecursion P (filter has_need (map g sides))
-of_some P g each [] = tt
-of_some P g each (side ∷ sides) =
-    ⊎_elim
-    (λ (kept : has_need (g side) ≡ true). rw kept (each side, of_some P g each sides))
-    (λ (left : has_need (g side) ≡ false). rw left (of_some P g each sides))
-    (cases_Bool (has_need (g side)))
+of_found P p (f ∷ fs) each none = cond_both (p f) (Some f) (find p fs) (λ o. P (unwrap_or o nothing_over_1)) (λ here. each.0) (λ later. of_found P p fs each.1 none)
 
 -- where what has to come in can in the rounds, each set bounds
 side_bounds : (sets : Sets) (t : TopologyValue) (spec : Spec) (rounds c : ℕ) → 0 < t.nodes → allows (kind_in spec) t.nodes c ≡ true → IsBroughtIn sets t spec rounds c → (u : NodeSet) → (fraction_of sets t spec u).above * c ≤ rounds * (fraction_of sets t spec u).below
 side_bounds sets t spec rounds c some allowed brought u =
     let least : ℕ = least_count (kind_in spec) t.nodes in
-    let scaled : IsScaled u spec t.nodes c = scales u spec t.nodes c some allowed in
     let n : ℕ = need_of u (spec_instance spec t.nodes least).pre (spec_instance spec t.nodes least).post in
+    let k : ℕ = need_of u (spec_instance spec t.nodes c).pre (spec_instance spec t.nodes c).post in
     let w : ℕ = width_by sets u t in
-    let m : ℕ = scaled.times in
-    let over : m * n ≤ w * rounds = subst (λ v. v ≤ w * rounds) scaled.needed (brought u) in
-    let times : m * n * least ≤ w * rounds * least = mul-le-mul_right least over in
-    let left : n * c ≡ m * n * least = ap (λ v. n * v) scaled.count ∙ sym (mul_assoc n m least) ∙ ap (λ v. v * least) (mul_comm n m) in
+    let times : k * least ≤ w * rounds * least = mul-le-mul_right least (brought u) in
+    let left : k * least ≡ n * c = in_proportion u spec t.nodes c some allowed in
     let right : rounds * (w * least) ≡ w * rounds * least = sym (mul_assoc rounds w least) ∙ ap (λ v. v * least) (mul_comm rounds w) in
     omega (arith, left, right, times)
 
@@ -46,9 +33,9 @@ side_bounds sets t spec rounds c some allowed brought u =
 pub floor_below : (sets : Sets) (t : TopologyValue) (spec : Spec) (rounds c : ℕ) → 0 < t.nodes → allows (kind_in spec) t.nodes c ≡ true → IsBroughtIn sets t spec rounds c → (floor_of sets t spec).above * c ≤ rounds * (floor_of sets t spec).below
 floor_below sets t spec rounds c some allowed brought =
     let bounds : Floor → Type 0 = λ f. f.above * c ≤ rounds * f.below in
-    let none : 0 * c ≤ rounds * 1 = omega arith in
+    let all : List Floor = map (fraction_of sets t spec) (node_sets sets t.nodes) in
     of_found bounds (is_greatest (fractions sets t spec)) (fractions sets t spec)
-    (of_some bounds (fraction_of sets t spec) (side_bounds sets t spec rounds c some allowed brought) (node_sets sets t.nodes)) none
+    (each_filter bounds has_need all (every_map bounds (fraction_of sets t spec) (side_bounds sets t spec rounds c some allowed brought) (node_sets sets t.nodes))) (omega arith)
 
 pub floor_bounds : (sets : Sets) (t : TopologyValue) (spec : Spec) (s : ScheduleValue) (steps rounds c : ℕ) → 0 < t.nodes → allows (kind_in spec) t.nodes c ≡ true
     → Solves t (spec_instance spec t.nodes c).pre (spec_instance spec t.nodes c).post s steps rounds → (floor_of sets t spec).above * c ≤ rounds * (floor_of sets t spec).below

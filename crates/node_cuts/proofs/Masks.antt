@@ -1,7 +1,7 @@
 -- A set of nodes as bits.
-use Rattle.std.proofs.Common.{◌≡◌, ℕ, zero, suc, ◌+◌, ◌-◌, ◌*◌, ◌/◌, ◌%◌, ◌^◌, ◌<◌, ◌≤◌, Bool, true, false, cond, ◌&&◌, [], ◌∷◌, ◌++◌, map-id, refl, ap, sym, ◌∙◌, ⊎_elim, arith, ◌==◌, ◌⊎◌, nat_lt}
+use Rattle.std.proofs.Common.{◌≡◌, ℕ, zero, suc, ◌+◌, ◌-◌, ◌*◌, ◌/◌, ◌%◌, ◌^◌, ◌<◌, ◌≤◌, Bool, true, false, cond, ◌&&◌, [], ◌∷◌, ◌++◌, map-id, refl, ap, sym, ◌∙◌, ⊎_elim, arith, ◌==◌, nat_lt}
 use Rattle.std.{proofs.Math.Nat.{mul-one, add-mul-div_left, add-mul-mod_self_left, div-eq_of_lt, pow-le-pow_right}, specs.List.{range_with_len, sum_by}}
-use Rattle.std.proofs.lemmas.{Bool.{cases_Bool, cases_eq, cases_lt, lt-ltb, le-ltb}, Nat.{pow-add, pow_below, pow_pos}, List.FromFn.map-range_with_len_more}
+use Rattle.std.proofs.lemmas.{Bool.{cases_eq, cases_lt, cond_both, lt-ltb, le-ltb}, Nat.{pow-add, pow_pos}, List.FromFn.map-range_with_len_more}
 use Rattle.std.proofs.lemmas.List.Sums.{sum_by_push}
 use Rattle.node_cuts.specs.Sides.{NodeSet, has_bit, mask_of}
 
@@ -23,19 +23,17 @@ mask_below u (suc n) =
     let one : suc n ≡ n + 1 = omega arith in
     let more : mask_of (suc n) u ≡ mask_of n u + cond (u n) (2 ^ n) 0 = ap (λ k. mask_of k u) one ∙ mask_more u n in
     let bit : 2 ^ suc n ≡ 2 ^ n * 2 = ap (λ k. 2 ^ k) one ∙ bit_more n in
-    let here : cond (u n) (2 ^ n) 0 ≤ 2 ^ n = ⊎_elim (λ (it : u n ≡ true). rw it (omega arith)) (λ (it : u n ≡ false). rw it (omega arith)) (cases_Bool (u n)) in
+    let here : cond (u n) (2 ^ n) 0 ≤ 2 ^ n = cond_both (u n) (2 ^ n) 0 (λ b. b ≤ 2 ^ n) (λ it. omega arith) (λ it. omega arith) in
     omega (arith, more, bit, here, mask_below u n)
 
 pub small_bit : (n : ℕ) → n ≤ 16 → 2 ^ n ≤ 65536
-small_bit n low = ⊎_elim (λ (last : n ≡ 16). let same : 2 ^ n ≡ 65536 = ap (λ k. 2 ^ k) last in omega (arith, same)) (λ (less : n ≡ 16 → ⊥). let small : 2 ^ n < 65536 = pow_below n 16 (omega (arith, low, less)) in omega (arith, small)) (cases_eq n 16)
+small_bit n low = let two : 0 < 2 = omega arith in pow-le-pow_right two low
 
 pub mask_yes : (u : NodeSet) (n : ℕ) → u n ≡ true → mask_of (n + 1) u ≡ mask_of n u + 2 ^ n
 mask_yes u n is = mask_more u n ∙ ap (λ b. mask_of n u + cond b (2 ^ n) 0) is
 
 pub mask_no : (u : NodeSet) (n : ℕ) → u n ≡ false → mask_of (n + 1) u ≡ mask_of n u
-mask_no u n is =
-    let same : mask_of (n + 1) u ≡ mask_of n u + 0 = mask_more u n ∙ ap (λ b. mask_of n u + cond b (2 ^ n) 0) is in
-    omega (arith, same)
+mask_no u n is = omega (arith, mask_more u n ∙ ap (λ b. mask_of n u + cond b (2 ^ n) 0) is)
 
 -- ---- the bits
 
@@ -58,32 +56,23 @@ bit_past n m small = ap (λ v. v % 2) (div-eq_of_lt small)
 bit_inside : (u : NodeSet) (nodes n : ℕ) → n < nodes → mask_of nodes u / 2 ^ n % 2 ≡ cond (u n) 1 0
 bit_inside u zero n inside = absurd (omega (arith, inside))
 bit_inside u (suc k) n inside =
-    let more : mask_of (suc k) u ≡ mask_of k u + cond (u k) (2 ^ k) 0 = ap (λ v. mask_of v u) one ∙ mask_more u k in
-    ap (λ v. v / 2 ^ n % 2) more ∙ by_place (bit_inside u k n) (cases_eq n k)
+    let one : suc k ≡ k + 1 = omega arith in
+    ap (λ v. v / 2 ^ n % 2) (ap (λ v. mask_of v u) one ∙ mask_more u k)
+    ∙ ⊎_elim
+    (λ (here : n ≡ k). ap (λ v. (mask_of k u + cond (u k) (2 ^ k) 0) / 2 ^ v % 2) here ∙ last (mask_of k u) (u k) (mask_below u k) ∙ ap (λ v. cond (u v) 1 0) (sym here))
+    (λ (other : n ≡ k → ⊥). let below : n < k = omega (arith, inside, other) in earlier (mask_of k u) (u k) below ∙ bit_inside u k n below)
+    (cases_eq n k)
   where
-    one : suc k ≡ k + 1
-    one = omega arith
+    nothing : (m : ℕ) → m + 0 ≡ m
+    nothing m = omega arith
 
-    nothing : mask_of k u + 0 ≡ mask_of k u
-    nothing = omega arith
+    last : (m : ℕ) (b : Bool) → m < 2 ^ k → (m + cond b (2 ^ k) 0) / 2 ^ k % 2 ≡ cond b 1 0
+    last m true small = bit_here m k small
+    last m false small = ap (λ v. v / 2 ^ k % 2) (nothing m) ∙ bit_past k m small
 
-    last : n ≡ k → (mask_of k u + cond (u k) (2 ^ k) 0) / 2 ^ k % 2 ≡ cond (u k) 1 0
-    last here = ⊎_elim
-        (λ (it : u k ≡ true). ap (λ b. (mask_of k u + cond b (2 ^ k) 0) / 2 ^ k % 2) it ∙ bit_here (mask_of k u) k (mask_below u k) ∙ ap (λ b. cond b 1 0) (sym it))
-        (λ (it : u k ≡ false). ap (λ b. (mask_of k u + cond b (2 ^ k) 0) / 2 ^ k % 2) it ∙ ap (λ v. v / 2 ^ k % 2) nothing ∙ bit_past k (mask_of k u) (mask_below u k) ∙ ap (λ b. cond b 1 0) (sym it))
-        (cases_Bool (u k))
-
-    earlier : (n < k → mask_of k u / 2 ^ n % 2 ≡ cond (u n) 1 0) → n < k → (mask_of k u + cond (u k) (2 ^ k) 0) / 2 ^ n % 2 ≡ cond (u n) 1 0
-    earlier before below = ⊎_elim
-        (λ (it : u k ≡ true). ap (λ b. (mask_of k u + cond b (2 ^ k) 0) / 2 ^ n % 2) it ∙ bit_below n (mask_of k u) k below ∙ before below)
-        (λ (it : u k ≡ false). ap (λ b. (mask_of k u + cond b (2 ^ k) 0) / 2 ^ n % 2) it ∙ ap (λ v. v / 2 ^ n % 2) nothing ∙ before below)
-        (cases_Bool (u k))
-
-    by_place : (n < k → mask_of k u / 2 ^ n % 2 ≡ cond (u n) 1 0) → (n ≡ k) ⊎ (n ≡ k → ⊥) → (mask_of k u + cond (u k) (2 ^ k) 0) / 2 ^ n % 2 ≡ cond (u n) 1 0
-    by_place before place = ⊎_elim
-        (λ (here : n ≡ k). ap (λ v. (mask_of k u + cond (u k) (2 ^ k) 0) / 2 ^ v % 2) here ∙ last here ∙ ap (λ v. cond (u v) 1 0) (sym here))
-        (λ (other : n ≡ k → ⊥). earlier before (omega (arith, inside, other)))
-        place
+    earlier : (m : ℕ) (b : Bool) → n < k → (m + cond b (2 ^ k) 0) / 2 ^ n % 2 ≡ m / 2 ^ n % 2
+    earlier m true below = bit_below n m k below
+    earlier m false below = ap (λ v. v / 2 ^ n % 2) (nothing m)
 
 one_where : (b : Bool) → (cond {A = ℕ} b 1 0 == 1) ≡ b
 one_where true = refl

@@ -1,36 +1,26 @@
 -- At each chunk count that a collective may have, what has to come into a set is what has to at the least one, so many times over.
-use Rattle.std.proofs.Common.{◌≡◌, ℕ, zero, suc, ◌+◌, ◌*◌, ◌/◌, ◌%◌, ◌<◌, ◌≤◌, Bool, true, ◌&&◌, cond, ◌∷◌, refl, sym, ap, ◌∙◌, ⊎_elim, arith, ◌==◌, count_by, not, nat_le, filter}
+use Rattle.std.proofs.Common.{◌≡◌, ℕ, zero, suc, ◌+◌, ◌*◌, ◌/◌, ◌%◌, ◌<◌, Bool, true, ◌&&◌, cond, refl, sym, ap, ◌∙◌, arith, ◌==◌, count_by, not, nat_le, filter}
 use Rattle.std.{specs.List.{list_any, range_with_len}, proofs.Math.Nat.{mul_comm, mul_assoc, mul-one, add-mul-mod_self_left, add-mul-div_left}}
-use Rattle.std.proofs.lemmas.{Bool.{false≢true, or_cases, and_parts, and_from, eqb-true, eq-eqb}, Nat.div-add-mod', List.Sums.sum_by-cons}
-use Rattle.list_laws.proofs.{Tests.{same_test, any_alike}, Ranges.any_at}
-use Rattle.schedule.specs.Placed.{PlacementValue, holds, placed, same_pair, all_pairs}
-use Rattle.schedule.proofs.{First.{among_each, any_found, any_among, filter_among}, Placing.{IsBelow, all_below, pair_is, holds-placed}}
+use Rattle.std.proofs.lemmas.{Bool.{and_parts, and_from, eqb-true, eq-eqb}, Nat.div-add-mod', List.Elements.recursion_from_All}
+use Rattle.list_laws.proofs.{Tests.same_test, Ranges.any_at}
+use Rattle.schedule.specs.Placed.{PlacementValue, holds, placed, all_pairs}
+use Rattle.schedule.proofs.{First.{among_each, any_found, any_among, filter_among}, Ordered.among_from_any, Placing.{IsBelow, all_below, holds-placed}, Spreading.sum_alike}
 use Rattle.collective_spec.specs.{declared.{kind.Kind.Kind, layout.Layout.Layout, spec.Spec.Spec}, Layouts.{stands, laid_out}, Patterns.in_copies, Kinds.allows}
 use Rattle.collective_spec.specs.declared.kind.Kind.TheVariants.{Broadcast, Gather, Allgather, Scatter, Alltoall, Reduce, Reducescatter, Allreduce, Custom}
 use Rattle.collective_spec.specs.Collectives.{kind_in, spec_instance}
 use Rattle.collective_spec.specs.declared.layout.Layout.TheVariants as layout
 use Rattle.collective_spec.specs.declared.spec.Spec.TheVariants as spec
-use Rattle.node_cuts.specs.{Sides.NodeSet, Cuts.{stands_in, is_needed, need_of}, Floors.least_count}
-
--- ---- ranges
-
-pub range_found : (q : ℕ → Bool) (a n : ℕ) → list_any q (range_with_len a n) ≡ true → (k : ℕ) × (a ≤ k) × (k < a + n) × (q k ≡ true)
-range_found q a zero some = absurd (false≢true some)
-range_found q a (suc n) some =
-    ⊎_elim
-    (λ (here : q a ≡ true). (a, omega arith, omega arith, here))
-    (λ (later : list_any q (range_with_len (a + 1) n) ≡ true). let rest = range_found q (a + 1) n later in (rest.0, omega (arith, rest.1), omega (arith, rest.2), rest.3))
-    (or_cases (q a) (list_any q (range_with_len (a + 1) n)) some)
+use Rattle.node_cuts.{specs.{Sides.NodeSet, Cuts.{stands_in, is_needed, need_of}, Floors.least_count}, proofs.{Counting.counted, Within.numbers_below}}
 
 -- ---- what stands in a set, by the test of a placement
 
 abbrev pub some_stands : NodeSet → ℕ → (ℕ × ℕ → Bool) → ℕ → Bool
-some_stands u nodes f chunk = list_any (λ n. u n && f (chunk, n)) (range_with_len 0 nodes)
+some_stands u nodes f chunk = list_any (λ n. f (chunk, n) && u n) (range_with_len 0 nodes)
 
 pub stands_by : (u : NodeSet) (chunks nodes : ℕ) (f : ℕ × ℕ → Bool) (chunk : ℕ) → chunk < chunks → stands_in u (placed chunks nodes f) chunk ≡ some_stands u nodes f chunk
 stands_by u chunks nodes f chunk below =
     let test : ℕ × ℕ → Bool = λ pair. pair.0 == chunk && u pair.1 in
-    let row : ℕ → Bool = λ n. u n && f (chunk, n) in
+    let row : ℕ → Bool = λ n. f (chunk, n) && u n in
     same_test (stands_in u (placed chunks nodes f) chunk) (some_stands u nodes f chunk)
     (λ stood.
     let found = any_found test (filter f (all_pairs chunks nodes)) stood in
@@ -38,34 +28,23 @@ stands_by u chunks nodes f chunk below =
     let both = and_parts (pair.0 == chunk) (u pair.1) found.2 in
     let kept = filter_among f pair (all_pairs chunks nodes) found.1 in
     let inside : IsBelow chunks nodes pair = among_each (IsBelow chunks nodes) pair (all_pairs chunks nodes) (all_below chunks nodes) kept.0 in
-    let chunk_is : pair.0 ≡ chunk = eqb-true pair.0 chunk both.0 in
-    any_at row 0 nodes pair.1 (omega arith) (omega (arith, inside.1)) (and_from (u pair.1) (f (chunk, pair.1)) both.1 (ap (λ c. f (c, pair.1)) (sym chunk_is) ∙ kept.1)))
+    any_at row 0 nodes pair.1 (omega arith) (omega (arith, inside.1)) (and_from (f (chunk, pair.1)) (u pair.1) (ap (λ c. f (c, pair.1)) (sym (eqb-true pair.0 chunk both.0)) ∙ kept.1) both.1))
     (λ some.
-    let found = range_found row 0 nodes some in
+    let found = any_found row (range_with_len 0 nodes) some in
     let n : ℕ = found.0 in
-    let both = and_parts (u n) (f (chunk, n)) found.3 in
-    let held : holds (placed chunks nodes f) (chunk, n) ≡ true = holds-placed chunks nodes f (chunk, n) below (omega (arith, found.2)) ∙ both.1 in
-    let there = any_found (same_pair (chunk, n)) (filter f (all_pairs chunks nodes)) held in
-    let it : (chunk, n) ≡ there.0 = pair_is (chunk, n) there.0 there.2 in
-    any_among test there.0 (filter f (all_pairs chunks nodes)) there.1 (ap test (sym it) ∙ and_from (chunk == chunk) (u n) (eq-eqb chunk chunk refl) both.0))
+    let inside : n < nodes = among_each (λ k. k < nodes) n (range_with_len 0 nodes) (recursion_from_All (λ k. k < nodes) (range_with_len 0 nodes) (numbers_below nodes)) found.1 in
+    let both = and_parts (f (chunk, n)) (u n) found.2 in
+    any_among test (chunk, n) (filter f (all_pairs chunks nodes)) (among_from_any (chunk, n) (filter f (all_pairs chunks nodes)) (holds-placed chunks nodes f (chunk, n) below inside ∙ both.0))
+    (and_from (chunk == chunk) (u n) (eq-eqb chunk chunk refl) both.1))
 
-abbrev pub needs : NodeSet → ℕ → (ℕ × ℕ → Bool) → (ℕ × ℕ → Bool) → ℕ → Bool
+abbrev needs : NodeSet → ℕ → (ℕ × ℕ → Bool) → (ℕ × ℕ → Bool) → ℕ → Bool
 needs u nodes f g chunk = some_stands u nodes g chunk && not (some_stands u nodes f chunk)
 
-pub count_alike : (p q : ℕ → Bool) (a n : ℕ) → ((k : ℕ) → a ≤ k → k < a + n → p k ≡ q k) → count_by p (range_with_len a n) ≡ count_by q (range_with_len a n)
-count_alike p q a zero same = refl
-count_alike p q a (suc n) same =
-    let rest : count_by p (range_with_len (a + 1) n) ≡ count_by q (range_with_len (a + 1) n) = count_alike p q (a + 1) n (λ k low high. same k (omega (arith, low)) (omega (arith, high))) in
-    let here : p a ≡ q a = same a (omega arith) (omega arith) in
-    let first : count_by p (a ∷ range_with_len (a + 1) n) ≡ cond {A = ℕ} (p a) 1 0 + count_by p (range_with_len (a + 1) n) = sum_by-cons (λ x. cond (p x) 1 0) a (range_with_len (a + 1) n) in
-    let second : count_by q (a ∷ range_with_len (a + 1) n) ≡ cond {A = ℕ} (q a) 1 0 + count_by q (range_with_len (a + 1) n) = sum_by-cons (λ x. cond (q x) 1 0) a (range_with_len (a + 1) n) in
-    omega (arith, first, second, rest, ap (λ b. cond {A = ℕ} b 1 0) here)
-
-pub need_by : (u : NodeSet) (chunks nodes : ℕ) (f g : ℕ × ℕ → Bool) → need_of u (placed chunks nodes f) (placed chunks nodes g) ≡ count_by (needs u nodes f g) (range_with_len 0 chunks)
+need_by : (u : NodeSet) (chunks nodes : ℕ) (f g : ℕ × ℕ → Bool) → need_of u (placed chunks nodes f) (placed chunks nodes g) ≡ count_by (needs u nodes f g) (range_with_len 0 chunks)
 need_by u chunks nodes f g =
-    count_alike (is_needed u (placed chunks nodes f) (placed chunks nodes g)) (needs u nodes f g) 0 chunks (λ k low high.
+    sum_alike (λ k. cond (is_needed u (placed chunks nodes f) (placed chunks nodes g) k) 1 0) (λ k. cond (needs u nodes f g k) 1 0) 0 chunks (λ k low high.
     let below : k < chunks = omega (arith, high) in
-    ap (λ b. b && not (stands_in u (placed chunks nodes f) k)) (stands_by u chunks nodes g k below) ∙ ap (λ b. some_stands u nodes g k && not b) (stands_by u chunks nodes f k below))
+    λ i. cond (stands_by u chunks nodes g k below i && not (stands_by u chunks nodes f k below i)) 1 0)
 
 -- ---- periods
 
@@ -73,35 +52,22 @@ counted_apart : (p : ℕ → Bool) (a n j k : ℕ) → a + n ≡ j → count_by 
 counted_apart p a zero j k at =
     let here : a ≡ j = omega (arith, at) in
     let none : 0 + k ≡ k = omega arith in
-    let rest : count_by p (range_with_len a (0 + k)) ≡ count_by p (range_with_len j k) = ap (λ v. count_by p (range_with_len a v)) none ∙ ap (λ v. count_by p (range_with_len v k)) here in
-    omega (arith, rest)
+    omega (arith, ap (λ v. count_by p (range_with_len a v)) none ∙ ap (λ v. count_by p (range_with_len v k)) here)
 counted_apart p a (suc n) j k at =
     let up : suc n + k ≡ suc (n + k) = omega arith in
-    let rest : count_by p (range_with_len (a + 1) (n + k)) ≡ count_by p (range_with_len (a + 1) n) + count_by p (range_with_len j k) = counted_apart p (a + 1) n j k (omega (arith, at)) in
-    let first : count_by p (a ∷ range_with_len (a + 1) (n + k)) ≡ cond {A = ℕ} (p a) 1 0 + count_by p (range_with_len (a + 1) (n + k)) = sum_by-cons (λ x. cond (p x) 1 0) a (range_with_len (a + 1) (n + k)) in
-    let second : count_by p (a ∷ range_with_len (a + 1) n) ≡ cond {A = ℕ} (p a) 1 0 + count_by p (range_with_len (a + 1) n) = sum_by-cons (λ x. cond (p x) 1 0) a (range_with_len (a + 1) n) in
-    ap (λ v. count_by p (range_with_len a v)) up ∙ omega (arith, first, second, rest)
+    ap (λ v. count_by p (range_with_len a v)) up
+    ∙ omega (arith, counted p a (range_with_len (a + 1) (n + k)), counted p a (range_with_len (a + 1) n), counted_apart p (a + 1) n j k (omega (arith, at)))
 
 counted_later : (p : ℕ → Bool) (period : ℕ) → ((k : ℕ) → p (k + period) ≡ p k) → (a j n : ℕ) → a + period ≡ j → count_by p (range_with_len j n) ≡ count_by p (range_with_len a n)
 counted_later p period again a j zero at = refl
 counted_later p period again a j (suc n) at =
-    let rest : count_by p (range_with_len (j + 1) n) ≡ count_by p (range_with_len (a + 1) n) = counted_later p period again (a + 1) (j + 1) n (omega (arith, at)) in
-    let here : p j ≡ p a = ap p (sym at) ∙ again a in
-    let first : count_by p (j ∷ range_with_len (j + 1) n) ≡ cond {A = ℕ} (p j) 1 0 + count_by p (range_with_len (j + 1) n) = sum_by-cons (λ x. cond (p x) 1 0) j (range_with_len (j + 1) n) in
-    let second : count_by p (a ∷ range_with_len (a + 1) n) ≡ cond {A = ℕ} (p a) 1 0 + count_by p (range_with_len (a + 1) n) = sum_by-cons (λ x. cond (p x) 1 0) a (range_with_len (a + 1) n) in
-    omega (arith, first, second, rest, ap (λ b. cond {A = ℕ} b 1 0) here)
+    omega (arith, counted p j (range_with_len (j + 1) n), counted p a (range_with_len (a + 1) n), counted_later p period again (a + 1) (j + 1) n (omega (arith, at)), ap (λ b. cond {A = ℕ} b 1 0) (ap p (sym at) ∙ again a))
 
 periods : (p : ℕ → Bool) (period : ℕ) → ((k : ℕ) → p (k + period) ≡ p k) → (m : ℕ) → count_by p (range_with_len 0 (m * period)) ≡ m * count_by p (range_with_len 0 period)
-periods p period again zero =
-    let none : 0 * period ≡ 0 = omega arith in
-    let rest : count_by p (range_with_len 0 (0 * period)) ≡ 0 = ap (λ v. count_by p (range_with_len 0 v)) none in
-    omega (arith, rest)
+periods p period again zero = let none : 0 * period ≡ 0 = omega arith in omega (arith, ap (λ v. count_by p (range_with_len 0 v)) none)
 periods p period again (suc m) =
-    let size : suc m * period ≡ period + m * period = suc_mul m period in
-    let apart : count_by p (range_with_len 0 (period + m * period)) ≡ count_by p (range_with_len 0 period) + count_by p (range_with_len period (m * period)) = counted_apart p 0 period period (m * period) (omega arith) in
-    let later : count_by p (range_with_len period (m * period)) ≡ count_by p (range_with_len 0 (m * period)) = counted_later p period again 0 period (m * period) (omega arith) in
-    let one : suc m * count_by p (range_with_len 0 period) ≡ count_by p (range_with_len 0 period) + m * count_by p (range_with_len 0 period) = suc_mul m (count_by p (range_with_len 0 period)) in
-    ap (λ v. count_by p (range_with_len 0 v)) size ∙ omega (arith, apart, later, one, periods p period again m)
+    ap (λ v. count_by p (range_with_len 0 v)) (suc_mul m period)
+    ∙ omega (arith, counted_apart p 0 period period (m * period) (omega arith), counted_later p period again 0 period (m * period) (omega arith), suc_mul m (count_by p (range_with_len 0 period)), periods p period again m)
   where
     suc_mul : (a b : ℕ) → suc a * b ≡ b + a * b
     suc_mul a b = omega arith
@@ -112,14 +78,8 @@ Repeats f period = (chunk node : ℕ) → f (chunk + period, node) ≡ f (chunk,
 scaled : (u : NodeSet) (nodes : ℕ) (f g : ℕ × ℕ → Bool) (period m size : ℕ) → Repeats f period → Repeats g period → size ≡ m * period → need_of u (placed size nodes f) (placed size nodes g) ≡ m * need_of u (placed period nodes f) (placed period nodes g)
 scaled u nodes f g period m size first second is =
     let p : ℕ → Bool = needs u nodes f g in
-    let again : (k : ℕ) → p (k + period) ≡ p k = λ k.
-    let one : some_stands u nodes g (k + period) ≡ some_stands u nodes g k = any_alike (λ n. u n && g (k + period, n)) (λ n. u n && g (k, n)) (range_with_len 0 nodes) (λ n. ap (λ b. u n && b) (second k n)) in
-    let other : some_stands u nodes f (k + period) ≡ some_stands u nodes f k = any_alike (λ n. u n && f (k + period, n)) (λ n. u n && f (k, n)) (range_with_len 0 nodes) (λ n. ap (λ b. u n && b) (first k n)) in
-    ap (λ b. b && not (some_stands u nodes f (k + period))) one ∙ ap (λ b. some_stands u nodes g k && not b) other in
-    need_by u size nodes f g
-    ∙ ap (λ v. count_by p (range_with_len 0 v)) is
-    ∙ periods p period again m
-    ∙ ap (λ v. m * v) (sym (need_by u period nodes f g))
+    let again : (k : ℕ) → p (k + period) ≡ p k = λ k. λ i. list_any (λ n. second k n i && u n) (range_with_len 0 nodes) && not (list_any (λ n. first k n i && u n) (range_with_len 0 nodes)) in
+    need_by u size nodes f g ∙ ap (λ v. count_by p (range_with_len 0 v)) is ∙ periods p period again m ∙ ap (λ v. m * v) (sym (need_by u period nodes f g))
 
 -- ---- collectives
 
@@ -190,3 +150,12 @@ scales u (spec.Custom p) nodes c some allowed = record {
   count = once c;
   needed = scaled u nodes (in_copies p.base p.before) (in_copies p.base p.after) (p.base * 1) c (p.base * c) (repeats_copies p.base p.before) (repeats_copies p.base p.after) (turned p.base c);
 }
+
+-- so what has to come in at two counts is in the proportion of these
+pub in_proportion : (u : NodeSet) (spec : Spec) (nodes c : ℕ) → 0 < nodes → allows (kind_in spec) nodes c ≡ true
+    → need_of u (spec_instance spec nodes c).pre (spec_instance spec nodes c).post * least_count (kind_in spec) nodes ≡ need_of u (spec_instance spec nodes (least_count (kind_in spec) nodes)).pre (spec_instance spec nodes (least_count (kind_in spec) nodes)).post * c
+in_proportion u spec nodes c some allowed =
+    let least : ℕ = least_count (kind_in spec) nodes in
+    let n : ℕ = need_of u (spec_instance spec nodes least).pre (spec_instance spec nodes least).post in
+    let s : IsScaled u spec nodes c = scales u spec nodes c some allowed in
+    ap (λ v. v * least) (s.needed ∙ mul_comm s.times n) ∙ mul_assoc n s.times least ∙ ap (λ v. n * v) (sym s.count)

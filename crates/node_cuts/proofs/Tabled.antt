@@ -1,6 +1,6 @@
 -- What a table says at a chunk count is what the sets say of the instance.
-use Rattle.std.proofs.Common.{◌≡◌, ℕ, zero, suc, ◌*◌, ◌/◌, ◌<◌, Bool, true, false, cond, List, [], ◌∷◌, get_or, length, refl, sym, ap, ◌∙◌, subst, arith, None, Some, count_by, find, nat_lt}
-use Rattle.std.{specs.Option.option_map, proofs.{Math.Nat.{mul_comm, mul-div_cancel}, lemmas.List.{get_or_default, length-map}}}
+use Rattle.std.proofs.Common.{◌≡◌, ℕ, ◌*◌, ◌/◌, ◌<◌, Bool, true, false, List, get_or, length, refl, sym, ap, ◌∙◌, subst, arith, None, Some, count_by, find, nat_lt}
+use Rattle.std.{specs.Option.option_map, proofs.{Math.Nat.{mul_comm, mul-div_cancel}, lemmas.List.{get_or_default, length-map, Recursion.{found_at as first_at, found_nowhere}}}}
 use Rattle.list_laws.proofs.Fronts.{at_map}
 use Rattle.schedule.specs.{Links.TopologyValue, Placed.PlacementValue}
 use Rattle.collective_spec.specs.{declared.{spec.Spec.Spec, instance.Instance.Instance}, Kinds.allows, Collectives.{kind_in, spec_instance}}
@@ -23,31 +23,24 @@ times_more u spec nodes c some allowed =
 -- ---- the first of a list that passes
 
 pub found_at : {X : Type 0} (p : X → Bool) (xs : List X) (i : ℕ) (d : X) → i < length xs → ((k : ℕ) → k < i → p (get_or xs k d) ≡ false) → p (get_or xs i d) ≡ true → find p xs ≡ Some (get_or xs i d)
-found_at p [] i d inside before passes = absurd (omega (arith, inside))
-found_at p (x ∷ xs) zero d inside before passes = ap (λ b. cond b (Some x) (find p xs)) passes
-found_at p (x ∷ xs) (suc i) d inside before passes =
-    ap (λ b. cond b (Some x) (find p xs)) (before 0 (omega arith)) ∙ found_at p xs i d (omega (arith, inside)) (λ k below. before (suc k) (omega (arith, below))) passes
+found_at p = first_at (find p) p Some None refl (λ x xs. refl)
 
 pub none_found_in : {X : Type 0} (p : X → Bool) (xs : List X) (d : X) → ((k : ℕ) → k < length xs → p (get_or xs k d) ≡ false) → find p xs ≡ None
-none_found_in p [] d each = refl
-none_found_in p (x ∷ xs) d each = ap (λ b. cond b (Some x) (find p xs)) (each 0 (omega arith)) ∙ none_found_in p xs d (λ k below. each (suc k) (omega (arith, below)))
+none_found_in p = found_nowhere (find p) p Some None refl (λ x xs. refl)
 
 -- ---- one set
 
 pub measure_told : (sets : Sets) (t : TopologyValue) (pre post : PlacementValue) (u : NodeSet) (holders known : List HoldersValue) (measure : Measure) → ((v : NodeSet) → count_by (is_lacking v) known ≡ need_of v pre post) → holders ≡ known
     → measure ≡ record { need = count_by (is_lacking u) holders; width = width_by sets u t } → measure ≡ measure_of sets t pre post u
-measure_told sets t pre post u holders known measure counted same is = is ∙ ap of_count (ap (count_by (is_lacking u)) same ∙ counted u)
-  where
-    of_count : ℕ → Measure
-    of_count n = record { need = n; width = width_by sets u t }
+measure_told sets t pre post u holders known measure counted same is =
+    let needed : count_by (is_lacking u) holders ≡ need_of u pre post = ap (count_by (is_lacking u)) same ∙ counted u in
+    is ∙ λ i. record { need = needed i; width = width_by sets u t }
 
 pub fraction_told : (sets : Sets) (t : TopologyValue) (spec : Spec) (u : NodeSet) (nodes least : ℕ) (instance : Instance) (measure : Measure) (fraction : Floor) → nodes ≡ t.nodes → least ≡ least_count (kind_in spec) t.nodes
     → instance ≡ spec_instance spec t.nodes (least_count (kind_in spec) t.nodes) → measure ≡ measure_of sets t instance.pre instance.post u → fraction ≡ record { above = measure.need; below = measure.width * least; nodes = mask_of nodes u } → fraction ≡ fraction_of sets t spec u
 fraction_told sets t spec u nodes least instance measure fraction nodes_is least_is instance_is measure_is is =
-    is ∙ ap (λ n. of n least measure) nodes_is ∙ ap (λ n. of t.nodes n measure) least_is ∙ ap (of t.nodes (least_count (kind_in spec) t.nodes)) (measure_is ∙ ap (λ (i : Instance). measure_of sets t i.pre i.post u) instance_is)
-  where
-    of : ℕ → ℕ → Measure → Floor
-    of n l m = record { above = m.need; below = m.width * l; nodes = mask_of n u }
+    let told = measure_is ∙ ap (λ (i : Instance). measure_of sets t i.pre i.post u) instance_is in
+    is ∙ λ i. record { above = (told i).need; below = (told i).width * least_is i; nodes = mask_of (nodes_is i) u }
 
 -- ---- a table
 

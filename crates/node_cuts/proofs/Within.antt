@@ -1,6 +1,6 @@
 -- The groups of each cover are the topology's, and no more than these.
-use Rattle.std.proofs.Common.{◌≡◌, ℕ, zero, suc, ◌+◌, ◌<◌, ◌≤◌, Bool, true, false, List, [], ◌∷◌, ◌++◌, cond, length, length-append, reverse, ⊎_elim, arith, ◌==◌, Option, None, Some, nat_lt}
-use Rattle.std.{specs.{List.{All, list_any, range_with_len}, Option.option_map_or}, proofs.lemmas.{Bool.cases_Bool, List.{length-reverse, Sorted.{All-permutation, IsPermutation-reverse}}}}
+use Rattle.std.proofs.Common.{ℕ, zero, suc, ◌+◌, ◌<◌, ◌≤◌, Bool, List, [], ◌∷◌, ◌++◌, cond, length, length-append, reverse, arith, ◌==◌, Option, None, Some, nat_lt}
+use Rattle.std.{specs.{List.{All, list_any, range_with_len}, Option.option_map_or}, proofs.lemmas.{Bool.cond_both, List.{length-reverse, Sorted.{All-permutation, IsPermutation-reverse}}}}
 use Rattle.std.proofs.lemmas.List.{Elements.{All-append, All-cons, All-filter, All-head, All-nil, All-tail}, FromFn.{get_or-range_with_len, length-range_with_len}}
 use Rattle.list_laws.proofs.Tests.{few_kept}
 use Rattle.schedule.specs.Links.{TopologyValue}
@@ -13,38 +13,35 @@ pub record IsWithin (t : TopologyValue) (groups : List ℕ) : Type 0 where
   pub below : All (λ group. group < length t.groups) groups
   pub few : length groups ≤ length t.groups
 
-all_below : (n : ℕ) → All (λ k. k < n) (range_with_len 0 n)
-all_below n k d inside =
+pub numbers_below : (n : ℕ) → All (λ k. k < n) (range_with_len 0 n)
+numbers_below n k d inside =
     let low : k < n = omega (arith, inside, length-range_with_len 0 n) in
-    let at = get_or-range_with_len 0 n k d low in
-    omega (arith, at, low)
+    omega (arith, get_or-range_with_len 0 n k d low, low)
 
 pub all_within : (t : TopologyValue) → IsWithin t (all_groups t)
-all_within t = record { below = all_below (length t.groups); few = omega (arith, length-range_with_len 0 (length t.groups)) }
+all_within t = record { below = numbers_below (length t.groups); few = omega (arith, length-range_with_len 0 (length t.groups)) }
 
 pub ascending_within : (t : TopologyValue) (groups : List ℕ) → IsWithin t (ascending t groups)
 ascending_within t groups =
     let p : ℕ → Bool = λ group. list_any (λ other. other == group) groups in
     record {
-      below = All-filter p (λ group. group < length t.groups) (all_groups t) (all_below (length t.groups));
+      below = All-filter p (λ group. group < length t.groups) (all_groups t) (numbers_below (length t.groups));
       few = omega (arith, few_kept p (all_groups t), length-range_with_len 0 (length t.groups));
     }
 
 along_below : (u : NodeSet) (t : TopologyValue) (P : ℕ → Type 0) (taken gs : List ℕ) → All P taken → All P gs → All P (taken_along u t taken gs)
 along_below u t P taken [] each more = each
 along_below u t P taken (g ∷ gs) each more =
-    let here : All P (cond (opens u t taken g) (g ∷ []) []) = ⊎_elim
-    (λ (it : opens u t taken g ≡ true). rw it (All-cons P g [] (All-head P g gs more) (All-nil P)))
-    (λ (it : opens u t taken g ≡ false). rw it (All-nil P))
-    (cases_Bool (opens u t taken g)) in
-    along_below u t P (taken ++ cond (opens u t taken g) (g ∷ []) []) gs (All-append P taken (cond (opens u t taken g) (g ∷ []) []) each here) (All-tail P g gs more)
+    let next : List ℕ = cond (opens u t taken g) (g ∷ []) [] in
+    let here : All P next = cond_both (opens u t taken g) (g ∷ []) [] (All P) (λ it. All-cons P g [] (All-head P g gs more) (All-nil P)) (λ it. All-nil P) in
+    along_below u t P (taken ++ next) gs (All-append P taken next each here) (All-tail P g gs more)
 
 along_few : (u : NodeSet) (t : TopologyValue) (taken gs : List ℕ) → length (taken_along u t taken gs) ≤ length taken + length gs
 along_few u t taken [] = omega arith
 along_few u t taken (g ∷ gs) =
-    let one : length (cond {A = List ℕ} (opens u t taken g) (g ∷ []) []) ≤ 1 =
-    ⊎_elim (λ (it : opens u t taken g ≡ true). rw it (omega arith)) (λ (it : opens u t taken g ≡ false). rw it (omega arith)) (cases_Bool (opens u t taken g)) in
-    omega (arith, along_few u t (taken ++ cond (opens u t taken g) (g ∷ []) []) gs, length-append taken (cond (opens u t taken g) (g ∷ []) []), one)
+    let next : List ℕ = cond (opens u t taken g) (g ∷ []) [] in
+    let one : length next ≤ 1 = cond_both (opens u t taken g) (g ∷ []) [] (λ xs. length xs ≤ 1) (λ it. omega arith) (λ it. omega arith) in
+    omega (arith, along_few u t (taken ++ next) gs, length-append taken next, one)
 
 along_within : (u : NodeSet) (t : TopologyValue) (gs : List ℕ) → IsWithin t gs → IsWithin t (taken_along u t [] gs)
 along_within u t gs is = record { below = along_below u t (λ group. group < length t.groups) [] gs (All-nil (λ group. group < length t.groups)) is.below; few = omega (arith, along_few u t [] gs, is.few) }
@@ -71,11 +68,7 @@ pub greedily_within : (u : NodeSet) (t : TopologyValue) → IsWithin t (cover_gr
 greedily_within u t = best_within u t (length t.groups) []
 
 pub narrower_within : (t : TopologyValue) (first second : List ℕ) → IsWithin t first → IsWithin t second → IsWithin t (narrower t first second)
-narrower_within t first second one other =
-    ⊎_elim
-    (λ (it : nat_lt (width_of t second) (width_of t first) ≡ true). rw it other)
-    (λ (it : nat_lt (width_of t second) (width_of t first) ≡ false). rw it one)
-    (cases_Bool (nat_lt (width_of t second) (width_of t first)))
+narrower_within t first second one other = cond_both (nat_lt (width_of t second) (width_of t first)) second first (IsWithin t) (λ less. other) (λ no_less. one)
 
 pub within_by : (s : Sets) (u : NodeSet) (t : TopologyValue) → IsWithin t (cover_by s u t)
 within_by sets.Nothing u t = cover_within u t

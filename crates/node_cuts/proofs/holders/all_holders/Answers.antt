@@ -1,4 +1,4 @@
-use Rattle.std.{proofs.{Common.{◌≡◌, ℕ, List, [], ◌∷◌, ◌++◌, count_by, length, map, sym, ap, ◌∙◌, arith}, lemmas.List.length-map}, specs.List.range_with_len}
+use Rattle.std.{proofs.{Common.{◌≡◌, ℕ, [], ◌∷◌, ◌++◌, count_by, length, map, sym, ap, ◌∙◌, arith}, lemmas.List.length-map}, specs.List.range_with_len}
 use Rattle.std.proofs.lemmas.List.FromFn.{length-range_with_len, map-range_with_len_more}
 use Rattle.schedule.specs.Placed.{PlacementValue}
 use Rattle.node_cuts.{specs.Holders.{HoldersValue, is_lacking, nodes_with}, proofs.Holding.{all_holders, need_by_holders}}
@@ -9,16 +9,9 @@ holders_of pre post chunk = record { before = nodes_with pre chunk; after = node
 
 pub loop-chunk-preserved : goal.loop-chunk-preserved
 loop-chunk-preserved c =
-    let pre = c.args.instance.now.pre in
-    let post = c.args.instance.now.post in
-    let f : ℕ → HoldersValue = λ chunk. record { before = nodes_with pre chunk; after = nodes_with post chunk } in
+    let f : ℕ → HoldersValue = holders_of c.args.instance.now.pre c.args.instance.now.post in
     let n : ℕ = c.loop-chunk.chunk in
-    let of : List ℕ → List ℕ → HoldersValue = λ before after. record { before = before; after = after } in
-    c.in_ok-push.ensures.items
-    ∙ ap (λ hs. hs ++ of c.in_ok-before.before.items c.in_ok-after.after.items ∷ []) c.loop-chunk.invariant
-    ∙ ap (λ ns. map f (range_with_len 0 n) ++ of ns c.in_ok-after.after.items ∷ []) c.in_ok-before.ensures
-    ∙ ap (λ ns. map f (range_with_len 0 n) ++ of (nodes_with pre n) ns ∷ []) c.in_ok-after.ensures
-    ∙ sym (map-range_with_len_more f 0 n n (omega arith))
+    c.in_ok-push.ensures.items ∙ (λ i. c.loop-chunk.invariant i ++ record { before = c.in_ok-before.ensures i; after = c.in_ok-after.ensures i } ∷ []) ∙ sym (map-range_with_len_more f 0 n n (omega arith))
 
 pub returns : goal.returns
 returns c =

@@ -2,8 +2,8 @@ use Rattle.std.{proofs.Common.{◌≡◌, ◌*◌, ◌<◌, ℕ, Bool, List, Som
 use Rattle.std.proofs.{Math.Nat.mul-one, lemmas.{Bool.cases_eq, List.{get_or_default, length-map}}}
 use Rattle.list_laws.proofs.Fronts.{at_map}
 use Rattle.node_cuts.specs.{declared.{members.Members.{Members, TheVariants.Sided}, side.Side.TheVariants.One, sets.Sets.TheVariants.Listed}, Tables.measure_of}
-use Rattle.node_cuts.specs.{declared.measure.Measure.Measure, Sides.{NodeSet, mask_of, node_sets}, inner.Listed.members}
-use Rattle.node_cuts.specs.{Cuts.{CutValue, cover_by, cut_of, need_of, width_by}, inner.Refuting.cut_refutes}
+use Rattle.node_cuts.specs.{Sides.{NodeSet, mask_of, node_sets}, inner.Listed.members}
+use Rattle.node_cuts.specs.{Cuts.{cut_of, need_of, width_by}, inner.Refuting.cut_refutes}
 use Rattle.node_cuts.proofs.Crossing.{first_by_set}
 use Rattle.node_cuts.proofs.Tabled.{found_at, is_over, measure_told, nobody, none_found_in}
 use Rattle.node_cuts.proofs.refuting.first_cut.Goals as goal
@@ -46,10 +46,8 @@ returns-then-refutes c =
     let measured : c.in_ok-measure.measure ≡ measure_of Listed t i.pre i.post u =
     measure_told Listed t i.pre i.post u c.deref-in-loop-set.result.now c.in_ok-holders.holders.items c.in_ok-measure.measure c.in_ok-holders.ensures.need c.deref-in-loop-set.ensures.value c.in_ok-measure.ensures.measure in
     let told : c.refutes.result ≡ cut_refutes Listed u t i.pre i.post r = c.refutes.ensures ∙ ap (is_over 1 r) measured ∙ ap (nat_lt (width_by Listed u t * r)) (mul-one (need_of u i.pre i.post)) in
-    let of : ℕ → List ℕ → Measure → CutValue = λ nodes groups measure. record { nodes = nodes; groups = groups; need = measure.need; width = measure.width } in
-    let made : c.new.result ≡ cut_of Listed t i.pre i.post u =
-    c.new.ensures ∙ ap (λ n. of n c.in_ok-groups.groups.items c.in_ok-measure.measure) (c.mask.ensures ∙ ap (λ n. mask_of n u) c.nodes-nodes.ensures.nodes)
-    ∙ ap (λ gs. of (mask_of t.nodes u) gs c.in_ok-measure.measure) c.in_ok-groups.ensures.cover ∙ ap (of (mask_of t.nodes u) (cover_by Listed u t)) measured in
+    let mask_is : c.mask.result ≡ mask_of t.nodes u = c.mask.ensures ∙ ap (λ n. mask_of n u) c.nodes-nodes.ensures.nodes in
+    let made : c.new.result ≡ cut_of Listed t i.pre i.post u = c.new.ensures ∙ λ j. record { nodes = mask_is j; groups = c.in_ok-groups.ensures.cover j; need = (measured j).need; width = (measured j).width } in
     let same : u ≡ get_or us at nobody = at_place items us at (Sided (One 0)) all c.loop-set-test.true in
     let p : NodeSet → Bool = λ v. cut_refutes Listed v t i.pre i.post r in
     ap Some (made ∙ ap (cut_of Listed t i.pre i.post) same)

@@ -18,17 +18,12 @@ narrower-requires c =
     let limit = c.in_ok-first.ensures.limits.limit in
     record { first = first.below; few_first = omega (arith, first.few, limit); second = second.below; few_second = omega (arith, second.few, limit) }
 
--- the narrower of two that are known
-narrower_is : (t : TopologyValue) (one first two second now : List ℕ) → one ≡ first → two ≡ second → now ≡ narrower t one two → now ≡ narrower t first second
-narrower_is t one first two second now same other is = is ∙ ap (λ gs. narrower t gs two) same ∙ ap (narrower t first) other
-
 pub narrower-requires-in-All : goal.narrower-requires-in-All
 narrower-requires-in-All c =
     let t = c.args.topology.now in
     let u = members c.args.set in
-    let first = within_as t c.narrower.result.items (narrower t (cover u t) (cover_back u t))
-    (narrower_is t c.in_ok-first.first.items (cover u t) c.in_ok-second-in-All.second.items (cover_back u t) c.narrower.result.items (c.in_ok-first.ensures.cover u c.into-into.ensures) (c.in_ok-second-in-All.ensures u c.into-into.ensures) c.narrower.ensures)
-    (narrower_within t (cover u t) (cover_back u t) (cover_within u t) (back_within u t)) in
+    let two = c.narrower.ensures ∙ λ i. narrower t (c.in_ok-first.ensures.cover u c.into-into.ensures i) (c.in_ok-second-in-All.ensures u c.into-into.ensures i) in
+    let first = within_as t c.narrower.result.items (narrower t (cover u t) (cover_back u t)) two (narrower_within t (cover u t) (cover_back u t) (cover_within u t) (back_within u t)) in
     let second = within_as t c.in_ok-third-in-All.third.items (cover_greedily u t) (c.in_ok-third-in-All.ensures u c.into-into.ensures) (greedily_within u t) in
     let limit = c.in_ok-first.ensures.limits.limit in
     record { first = first.below; few_first = omega (arith, first.few, limit); second = second.below; few_second = omega (arith, second.few, limit) }
@@ -47,10 +42,7 @@ returns-in_ok-third-in-All c =
     let t = c.args.topology.now in
     let u : NodeSet = members c.args.set in
     let now : List ℕ = c.narrower-in-All.result.items in
-    let two : c.narrower.result.items ≡ narrower t (cover u t) (cover_back u t) =
-    narrower_is t c.in_ok-first.first.items (cover u t) c.in_ok-second-in-All.second.items (cover_back u t) c.narrower.result.items (c.in_ok-first.ensures.cover u c.into-into.ensures) (c.in_ok-second-in-All.ensures u c.into-into.ensures) c.narrower.ensures in
-    let is : now ≡ cover_by c.args.sets u t =
-    narrower_is t c.narrower.result.items (narrower t (cover u t) (cover_back u t)) c.in_ok-third-in-All.third.items (cover_greedily u t) now two (c.in_ok-third-in-All.ensures u c.into-into.ensures) c.narrower-in-All.ensures
-    ∙ ap (λ s. cover_by s u t) (sym c.in-All.is) in
+    let two : c.narrower.result.items ≡ narrower t (cover u t) (cover_back u t) = c.narrower.ensures ∙ λ i. narrower t (c.in_ok-first.ensures.cover u c.into-into.ensures i) (c.in_ok-second-in-All.ensures u c.into-into.ensures i) in
+    let is : now ≡ cover_by c.args.sets u t = c.narrower-in-All.ensures ∙ (λ i. narrower t (two i) (c.in_ok-third-in-All.ensures u c.into-into.ensures i)) ∙ ap (λ s. cover_by s u t) (sym c.in-All.is) in
     let within = within_as t now (cover_by c.args.sets u t) is (within_by c.args.sets u t) in
     record { cover = is; within = within.below; few = omega (arith, within.few, c.in_ok-first.ensures.limits.limit) }

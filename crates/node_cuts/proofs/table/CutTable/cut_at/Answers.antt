@@ -1,7 +1,7 @@
 use Rattle.std.proofs.{Common.{◌≡◌, ◌*◌, ◌<◌, ℕ, List, get_or, length, map, sym, ap, ◌∙◌, arith}, lemmas.List.{get_or_default, length-map}}
 use Rattle.list_laws.proofs.Fronts.{at_map}
-use Rattle.node_cuts.specs.{declared.{members.Members.Members, measure.Measure.Measure}, Sides.{NodeSet, mask_of, node_sets}, inner.Listed.members}
-use Rattle.node_cuts.specs.{Cuts.{CutValue, cover_by}, Tables.{TableValue, cut_at, no_measure}}
+use Rattle.node_cuts.specs.{declared.members.Members.Members, Sides.{NodeSet, mask_of, node_sets}, inner.Listed.members}
+use Rattle.node_cuts.specs.{Cuts.cover_by, Tables.{TableValue, cut_at, no_measure}}
 use Rattle.node_cuts.proofs.Tabled.{nobody}
 use Rattle.node_cuts.proofs.table.CutTable.cut_at.Goals as goal
 
@@ -20,13 +20,7 @@ returns c =
     let u : NodeSet = get_or (node_sets sets t.nodes) place nobody in
     let set_is : members set ≡ u = sym (at_map members items place set nobody inside c.index-set.ensures) ∙ ap (λ us. get_or us place nobody) all in
     let measure_is : c.index-measure.result.now ≡ get_or c.self.inside.measures.items place no_measure = c.index-measure.ensures ∙ get_or_default c.self.inside.measures.items place c.index-measure.result.now no_measure measured in
-    let of : ℕ → List ℕ → ℕ → ℕ → CutValue = λ nodes groups need width. record { nodes = nodes; groups = groups; need = need; width = width } in
     let mask_is : c.mask.result ≡ mask_of t.nodes u = c.mask.ensures ∙ ap (λ n. mask_of n (members set)) c.nodes-nodes.ensures.nodes ∙ ap (mask_of t.nodes) set_is in
     let cover_is : c.in_ok-groups.groups.items ≡ cover_by sets u t = c.in_ok-groups.ensures.cover ∙ ap (λ w. cover_by sets w t) set_is in
-    let made : c.new.result ≡ cut_at v place c.args.times =
-    c.new.ensures
-    ∙ ap (λ n. of n c.in_ok-groups.groups.items (c.index-measure.result.now.need * c.from.result) c.index-measure.result.now.width) mask_is
-    ∙ ap (λ gs. of (mask_of t.nodes u) gs (c.index-measure.result.now.need * c.from.result) c.index-measure.result.now.width) cover_is
-    ∙ ap (λ n. of (mask_of t.nodes u) (cover_by sets u t) (c.index-measure.result.now.need * n) c.index-measure.result.now.width) c.from.ensures
-    ∙ ap (λ (m : Measure). of (mask_of t.nodes u) (cover_by sets u t) (m.need * c.args.times) m.width) measure_is in
+    let made : c.new.result ≡ cut_at v place c.args.times = c.new.ensures ∙ λ i. record { nodes = mask_is i; groups = cover_is i; need = (measure_is i).need * c.from.ensures i; width = (measure_is i).width } in
     made ∙ ap (λ (w : TableValue). cut_at w place c.args.times) c.self.view_is

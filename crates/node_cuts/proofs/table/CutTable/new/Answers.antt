@@ -3,7 +3,7 @@ use Rattle.std.proofs.lemmas.{List.{take_all, take_more, Elements.{All-append, A
 use Rattle.collective_spec.specs.{declared.instance.Instance.Instance, Collectives.{kind_in, spec_instance}}
 use Rattle.node_cuts.specs.declared.{members.Members.{Members, TheVariants.Sided}, side.Side.TheVariants.One, measure.Measure.Measure, floor.Floor.Floor}
 use Rattle.node_cuts.specs.{Sides.{NodeSet, node_sets}, inner.Listed.members, Floors.{first_greatest, floor_of, fraction_of, greater_of, has_need, least_count}}
-use Rattle.node_cuts.specs.Tables.{IsLow, IsSmall, TableValue, measure_of, table_of}
+use Rattle.node_cuts.specs.Tables.{IsLow, IsSmall, measure_of}
 use Rattle.node_cuts.proofs.{Best.{IsBest, best_is, best_more}, Filling.mapped_more, Tabled.{fraction_told, measure_told}}
 use Rattle.node_cuts.proofs.table.CutTable.new.Goals as goal
 
@@ -60,6 +60,4 @@ returns-clause-table c =
     let floor_is : c.greatest.result ≡ floor_of sets t spec =
     c.greatest.ensures ∙ best_is (filter has_need (map g (take at items))) c.loop-set.best c.loop-set.invariant.best
     ∙ ap (λ ms. first_greatest (filter has_need (map g ms))) whole ∙ ap (λ fs. first_greatest (filter has_need fs)) (sym (map-map (fraction_of sets t spec) members items) ∙ ap (map (fraction_of sets t spec)) all) in
-    let of : ℕ → List Measure → Floor → TableValue = λ n ms floor. record { sets = sets; topology = t; least = n; measures = ms; floor = floor } in
-    ap (λ v. record { sets = sets; topology = v; least = c.least_count-least.result; measures = c.loop-set.measures.items; floor = c.greatest.result }) c.in_ok-copy_of.ensures
-    ∙ ap (λ n. of n c.loop-set.measures.items c.greatest.result) least_is ∙ ap (λ ms. of least ms c.greatest.result) measures_are ∙ ap (of least (table_of sets t spec).measures) floor_is
+    λ i. record { sets = sets; topology = c.in_ok-copy_of.ensures i; least = least_is i; measures = measures_are i; floor = floor_is i }
