@@ -2,12 +2,12 @@
 use Rattle.std.proofs.Common.{◌≡◌, ℕ, ◌<◌, Bool, true, false, List, [], ◌∷◌, map, length, get_or, eqb, ltb, refl, sym, ap, ◌∙◌, subst, ◌⊎◌, inl, inr, ⊎_elim, arith, ◌||◌, ◌&&◌, if◌then◌else◌, flat_map, All, AllPairs}
 use Rattle.std.specs.List.{enumerate_from}
 use Rattle.std.{specs.List.{list_any, range_with_len, position_or_len}, proofs.lemmas.List.{Elements.{All-nil, All-cons}, Folds.list_any_at}}
-use Rattle.std.proofs.lemmas.{Bool.{and_parts, and_from, or_left, or_right, or_cases, ltb-true, lt-ltb, eq-eqb, cases_lt}, List.Kept.AllPairs-filter}
+use Rattle.std.proofs.lemmas.{Bool.{and_from, or_left, or_right, lt-ltb, eq-eqb, cases_lt}, List.Kept.AllPairs-filter}
 use Rattle.list_laws.proofs.Pairs.{no_pairs}
 use Rattle.schedule.specs.{declared.hop.Hop.Hop, Links.{TopologyValue, is_usable, usable_links}, Placed.{all_pairs, same_pair}, Sends.{hop_before, link_of}}
-use Rattle.schedule.proofs.Placing.{pair_is, pair_itself}
+use Rattle.schedule.proofs.{Placing.{pair_is, pair_itself}, HopOrder.same_hop, Verdicts.sends_one_way}
 use Rattle.cnf_formula.specs.Literals.{is_true}
-use Rattle.send_encoding.specs.{Variables.{SendMapValue, steps_of, sent}, Sent.sends_of}
+use Rattle.send_encoding.specs.{Variables.{SendMapValue, steps_of, sent}, Sent.{hop_over, sends_of}}
 use Rattle.send_encoding.proofs.{Everywhere.{in_map, in_flat, place_below}, Members.passes_at}
 use Rattle.send_encoding.proofs.Orders.{one_pairs, flat_pairs, map_pairs, range_pairs, numbered_pairs}
 
@@ -18,9 +18,6 @@ LinkBefore a b = (a.0 < b.0) ⊎ ((a.0 ≡ b.0) × (a.1 < b.1))
 never_before_itself : (a b : ℕ × ℕ) → LinkBefore a b → a ≡ b → ⊥
 never_before_itself a b before same =
     ⊎_elim (λ less. omega (arith, less, ap (λ l. l.0) same)) (λ (here : (a.0 ≡ b.0) × (a.1 < b.1)). omega (arith, here.1, ap (λ l. l.1) same)) before
-
-all_every : {X : Type 0} (P : X → Type 0) (xs : List X) → ((x : X) → P x) → All P xs
-all_every P xs h = λ k d low. h (get_or xs k d)
 
 all_pairs_ascend : (rows columns : ℕ) → AllPairs LinkBefore (all_pairs rows columns)
 all_pairs_ascend rows columns =
@@ -63,13 +60,8 @@ by_link a b step chunk before =
 -- no send stands before one of the same numbers
 pub never_twice : (a b : Hop) → hop_before a b ≡ true → a.step ≡ b.step → a.chunk ≡ b.chunk → a.from ≡ b.from → a.to ≡ b.to → ⊥
 never_twice a b h step chunk from to =
-    ⊎_elim (λ l. omega (arith, ltb-true a.step b.step l, step))
-    (λ r. ⊎_elim (λ l. omega (arith, ltb-true a.chunk b.chunk l, chunk))
-    (λ r. ⊎_elim (λ l. omega (arith, ltb-true a.from b.from l, from))
-    (λ r. omega (arith, ltb-true a.to b.to (and_parts (eqb a.from b.from) (ltb a.to b.to) r).1, to))
-    (or_cases (ltb a.from b.from) (eqb a.from b.from && ltb a.to b.to) (and_parts (eqb a.chunk b.chunk) (ltb a.from b.from || (eqb a.from b.from && ltb a.to b.to)) r).1))
-    (or_cases (ltb a.chunk b.chunk) (eqb a.chunk b.chunk && (ltb a.from b.from || (eqb a.from b.from && ltb a.to b.to))) (and_parts (eqb a.step b.step) (ltb a.chunk b.chunk || (eqb a.chunk b.chunk && (ltb a.from b.from || (eqb a.from b.from && ltb a.to b.to)))) r).1))
-    (or_cases (ltb a.step b.step) (eqb a.step b.step && (ltb a.chunk b.chunk || (eqb a.chunk b.chunk && (ltb a.from b.from || (eqb a.from b.from && ltb a.to b.to))))) h)
+    let same = same_hop a b chunk from to step in
+    sends_one_way a b h (ap (λ c. hop_before c a) (sym same) ∙ ap (hop_before a) same ∙ h)
 
 module _ (m : SendMapValue) (values : List Bool) (ascend : AllPairs LinkBefore m.links) where
   abbrev Before : Hop → Hop → Type 0
@@ -78,11 +70,8 @@ module _ (m : SendMapValue) (values : List Bool) (ascend : AllPairs LinkBefore m
   abbrev hop : ℕ → ℕ → ℕ × (ℕ × ℕ) → Hop
   hop k c z = record { chunk = c; from = z.1.0; to = z.1.1; step = k }
 
-  abbrev at_link : ℕ → ℕ → ℕ × (ℕ × ℕ) → List Hop
-  at_link k c (e, link) = if is_true values (sent m c e k) then record { chunk = c; from = link.0; to = link.1; step = k } ∷ [] else []
-
   abbrev of_chunk : ℕ → ℕ → List Hop
-  of_chunk k c = flat_map (at_link k c) (enumerate_from 0 m.links)
+  of_chunk k c = flat_map (hop_over m values k c) (enumerate_from 0 m.links)
 
   abbrev of_step : ℕ → List Hop
   of_step k = flat_map (of_chunk k) (range_with_len 0 m.chunks)
@@ -97,11 +86,11 @@ module _ (m : SendMapValue) (values : List Bool) (ascend : AllPairs LinkBefore m
 
   chunk_all : (P : Hop → Type 0) (k c : ℕ) → ((z : ℕ × (ℕ × ℕ)) → P (hop k c z)) → All P (of_chunk k c)
   chunk_all P k c h =
-      in_flat P (λ z. Unit {0}) (at_link k c) (enumerate_from 0 m.links) (λ z _. if_is P (hop k c z) (h z) (is_true values (sent m c z.0 k))) (all_every (λ z. Unit {0}) (enumerate_from 0 m.links) (λ z. tt))
+      in_flat P (λ z. Unit {0}) (hop_over m values k c) (enumerate_from 0 m.links) (λ z _. if_is P (hop k c z) (h z) (is_true values (sent m c z.0 k))) (λ i d low. tt)
 
   chunk_ascends : (k c : ℕ) → AllPairs Before (of_chunk k c)
   chunk_ascends k c =
-      flat_pairs (λ y z. LinkBefore y.1 z.1) Before (λ z h. h ≡ hop k c z) (at_link k c) (λ z. if_pairs (hop k c z) (is_true values (sent m c z.0 k)))
+      flat_pairs (λ y z. LinkBefore y.1 z.1) Before (λ z h. h ≡ hop k c z) (hop_over m values k c) (λ z. if_pairs (hop k c z) (is_true values (sent m c z.0 k)))
       (λ z. if_is (λ h. h ≡ hop k c z) (hop k c z) refl (is_true values (sent m c z.0 k)))
       (λ y z a b before pa pb.
       by_link a b (ap (λ (h : Hop). h.step) pa ∙ sym (ap (λ (h : Hop). h.step) pb)) (ap (λ (h : Hop). h.chunk) pa ∙ sym (ap (λ (h : Hop). h.chunk) pb))
@@ -118,6 +107,6 @@ module _ (m : SendMapValue) (values : List Bool) (ascend : AllPairs LinkBefore m
   pub sends_ascend : AllPairs Before (sends_of m values)
   sends_ascend =
       flat_pairs (λ i j. i < j) Before (λ k h. h.step ≡ k) of_step step_ascends
-      (λ k. in_flat (λ h. h.step ≡ k) (λ c. Unit {0}) (of_chunk k) (range_with_len 0 m.chunks) (λ c _. chunk_all (λ h. h.step ≡ k) k c (λ z. refl)) (all_every (λ c. Unit {0}) (range_with_len 0 m.chunks) (λ c. tt)))
+      (λ k. in_flat (λ h. h.step ≡ k) (λ c. Unit {0}) (of_chunk k) (range_with_len 0 m.chunks) (λ c _. chunk_all (λ h. h.step ≡ k) k c (λ z. refl)) (λ i d low. tt))
       (λ k l a b less pa pb. by_step a b (omega (arith, less, pa, pb)))
       (steps_of m) (range_pairs 1 m.steps)

@@ -2,16 +2,16 @@
 use Rattle.std.proofs.Common.{◌≡◌, ℕ, ◌+◌, ◌-◌, ◌<◌, ◌≤◌, Bool, true, false, cond, List, [], ◌∷◌, ◌++◌, map, length, get_or, refl, sym, ap, ◌∙◌, ⊎_elim, arith, ◌||◌, if◌then◌else◌, flat_map, filter, count_by, All}
 use Rattle.std.specs.List.{enumerate_from, range_with_len}
 use Rattle.std.{specs.List.{list_any, list_all}, proofs.lemmas.{Bool.{and_from, or_left, or_right, cases_Bool, not_from_false}, List.Folds.list_all-append}}
-use Rattle.std.proofs.lemmas.List.{Elements.{All-cons, All-head, All-tail, All-filter}, Sums.sum_by-cons, FromFn.{length-enumerate_from, get_or-enumerate_from}}
+use Rattle.std.proofs.lemmas.List.{Elements.{All-head, All-tail, All-filter}, Sums.{sum_by-cons, AllPass-from_list_all, list_all-from_AllPass}, FromFn.{length-enumerate_from, get_or-enumerate_from}}
 use Rattle.std.proofs.lemmas.List.{get_or_default}
-use Rattle.schedule.{specs.{Placed.{all_pairs, PlacementValue, holds}, Sends.IsStep}, proofs.Placing.all_below}
+use Rattle.schedule.{specs.{Placed.{all_pairs, PlacementValue, holds}, Sends.IsStep}, proofs.{Placing.all_below, First.{Among, Among-from_Contains}}}
 use Rattle.cnf_formula.{specs.Literals.{LitValue, negation, is_true, clause_holds, all_hold}, proofs.Clauses.negation_is}
 use Rattle.cardinality.{specs.Counting.at_most_one_of, proofs.Pairs.pairs_decide}
 use Rattle.send_encoding.specs.Variables.{SendMapValue, steps_of, links_into, arrival, sent}
 use Rattle.send_encoding.specs.inner.Parts.{node_arrives}
 use Rattle.send_encoding.specs.Sending.{at_start, keeps, at_end, send_over, sends_arrive, sends_into, arrives_by_sends, arrives_once, sending}
 use Rattle.send_encoding.specs.Moving.{IsLinkOf, Moves, JoinsNodes}
-use Rattle.send_encoding.proofs.{Everywhere.{by_recursion, From, in_range, in_numbers}, About.{InGrid, IsStepOf}}
+use Rattle.send_encoding.proofs.{Everywhere.{by_recursion, From, in_map, in_flat, in_range, in_numbers}, Members.kept, About.{InGrid, IsStepOf}}
 
 pub numbered_are : (m : SendMapValue) → All (JoinsNodes m) m.links → All (IsLinkOf m) (enumerate_from 0 m.links)
 numbered_are m links = λ k d h.
@@ -23,15 +23,20 @@ numbered_are m links = λ k d h.
     let same : get_or m.links k d.1 ≡ get_or m.links k (0, 0) = get_or_default m.links k d.1 (0, 0) low in
     record { number = z.0; from = z.1.0; to = z.1.1; is = ap (λ w. w.1) at ∙ same ∙ ap (λ n. get_or m.links n (0, 0)) (sym number) }
 
+pub link_listed : (m : SendMapValue) (z : ℕ × (ℕ × ℕ)) → IsLinkOf m z → Among z (enumerate_from 0 m.links)
+link_listed m z at =
+    let zero : 0 + z.0 ≡ z.0 = omega arith in
+    let link : get_or m.links z.0 z.1 ≡ z.1 = get_or_default m.links z.0 z.1 (0, 0) at.number ∙ sym at.is in
+    let is : get_or (enumerate_from 0 m.links) z.0 z ≡ z = get_or-enumerate_from 0 m.links z.0 z at.number ∙ ap (λ n. (n, get_or m.links z.0 z.1)) zero ∙ ap (λ l. (z.0, l)) link in
+    Among-from_Contains z (enumerate_from 0 m.links) (z.0, omega (arith, at.number, length-enumerate_from 0 m.links), is)
+
 -- ---- clauses, everywhere
 
 pub passes_flat : {X A : Type 0} (p : A → Bool) (Q : X → Type 0) (g : X → List A) (xs : List X) → ((x : X) → Q x → list_all p (g x) ≡ true) → All Q xs → list_all p (flat_map g xs) ≡ true
-passes_flat p Q g [] h all = refl
-passes_flat p Q g (x ∷ xs) h all = list_all-append p (g x) (flat_map g xs) ∙ and_from (list_all p (g x)) (list_all p (flat_map g xs)) (h x (All-head Q x xs all)) (passes_flat p Q g xs h (All-tail Q x xs all))
+passes_flat p Q g xs h all = list_all-from_AllPass p (flat_map g xs) (in_flat (λ y. p y ≡ true) Q g xs (λ x q. AllPass-from_list_all p (g x) (h x q)) all)
 
 pub passes_map : {X A : Type 0} (p : A → Bool) (Q : X → Type 0) (g : X → A) (xs : List X) → ((x : X) → Q x → p (g x) ≡ true) → All Q xs → list_all p (map g xs) ≡ true
-passes_map p Q g [] h all = refl
-passes_map p Q g (x ∷ xs) h all = and_from (p (g x)) (list_all p (map g xs)) (h x (All-head Q x xs all)) (passes_map p Q g xs h (All-tail Q x xs all))
+passes_map p Q g xs h all = list_all-from_AllPass p (map g xs) (in_map (λ y. p y ≡ true) Q g xs h all)
 
 pub any_alike : {X A : Type 0} (p : A → Bool) (q : X → Bool) (Q : X → Type 0) (g : X → A) (xs : List X) → ((x : X) → Q x → p (g x) ≡ q x) → All Q xs → list_any p (map g xs) ≡ list_any q xs
 any_alike p q Q g [] h all = refl
@@ -94,15 +99,7 @@ module _ (m : SendMapValue) (pre post : PlacementValue) (a x : ℕ → ℕ → �
 
   end_holds : all_hold values (at_end m post) ≡ true
   end_holds = passes_map (clause_holds values) (λ p. InGrid m p × (holds post p ≡ true)) (λ (c, n). arrival m c n m.steps ∷ []) (filter (holds post) (all_pairs m.chunks m.nodes))
-      (λ p at. one_true values (arrival m p.0 p.1 m.steps) (ha p.0 p.1 m.steps at.0.0 at.0.1 (omega arith) ∙ moves.ends p.0 p.1 at.0.0 at.0.1 at.1)) (kept (holds post) (all_pairs m.chunks m.nodes) grid)
-    where
-      kept : (p : ℕ × ℕ → Bool) (zs : List (ℕ × ℕ)) → All (InGrid m) zs → All (λ z. InGrid m z × (p z ≡ true)) (filter p zs)
-      kept p [] all = λ k d h. absurd (omega (arith, h))
-      kept p (z ∷ zs) all = go (p z) refl (kept p zs (All-tail (InGrid m) z zs all))
-        where
-          go : (b : Bool) → p z ≡ b → All (λ z. InGrid m z × (p z ≡ true)) (filter p zs) → All (λ z. InGrid m z × (p z ≡ true)) (cond b (z ∷ filter p zs) (filter p zs))
-          go true e rest = All-cons (λ z. InGrid m z × (p z ≡ true)) z (filter p zs) (All-head (InGrid m) z zs all, e) rest
-          go false e rest = rest
+      (λ p at. one_true values (arrival m p.0 p.1 m.steps) (ha p.0 p.1 m.steps at.0.0 at.0.1 (omega arith) ∙ moves.ends p.0 p.1 at.0.0 at.0.1 at.1)) (kept (holds post) (InGrid m) (all_pairs m.chunks m.nodes) grid)
 
   over_holds : (c s : ℕ) (z : ℕ × (ℕ × ℕ)) → c < m.chunks → IsLinkOf m z → IsStep m.steps s → all_hold values (send_over m c z s) ≡ true
   over_holds c s (e, link) low at step =

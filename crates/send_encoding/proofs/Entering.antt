@@ -1,9 +1,9 @@
 -- No more links lead into a node than there are nodes.
-use Rattle.std.proofs.Common.{◌≡◌, ◌==◌, ℕ, zero, suc, ◌+◌, ◌<◌, ◌≤◌, Bool, cond, eqb, List, [], ◌∷◌, length, map, refl, sym, ap, ◌∙◌, ⊎_elim, arith, flat_map, count_by, not}
-use Rattle.std.{specs.List.{range_with_len, enumerate_from}, proofs.lemmas.{Bool.{eqb-true, cases_Bool}, List.Filters.sum_by-filter_both}}
+use Rattle.std.proofs.Common.{◌≡◌, ◌==◌, ℕ, zero, suc, ◌+◌, ◌<◌, ◌≤◌, Bool, cond, List, [], ◌∷◌, length, map, refl, sym, ap, ◌∙◌, arith, flat_map, count_by, not}
+use Rattle.std.{specs.List.{range_with_len, enumerate_from}, proofs.lemmas.{Bool.eqb-true, List.Filters.sum_by-filter_both}}
 use Rattle.std.proofs.lemmas.List.Sums.{length-filter, sum_by-cons, sum_by-append}
 use Rattle.schedule.specs.{Links.{TopologyValue, is_usable, usable_links}, Placed.{PlacementValue, all_pairs}}
-use Rattle.send_encoding.specs.Variables.{map_of, links_into}
+use Rattle.send_encoding.{specs.Variables.{map_of, links_into}, proofs.Orders.{apart_once, map_pairs, range_pairs}}
 
 abbrev one_if : {X : Type 0} → (X → Bool) → X → ℕ
 one_if q x = cond (q x) 1 0
@@ -21,28 +21,18 @@ enters node link = link.1 == node
 abbrev row : ℕ → ℕ → ℕ → List (ℕ × ℕ)
 row from a k = map (λ to. (from, to)) (range_with_len a k)
 
-none_later : (node from a k : ℕ) → node < a → count_by (enters node) (row from a k) ≡ 0
-none_later node from a zero low = refl
-none_later node from a (suc k) low =
-    let step : count_by (enters node) (row from a (suc k)) ≡ cond (eqb a node) 1 0 + count_by (enters node) (row from (a + 1) k) = sum_by-cons (one_if (enters node)) (from, a) (row from (a + 1) k) in
-    ⊎_elim (λ t. let same = eqb-true a node t in absurd (omega (arith, same, low)))
-    (λ f. omega (arith, step, ap {B = ℕ} (λ b. cond b 1 0) f, none_later node from (a + 1) k (omega (arith, low))))
-    (cases_Bool (eqb a node))
-
-one_from : (node from a k : ℕ) → count_by (enters node) (row from a k) ≤ 1
-one_from node from a zero = omega arith
-one_from node from a (suc k) =
-    let step : count_by (enters node) (row from a (suc k)) ≡ cond (eqb a node) 1 0 + count_by (enters node) (row from (a + 1) k) = sum_by-cons (one_if (enters node)) (from, a) (row from (a + 1) k) in
-    ⊎_elim (λ t. let same = eqb-true a node t in omega (arith, step, ap {B = ℕ} (λ b. cond b 1 0) t, none_later node from (a + 1) k (omega (arith, same))))
-    (λ f. omega (arith, step, ap {B = ℕ} (λ b. cond b 1 0) f, one_from node from (a + 1) k))
-    (cases_Bool (eqb a node))
+one_from : (node from n : ℕ) → count_by (enters node) (row from 0 n) ≤ 1
+one_from node from n =
+    let Later : ℕ × ℕ → ℕ × ℕ → Type 0 = λ a b. a.1 < b.1 in
+    apart_once Later (enters node) (λ a b less t u. omega (arith, less, eqb-true a.1 node t, eqb-true b.1 node u)) (row from 0 n)
+    (map_pairs (λ i j. i < j) Later (λ to. (from, to)) (λ i j less. less) (range_with_len 0 n) (range_pairs 0 n))
 
 from_each : (node nodes a k : ℕ) → count_by (enters node) (flat_map (λ from. row from 0 nodes) (range_with_len a k)) ≤ k
 from_each node nodes a zero = omega arith
 from_each node nodes a (suc k) =
     let parts : count_by (enters node) (flat_map (λ from. row from 0 nodes) (range_with_len a (suc k))) ≡ count_by (enters node) (row a 0 nodes) + count_by (enters node) (flat_map (λ from. row from 0 nodes) (range_with_len (a + 1) k)) =
     sum_by-append (one_if (enters node)) (row a 0 nodes) (flat_map (λ from. row from 0 nodes) (range_with_len (a + 1) k)) in
-    omega (arith, parts, one_from node a 0 nodes, from_each node nodes (a + 1) k)
+    omega (arith, parts, one_from node a nodes, from_each node nodes (a + 1) k)
 
 pub few_enter : (t : TopologyValue) (pre : PlacementValue) (steps node : ℕ) → length (links_into (map_of t pre steps) node) ≤ t.nodes
 few_enter t pre steps node =

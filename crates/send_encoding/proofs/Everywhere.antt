@@ -1,15 +1,14 @@
 -- What holds of each element of a list that is made of others.
-use Rattle.std.proofs.Common.{◌≡◌, ℕ, zero, suc, ◌+◌, ◌*◌, ◌<◌, ◌≤◌, Bool, true, false, cond, ◌||◌, List, [], ◌∷◌, ◌++◌, length, map, subst, ⊎_elim, arith, flat_map, not, All}
-use Rattle.std.{specs.List.{list_any, range_with_len, enumerate_from, position_or_len, AllByRecursion}, proofs.lemmas.Bool.{or_left, or_right, cases_Bool}}
-use Rattle.std.proofs.{lemmas.List.Elements.{All-nil, All-cons, All-head, All-tail, All-append}, Math.Nat.mul-le-mul_right}
+use Rattle.std.proofs.Common.{◌≡◌, ℕ, zero, suc, ◌+◌, ◌*◌, ◌<◌, ◌≤◌, Bool, true, List, [], ◌∷◌, length, length-append, map, sym, ◌∙◌, ⊎_elim, arith, flat_map, All}
+use Rattle.std.{specs.List.{list_any, range_with_len, enumerate_from, position_or_len, AllByRecursion}, proofs.lemmas.Bool.{false≢true, cases_lt}}
+use Rattle.std.proofs.lemmas.List.{Sums.{fails_before_first, passes_at_first}, Folds.{list_any_at, list_any_none}, FromFn.{length-range_with_len, get_or-range_with_len}}
+use Rattle.std.proofs.{lemmas.List.Elements.{All-nil, All-cons, All-head, All-tail, All-append, All-map, All-weaker, All-from_recursion}, Math.Nat.mul-le-mul_right}
 
 pub by_recursion : {X : Type 0} (P : X → Type 0) (xs : List X) → AllByRecursion P xs → All P xs
-by_recursion P [] a = All-nil P
-by_recursion P (x ∷ xs) a = All-cons P x xs a.0 (by_recursion P xs a.1)
+by_recursion P xs a = All-from_recursion P xs a
 
 pub in_map : {X A : Type 0} (P : A → Type 0) (Q : X → Type 0) (f : X → A) (xs : List X) → ((x : X) → Q x → P (f x)) → All Q xs → All P (map f xs)
-in_map P Q f [] h a = All-nil P
-in_map P Q f (x ∷ xs) h a = All-cons P (f x) (map f xs) (h x (All-head Q x xs a)) (in_map P Q f xs h (All-tail Q x xs a))
+in_map P Q f xs h a = All-map P f xs (All-weaker Q (λ x. P (f x)) h xs a)
 
 pub in_flat : {X A : Type 0} (P : A → Type 0) (Q : X → Type 0) (f : X → List A) (xs : List X) → ((x : X) → Q x → All P (f x)) → All Q xs → All P (flat_map f xs)
 in_flat P Q f [] h a = All-nil P
@@ -20,11 +19,10 @@ abbrev pub From : ℕ → ℕ → ℕ → Type 0
 From a n j = (a ≤ j) × (j < a + n)
 
 pub in_range : (a n : ℕ) → All (From a n) (range_with_len a n)
-in_range a n = go a n (omega arith) (omega arith)
-  where
-    go : (b k : ℕ) → a ≤ b → b + k ≤ a + n → All (From a n) (range_with_len b k)
-    go b zero low high = All-nil (From a n)
-    go b (suc k) low high = All-cons (From a n) b (range_with_len (b + 1) k) (low, omega (arith, high)) (go (b + 1) k (omega (arith, low)) (omega (arith, high)))
+in_range a n = λ k d low.
+    let few : k < n = omega (arith, low, length-range_with_len a n) in
+    let is = get_or-range_with_len a n k d few in
+    (omega (arith, is), omega (arith, is, few))
 
 -- a number of a list's element, and the element
 abbrev pub Numbered : {X : Type 0} → (X → Type 0) → ℕ → ℕ × X → Type 0
@@ -37,29 +35,17 @@ in_numbers Q (x ∷ xs) k n high a = All-cons (Numbered Q n) (k, x) (enumerate_f
 -- a list of ranges is not empty
 pub some_in_flat : {A : Type 0} (f : ℕ → List A) (a n : ℕ) → 0 < n → ((j : ℕ) → 0 < length (f j)) → 0 < length (flat_map f (range_with_len a n))
 some_in_flat f a zero h some = absurd (omega (arith, h))
-some_in_flat f a (suc n) h some = longer (f a) (flat_map f (range_with_len (a + 1) n)) (some a)
-  where
-    longer : {A : Type 0} (xs ys : List A) → 0 < length xs → 0 < length (xs ++ ys)
-    longer [] ys k = absurd (omega (arith, k))
-    longer (x ∷ xs) ys k = omega arith
-
-place_step : (b any : Bool) (n m : ℕ) → (b || any) ≡ true → (any ≡ true → n < m) → cond (not b) (1 + n) 0 < suc m
-place_step true any n m e h = omega arith
-place_step false any n m e h = let later = h e in omega (arith, later)
+some_in_flat f a (suc n) h some = omega (arith, some a, length-append (f a) (flat_map f (range_with_len (a + 1) n)))
 
 -- an element that passes has its place
 pub place_below : {X : Type 0} (p : X → Bool) (xs : List X) → list_any p xs ≡ true → position_or_len p xs < length xs
-place_below p [] e = absurd (cc)
-place_below p (x ∷ xs) e = place_step (p x) (list_any p xs) (position_or_len p xs) (length xs) e (place_below p xs)
+place_below p xs e =
+    ⊎_elim (λ low. low) (λ high. absurd (false≢true (sym (list_any_none p xs (λ k d low. fails_before_first p xs k d (omega (arith, high, low)))) ∙ e)))
+    (cases_lt (position_or_len p xs) (length xs))
 
 pub below_listed : {X : Type 0} (p : X → Bool) (xs : List X) → position_or_len p xs < length xs → list_any p xs ≡ true
 below_listed p [] low = absurd (omega (arith, low))
-below_listed p (x ∷ xs) low =
-    ⊎_elim (λ t. or_left (p x) (list_any p xs) t)
-    (λ f.
-    let later : 1 + position_or_len p xs < suc (length xs) = subst (λ b. cond (not b) (1 + position_or_len p xs) 0 < suc (length xs)) f low in
-    or_right (p x) (list_any p xs) (below_listed p xs (omega (arith, later))))
-    (cases_Bool (p x))
+below_listed p (x ∷ xs) low = list_any_at p (x ∷ xs) (position_or_len p (x ∷ xs)) x low (passes_at_first p (x ∷ xs) x low)
 
 -- the b-th of B places in the a-th of A rows is one of all places
 pub slot : (a b rows places : ℕ) → a < rows → b < places → a * places + b < rows * places

@@ -1,74 +1,47 @@
 -- The first of a numbered list that passes a test.
-use Rattle.std.proofs.Common.{◌≡◌, ℕ, ◌+◌, ◌<◌, ◌≤◌, Bool, true, false, cond, eqb, List, [], ◌∷◌, refl, sym, ap, ◌∙◌, ⊎_elim, arith, filter, count_by, All}
-use Rattle.std.{specs.List.{list_any, enumerate_from}, proofs.lemmas.Bool.{false≢true, or_left, or_right, or_cases, cases_Bool, eqb-true, eq-eqb}}
-use Rattle.std.proofs.lemmas.List.{Elements.{All-head, All-tail}, Sums.sum_by-cons}
-use Rattle.list_laws.proofs.Tests.{any_alike}
-use Rattle.send_encoding.specs.Leading.{leads}
+use Rattle.std.proofs.Common.{◌≡◌, ℕ, ◌<◌, ◌≤◌, Bool, true, false, cond, ◌||◌, eqb, List, [], ◌∷◌, length, inl, inr, refl, sym, ap, ◌∙◌, ⊎_elim, arith, filter, count_by, All, AllPairs}
+use Rattle.std.{specs.List.{list_any, enumerate_from}, proofs.lemmas.Bool.{false≢true, or_left, or_right, cases_Bool, eqb-true, eq-eqb}}
+use Rattle.std.proofs.lemmas.List.{Elements.All-contains, Kept.AllPairs-filter, FromFn.{length-enumerate_from, get_or-enumerate_from}}
+use Rattle.schedule.proofs.First.{Among, any_among, Contains-from_Among}
+use Rattle.send_encoding.{specs.Leading.leads, proofs.Orders.apart_once}
 
 module _ {X : Type 0} (p : ℕ × X → Bool) where
-  leads_yes : (z : ℕ × X) (zs : List (ℕ × X)) (e : ℕ) → p z ≡ true → leads p (z ∷ zs) e ≡ eqb z.0 e
-  leads_yes z zs e t = ap (λ b. cond b (eqb z.0 e) (leads p zs e)) t
-
-  leads_no : (z : ℕ × X) (zs : List (ℕ × X)) (e : ℕ) → p z ≡ false → leads p (z ∷ zs) e ≡ leads p zs e
-  leads_no z zs e f = ap (λ b. cond b (eqb z.0 e) (leads p zs e)) f
-
-  -- where some pass, one is the first
-  pub some_leads : (zs : List (ℕ × X)) → list_any p zs ≡ true → list_any (λ z. leads p zs z.0) zs ≡ true
-  some_leads [] h = h
-  some_leads (z ∷ zs) h =
-      ⊎_elim (λ t. or_left (leads p (z ∷ zs) z.0) (list_any (λ y. leads p (z ∷ zs) y.0) zs) (leads_yes z zs z.0 t ∙ eq-eqb z.0 z.0 refl))
-      (λ f.
-      let rest : list_any p zs ≡ true = ⊎_elim (λ t. absurd (false≢true (sym f ∙ t))) (λ r. r) (or_cases (p z) (list_any p zs) h) in
-      or_right (leads p (z ∷ zs) z.0) (list_any (λ y. leads p (z ∷ zs) y.0) zs) (any_alike (λ y. leads p (z ∷ zs) y.0) (λ y. leads p zs y.0) zs (λ y. leads_no z zs y.0 f) ∙ some_leads zs rest))
+  -- where some pass, one is the first, and leads alone
+  led : (zs : List (ℕ × X)) → list_any p zs ≡ true → (z : ℕ × X) × Among z zs × (p z ≡ true) × ((e : ℕ) → leads p zs e ≡ eqb z.0 e)
+  led [] h = absurd (false≢true h)
+  led (z ∷ zs) h =
+      ⊎_elim (λ (t : p z ≡ true). (z, inl refl, t, λ e. ap (λ b. cond b (eqb z.0 e) (leads p zs e)) t))
+      (λ (f : p z ≡ false). let rest = led zs (ap (λ b. b || list_any p zs) (sym f) ∙ h) in (rest.0, inr rest.1, rest.2, λ e. ap (λ b. cond b (eqb z.0 e) (leads p zs e)) f ∙ rest.3 e))
       (cases_Bool (p z))
+
+  leads_some : (zs : List (ℕ × X)) (e : ℕ) → leads p zs e ≡ true → list_any p zs ≡ true
+  leads_some [] e h = h
+  leads_some (z ∷ zs) e h =
+      ⊎_elim (λ t. or_left (p z) (list_any p zs) t) (λ f. or_right (p z) (list_any p zs) (leads_some zs e (ap (λ b. cond b (eqb z.0 e) (leads p zs e)) (sym f) ∙ h)))
+      (cases_Bool (p z))
+
+  pub some_leads : (zs : List (ℕ × X)) → list_any p zs ≡ true → list_any (λ z. leads p zs z.0) zs ≡ true
+  some_leads zs h = let it = led zs h in any_among (λ z. leads p zs z.0) it.0 zs it.1 (it.3 it.0.0 ∙ eq-eqb it.0.0 it.0.0 refl)
 
   -- the first passes, and is one of them
   pub leader : (Q : ℕ × X → Type 0) (zs : List (ℕ × X)) (e : ℕ) → All Q zs → leads p zs e ≡ true → (z : ℕ × X) × (z.0 ≡ e) × (p z ≡ true) × Q z
-  leader Q [] e all h = absurd (false≢true h)
-  leader Q (z ∷ zs) e all h =
-      ⊎_elim (λ t. (z, eqb-true z.0 e (sym (leads_yes z zs e t) ∙ h), t, All-head Q z zs all))
-      (λ f. leader Q zs e (All-tail Q z zs all) (sym (leads_no z zs e f) ∙ h))
-      (cases_Bool (p z))
+  leader Q zs e all h =
+      let it = led zs (leads_some zs e h) in (it.0, eqb-true it.0.0 e (sym (it.3 e) ∙ h), it.2, All-contains Q zs it.0 all (Contains-from_Among it.0 zs it.1))
 
   pub one_leads : (zs : List (ℕ × X)) (e d : ℕ) → leads p zs e ≡ true → leads p zs d ≡ true → e ≡ d
-  one_leads [] e d h k = absurd (false≢true h)
-  one_leads (z ∷ zs) e d h k =
-      ⊎_elim (λ t. sym (eqb-true z.0 e (sym (leads_yes z zs e t) ∙ h)) ∙ eqb-true z.0 d (sym (leads_yes z zs d t) ∙ k))
-      (λ f. one_leads zs e d (sym (leads_no z zs e f) ∙ h) (sym (leads_no z zs d f) ∙ k))
-      (cases_Bool (p z))
+  one_leads zs e d h k = let it = led zs (leads_some zs e h) in sym (eqb-true it.0.0 e (sym (it.3 e) ∙ h)) ∙ eqb-true it.0.0 d (sym (it.3 d) ∙ k)
 
--- ---- numbers that differ pass a test of one number once
-
+-- numbers that differ pass a test of one number once
 module _ {X : Type 0} (q : ℕ × X → Bool) (f : ℕ → Bool) where
-  abbrev times : List (ℕ × X) → ℕ
-  times zs = count_by (λ z. f z.0) zs
+  abbrev Ahead : ℕ × X → ℕ × X → Type 0
+  Ahead y z = y.0 < z.0
 
-  none_later : (k e : ℕ) (xs : List X) → e < k → ((d : ℕ) → f d ≡ true → d ≡ e) → times (filter q (enumerate_from k xs)) ≡ 0
-  none_later k e [] low only = refl
-  none_later k e (x ∷ xs) low only =
-      let rest = none_later (k + 1) e xs (omega (arith, low)) only in
-      go (q (k, x)) (f k) refl rest
-    where
-      go : (b c : Bool) → f k ≡ c → times (filter q (enumerate_from (k + 1) xs)) ≡ 0 → times (cond b ((k, x) ∷ filter q (enumerate_from (k + 1) xs)) (filter q (enumerate_from (k + 1) xs))) ≡ 0
-      go false c e2 rest = rest
-      go true true e2 rest = let same = only k e2 in absurd (omega (arith, same, low))
-      go true false e2 rest =
-          let e3 : times ((k, x) ∷ filter q (enumerate_from (k + 1) xs)) ≡ 0 + times (filter q (enumerate_from (k + 1) xs)) =
-          sum_by-cons (λ z. cond (f z.0) 1 0) (k, x) (filter q (enumerate_from (k + 1) xs)) ∙ ap (λ b. cond b 1 0 + times (filter q (enumerate_from (k + 1) xs))) e2 in
-          omega (arith, e3, rest)
+  numbers_ascend : (k : ℕ) (xs : List X) → AllPairs Ahead (enumerate_from k xs)
+  numbers_ascend k xs = λ i j d less low.
+      let few : j < length xs = omega (arith, low, length-enumerate_from k xs) in
+      let first = ap (λ z. z.0) (get_or-enumerate_from k xs i d (omega (arith, less, few))) in
+      omega (arith, less, first, ap (λ z. z.0) (get_or-enumerate_from k xs j d few))
 
-  pub passes_once : (k : ℕ) (xs : List X) → ((d e : ℕ) → f d ≡ true → f e ≡ true → d ≡ e) → times (filter q (enumerate_from k xs)) ≤ 1
-  passes_once k [] only = omega arith
-  passes_once k (x ∷ xs) only = go (q (k, x)) (f k) refl (passes_once (k + 1) xs only)
-    where
-      go : (b c : Bool) → f k ≡ c → times (filter q (enumerate_from (k + 1) xs)) ≤ 1 → times (cond b ((k, x) ∷ filter q (enumerate_from (k + 1) xs)) (filter q (enumerate_from (k + 1) xs))) ≤ 1
-      go false c e2 rest = rest
-      go true true e2 rest =
-          let zs = filter q (enumerate_from (k + 1) xs) in
-          let none = none_later (k + 1) k xs (omega arith) (λ d t. only d k t e2) in
-          let e3 : times ((k, x) ∷ zs) ≡ 1 + times zs = sum_by-cons (λ z. cond (f z.0) 1 0) (k, x) zs ∙ ap (λ b. cond b 1 0 + times zs) e2 in
-          omega (arith, e3, none)
-      go true false e2 rest =
-          let zs = filter q (enumerate_from (k + 1) xs) in
-          let e3 : times ((k, x) ∷ zs) ≡ 0 + times zs = sum_by-cons (λ z. cond (f z.0) 1 0) (k, x) zs ∙ ap (λ b. cond b 1 0 + times zs) e2 in
-          omega (arith, e3, rest)
+  pub passes_once : (k : ℕ) (xs : List X) → ((d e : ℕ) → f d ≡ true → f e ≡ true → d ≡ e) → count_by (λ z. f z.0) (filter q (enumerate_from k xs)) ≤ 1
+  passes_once k xs only =
+      apart_once Ahead (λ z. f z.0) (λ y z less t u. omega (arith, less, only y.0 z.0 t u)) (filter q (enumerate_from k xs)) (AllPairs-filter Ahead q (enumerate_from k xs) (numbers_ascend k xs))

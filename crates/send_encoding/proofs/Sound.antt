@@ -2,15 +2,15 @@
 use Rattle.std.proofs.Common.{◌≡◌, ℕ, ◌+◌, ◌-◌, ◌<◌, ◌≤◌, Bool, true, false, List, [], ◌∷◌, ◌++◌, map, get_or, refl, sym, ap, ◌∙◌, subst, ⊎_elim, arith, if◌then◌else◌, flat_map, filter, All}
 use Rattle.std.specs.List.{enumerate_from}
 use Rattle.std.{specs.List.{list_any, list_all, range_with_len}, proofs.lemmas.Bool.{false≢true, and_parts, or_cases, not-true, not_from_true}}
-use Rattle.std.proofs.lemmas.List.{Elements.{All-nil, All-cons}, Folds.list_all-append}
-use Rattle.std.proofs.lemmas.List.FromFn.{length-range_with_len, get_or-range_with_len, length-enumerate_from, get_or-enumerate_from}
-use Rattle.schedule.{specs.{Placed.{all_pairs, PlacementValue, holds, same_pair}, Sends.IsStep}, proofs.Placing.{pair_is, among_all}}
+use Rattle.std.proofs.lemmas.List.{Elements.{All-nil, All-cons, All-contains}, Folds.{list_all-append, list_all-map}, Sums.AllPass-from_list_all}
+use Rattle.std.proofs.lemmas.List.FromFn.{length-range_with_len, get_or-range_with_len}
+use Rattle.schedule.{specs.{Placed.{all_pairs, PlacementValue, holds, same_pair}, Sends.IsStep}, proofs.{Placing.{pair_is, among_all}, First.Contains-from_Among}}
 use Rattle.cnf_formula.{specs.Literals.{LitValue, negation, is_true, clause_holds, all_hold}, proofs.Clauses.negation_is}
 use Rattle.cardinality.{specs.Counting.at_most_one_of, proofs.Pairs.pairs_decide}
 use Rattle.send_encoding.specs.{Variables.{SendMapValue, steps_of, links_into, arrival, sent}, Moving.{IsLinkOf, Moves}}
 use Rattle.send_encoding.specs.inner.Parts.{node_arrives}
 use Rattle.send_encoding.specs.Sending.{at_start, keeps, at_end, send_over, sends_arrive, sends_into, arrives_by_sends, arrives_once, sending}
-use Rattle.send_encoding.proofs.{Members.{member, filter_any}, Complete.{any_alike, count_alike}}
+use Rattle.send_encoding.proofs.{Members.{member, filter_any}, Complete.{any_alike, count_alike, link_listed}}
 
 -- ---- what holds everywhere holds at each
 
@@ -21,8 +21,7 @@ flat_passes p g (x ∷ xs) h =
     All-cons (λ x. list_all p (g x) ≡ true) x xs parts.0 (flat_passes p g xs parts.1)
 
 pub map_passes : {X A : Type 0} (p : A → Bool) (g : X → A) (xs : List X) → list_all p (map g xs) ≡ true → All (λ x. p (g x) ≡ true) xs
-map_passes p g [] h = All-nil (λ x. p (g x) ≡ true)
-map_passes p g (x ∷ xs) h = let parts = and_parts (p (g x)) (list_all p (map g xs)) h in All-cons (λ x. p (g x) ≡ true) x xs parts.0 (map_passes p g xs parts.1)
+map_passes p g xs h = AllPass-from_list_all (λ x. p (g x)) xs (sym (list_all-map p g xs) ∙ h)
 
 pub at_range : (P : ℕ → Type 0) (a n k : ℕ) → All P (range_with_len a n) → a ≤ k → k < a + n → P k
 at_range P a n k all low high =
@@ -73,12 +72,7 @@ module _ (m : SendMapValue) (pre post : PlacementValue) (values : List Bool) (al
   at_step P ps k step = at_range P 1 m.steps k ps (omega (arith, step.from)) (omega (arith, step.to))
 
   at_link : (P : ℕ × (ℕ × ℕ) → Type 0) → All P (enumerate_from 0 m.links) → (z : ℕ × (ℕ × ℕ)) → IsLinkOf m z → P z
-  at_link P ps z at =
-      let is : get_or (enumerate_from 0 m.links) z.0 (0, (0, 0)) ≡ z = get_or-enumerate_from 0 m.links z.0 (0, (0, 0)) at.number ∙ ap (λ n. (n, get_or m.links z.0 (0, 0))) zero_more ∙ ap (λ l. (z.0, l)) (sym at.is) in
-      subst P is (ps z.0 (0, (0, 0)) (omega (arith, at.number, length-enumerate_from 0 m.links)))
-    where
-      zero_more : 0 + z.0 ≡ z.0
-      zero_more = omega arith
+  at_link P ps z at = All-contains P (enumerate_from 0 m.links) z ps (Contains-from_Among z (enumerate_from 0 m.links) (link_listed m z at))
 
   over : (c k : ℕ) (z : ℕ × (ℕ × ℕ)) → c < m.chunks → IsLinkOf m z → IsStep m.steps k → Holds (send_over m c z k)
   over c k z cl at step =

@@ -1,38 +1,31 @@
 -- Where tables move the chunks, a schedule that tells the sends in ascending order wastes none of them, and delivers.
-use Rattle.std.proofs.Common.{◌≡◌, ℕ, zero, suc, ◌+◌, ◌-◌, ◌<◌, ◌≤◌, Bool, true, false, cond, List, [], ◌∷◌, length, get_or, eqb, refl, sym, ap, ◌∙◌, subst, ⊎_elim, arith, ◌&&◌, count_by, All, AllPairs}
+use Rattle.std.proofs.Common.{◌≡◌, ℕ, zero, suc, ◌+◌, ◌-◌, ◌<◌, ◌≤◌, Bool, true, false, cond, List, [], ◌∷◌, length, get_or, eqb, sym, ap, ◌∙◌, subst, ⊎_elim, arith, count_by, All, AllPairs}
 use Rattle.std.specs.List.{enumerate_from}
-use Rattle.std.{specs.List.list_any, proofs.lemmas.List.{Elements.All-filter, Folds.list_any_at, Sums.sum_by-cons}}
-use Rattle.std.proofs.lemmas.Bool.{false≢true, false_from_ne_true, and_parts, and_from, or_left, or_right, or_cases, cases_lt, eqb-true, eq-eqb}
-use Rattle.std.proofs.lemmas.List.FromFn.{length-enumerate_from, get_or-enumerate_from}
+use Rattle.std.proofs.lemmas.List.{Elements.All-filter, Folds.list_any_at, Sums.{sum_by-cons, get_or-le-sum_by}}
+use Rattle.std.proofs.lemmas.Bool.{false≢true, false_from_ne_true, cases_lt, eq-eqb}
 use Rattle.schedule.specs.{declared.hop.Hop.Hop, Placed.{PlacementValue, IsPlacement, holds, same_pair, all_pairs}, Sends.{ScheduleValue, IsStep, hop_before}}
 use Rattle.schedule.specs.{Running.after, Solving.Tight}
-use Rattle.schedule.proofs.{Placing.{IsBelow, pair_is, pair_itself, all_below}, Steps.steps_ordered}
+use Rattle.schedule.proofs.{Placing.{IsBelow, pair_is, pair_itself, all_below}, Steps.steps_ordered, First.{Among, Contains-from_Among, among_kept}}
 use Rattle.send_encoding.specs.{Variables.{SendMapValue, links_into}, Moving.{IsLinkOf, JoinsNodes, Moves}, Telling.Tells}
-use Rattle.send_encoding.proofs.{Everywhere.by_recursion, Members.{member, filter_any}, Running.run_is, Ascending.never_twice}
+use Rattle.send_encoding.proofs.{Everywhere.by_recursion, Complete.link_listed, Running.run_is, Ascending.never_twice}
 
-module _ {X : Type 0} (p q r : X → Bool) where
-  some_counts : (xs : List X) → list_any p xs ≡ true → 1 ≤ count_by p xs
-  some_counts [] h = absurd (false≢true h)
-  some_counts (x ∷ xs) h =
-      let cons = sum_by-cons (λ y. cond (p y) 1 0) x xs in
-      ⊎_elim (λ t. omega (arith, cons ∙ ap (λ b. cond b 1 0 + count_by p xs) t)) (λ t. omega (arith, cons, some_counts xs t)) (or_cases (p x) (list_any p xs) h)
+some_counted : {X : Type 0} (p : X → Bool) (x : X) (xs : List X) → Among x xs → p x ≡ true → 1 ≤ count_by p xs
+some_counted p x xs among t =
+    let at = Contains-from_Among x xs among in
+    let one : ◌≡◌ {A = ℕ} (cond (p (get_or xs at.0 x)) 1 0) 1 = ap (λ v. cond (p v) 1 0) at.2 ∙ ap (λ b. cond b 1 0) t in
+    omega (arith, one, get_or-le-sum_by (λ v. cond (p v) 1 0) xs at.0 x at.1)
 
-  any_weaker_all : (xs : List X) → (u : X → Bool) → ((x : X) → u x ≡ true → p x ≡ true) → list_any u xs ≡ true → list_any p xs ≡ true
-  any_weaker_all [] u w h = absurd (false≢true h)
-  any_weaker_all (x ∷ xs) u w h =
-      ⊎_elim (λ t. or_left (p x) (list_any p xs) (w x t)) (λ t. or_right (p x) (list_any p xs) (any_weaker_all xs u w t)) (or_cases (u x) (list_any u xs) h)
-
-  -- where a test counts at most one, what passes a narrower test and what passes another are one
-  pub both_are_one : (xs : List X) → count_by p xs ≤ 1 → ((x : X) → q x ≡ true → p x ≡ true) → ((x : X) → r x ≡ true → p x ≡ true) → list_any q xs ≡ true → list_any r xs ≡ true → list_any (λ x. q x && r x) xs ≡ true
-  both_are_one [] few wq wr hq hr = absurd (false≢true hq)
-  both_are_one (x ∷ xs) few wq wr hq hr =
-      let cons = sum_by-cons (λ y. cond (p y) 1 0) x xs in
-      let two : p x ≡ true → list_any p xs ≡ true → ⊥ = λ here later. omega (arith, cons ∙ ap (λ b. cond b 1 0 + count_by p xs) here, some_counts xs later, few) in
-      let less : count_by p xs ≤ 1 = omega (arith, cons, few) in
-      ⊎_elim
-      (λ tq. ⊎_elim (λ tr. or_left (q x && r x) (list_any (λ x. q x && r x) xs) (and_from (q x) (r x) tq tr)) (λ lr. absurd (two (wq x tq) (any_weaker_all xs r wr lr))) (or_cases (r x) (list_any r xs) hr))
-      (λ lq. ⊎_elim (λ tr. absurd (two (wr x tr) (any_weaker_all xs q wq lq))) (λ lr. or_right (q x && r x) (list_any (λ x. q x && r x) xs) (both_are_one xs less wq wr lq lr)) (or_cases (r x) (list_any r xs) hr))
-      (or_cases (q x) (list_any q xs) hq)
+-- where a test counts at most one, two that pass are one
+same_of_one : {X : Type 0} (p : X → Bool) (y z : X) (xs : List X) → count_by p xs ≤ 1 → Among y xs → Among z xs → p y ≡ true → p z ≡ true → y ≡ z
+same_of_one p y z [] few ay az py pz = absurd ay
+same_of_one {X = X} p y z (x ∷ xs) few ay az py pz =
+    let cons = sum_by-cons (λ v. cond (p v) 1 0) x xs in
+    let two : (v w : X) → x ≡ v → p v ≡ true → Among w xs → p w ≡ true → ⊥ =
+    λ v w e t a u. omega (arith, few, cons ∙ ap (λ y. cond (p y) 1 0 + count_by p xs) e ∙ ap (λ b. cond b 1 0 + count_by p xs) t, some_counted p w xs a u) in
+    ⊎_elim
+    (λ (e : x ≡ y). ⊎_elim (λ (f : x ≡ z). sym e ∙ f) (λ (b : Among z xs). absurd (two y z e py b pz)) az)
+    (λ (a : Among y xs). ⊎_elim (λ (f : x ≡ z). absurd (two z y f pz a py)) (λ (b : Among z xs). same_of_one p y z xs (omega (arith, few, cons)) a b py pz) az)
+    ay
 
 -- a placement's own pairs are in range
 pub pairs_below : (p : PlacementValue) → IsPlacement p → All (IsBelow p.chunks p.nodes) p.pairs
@@ -82,27 +75,13 @@ module _ (m : SendMapValue) (pre post : PlacementValue) (a x : ℕ → ℕ → �
       let back : k + suc j - 1 ≡ k + j = omega arith in
       moves.keeps c n (k + suc j) cl nl (record { from = omega arith; to = le }) (ap (a c n) back ∙ kept_on c n k j cl nl (omega (arith, le)) h)
 
-  -- the link is the same
-  abbrev is_it : ℕ × (ℕ × ℕ) → ℕ × (ℕ × ℕ) → Bool
-  is_it z y = eqb y.0 z.0 && same_pair y.1 z.1
-
-  listed_into : (z : ℕ × (ℕ × ℕ)) (n : ℕ) → IsLinkOf m z → z.1.1 ≡ n → list_any (is_it z) (links_into m n) ≡ true
-  listed_into z n at node =
-      let zero_more : 0 + z.0 ≡ z.0 = omega arith in
-      let is : get_or (enumerate_from 0 m.links) z.0 (0, (0, 0)) ≡ z = get_or-enumerate_from 0 m.links z.0 (0, (0, 0)) at.number ∙ ap (λ n. (n, get_or m.links z.0 (0, 0))) zero_more ∙ ap (λ l. (z.0, l)) (sym at.is) in
-      let itself : is_it z z ≡ true = and_from (eqb z.0 z.0) (same_pair z.1 z.1) (eq-eqb z.0 z.0 refl) (pair_itself z.1) in
-      filter_any (λ y. eqb y.1.1 n) (is_it z) (enumerate_from 0 m.links)
-      (λ y h. eq-eqb y.1.1 n (ap (λ l. l.1) (pair_is y.1 z.1 (and_parts (eqb y.0 z.0) (same_pair y.1 z.1) h).1) ∙ node))
-      (list_any_at (is_it z) (enumerate_from 0 m.links) z.0 (0, (0, 0)) (omega (arith, at.number, length-enumerate_from 0 m.links)) (ap (is_it z) is ∙ itself))
+  listed_into : (z : ℕ × (ℕ × ℕ)) (n : ℕ) → IsLinkOf m z → z.1.1 ≡ n → Among z (links_into m n)
+  listed_into z n at node = among_kept (λ y. eqb y.1.1 n) z (enumerate_from 0 m.links) (link_listed m z at) (eq-eqb z.1.1 n node)
 
   -- two links that bring a chunk to a node at a step are one
   one_link : (c n k : ℕ) (y z : ℕ × (ℕ × ℕ)) → c < m.chunks → n < m.nodes → IsStep m.steps k → IsLinkOf m y → IsLinkOf m z → y.1.1 ≡ n → z.1.1 ≡ n → x c y.0 k ≡ true → x c z.0 k ≡ true → y.1 ≡ z.1
   one_link c n k y z cl nl step at_y at_z to_y to_z sent_y sent_z =
-      let alike : (w v : ℕ × (ℕ × ℕ)) → x c w.0 k ≡ true → is_it w v ≡ true → x c v.0 k ≡ true = λ w v sent h. ap (λ e. x c e k) (eqb-true v.0 w.0 (and_parts (eqb v.0 w.0) (same_pair v.1 w.1) h).0) ∙ sent in
-      let both = both_are_one (λ v. x c v.0 k) (is_it y) (is_it z) (links_into m n) (moves.once c n k cl nl step) (λ v h. alike y v sent_y h) (λ v h. alike z v sent_z h) (listed_into y n at_y to_y) (listed_into z n at_z to_z) in
-      let found = member (λ v. is_it y v && is_it z v) (λ v. Unit {0}) (links_into m n) (λ i d low. tt) both in
-      let parts = and_parts (is_it y found.0) (is_it z found.0) found.1 in
-      sym (pair_is found.0.1 y.1 (and_parts (eqb found.0.0 y.0) (same_pair found.0.1 y.1) parts.0).1) ∙ pair_is found.0.1 z.1 (and_parts (eqb found.0.0 z.0) (same_pair found.0.1 z.1) parts.1).1
+      ap (λ v. v.1) (same_of_one (λ v. x c v.0 k) y z (links_into m n) (moves.once c n k cl nl step) (listed_into y n at_y to_y) (listed_into z n at_z to_z) sent_y sent_z)
 
   never_received_twice : (i j : ℕ) (d : Hop) → i < j → j < length s.sends → (get_or s.sends i d).chunk ≡ (get_or s.sends j d).chunk → (get_or s.sends i d).to ≡ (get_or s.sends j d).to → ⊥
   never_received_twice i j d low few chunk to =
