@@ -1,7 +1,7 @@
 -- The rounds that an assignment says: one of each step, the extra rounds that are true, and what is left to the last step.
 use Rattle.std.proofs.Common.{◌≡◌, ℕ, zero, suc, ◌+◌, ◌-◌, ◌<◌, ◌≤◌, Bool, true, false, cond, eqb, List, [], ◌∷◌, map, length, get_or, sum, refl, sym, ap, ◌∙◌, subst, ⊎_elim, arith, if◌then◌else◌, flat_map, count_by, sum_by, All}
-use Rattle.std.{specs.List.range_with_len, proofs.lemmas.Bool.{false≢true, false_from_ne_true, cases_Bool, cases_eq, eq-eqb, ne_eqb}}
-use Rattle.std.proofs.lemmas.List.{Sums.{sum_by-cons, sum_by-append, sum-map}, FromFn.{length-map-range_with_len, get_or-map-range_with_len}}
+use Rattle.std.{specs.List.range_with_len, proofs.lemmas.Bool.{false≢true, false_from_ne_true, cases_Bool, eq-eqb, ne_eqb}}
+use Rattle.std.proofs.lemmas.List.{Sums.{sum_by-cons, sum_by-append, sum-map, get_or-le-sum_by}, FromFn.{length-range_with_len, get_or-range_with_len, length-map-range_with_len, get_or-map-range_with_len}}
 use Rattle.schedule.specs.Sends.{IsRound, IsStep}
 use Rattle.cnf_formula.specs.Literals.{is_true}
 use Rattle.cardinality.specs.Counting.{true_inputs}
@@ -25,13 +25,10 @@ one_more_each q a zero = refl
 one_more_each q a (suc n) = omega (arith, sum_by-cons (λ k. 1 + q k) a (range_with_len (a + 1) n), sum_by-cons q a (range_with_len (a + 1) n), one_more_each q (a + 1) n)
 
 part_of_sum : (q : ℕ → ℕ) (a n k : ℕ) → a ≤ k → k < a + n → q k ≤ sum_by q (range_with_len a n)
-part_of_sum q a zero k low high = absurd (omega (arith, low, high))
-part_of_sum q a (suc n) k low high =
-    let cons = sum_by-cons q a (range_with_len (a + 1) n) in
-    ⊎_elim (λ same. omega (arith, cons, ap q same)) (λ apart. omega (arith, cons, part_of_sum q (a + 1) n k (above apart) (omega (arith, high)))) (cases_eq k a)
-  where
-    above : (k ≡ a → ⊥) → a + 1 ≤ k
-    above apart = grind (arith, apart, low)
+part_of_sum q a n k low high =
+    let few : k - a < n = omega (arith, low, high) in
+    let is : get_or (range_with_len a n) (k - a) 0 ≡ k = get_or-range_with_len a n (k - a) 0 few ∙ omega (arith, low) in
+    omega (arith, ap q is, get_or-le-sum_by q (range_with_len a n) (k - a) 0 (omega (arith, few, length-range_with_len a n)))
 
 count_flat_is : {X A : Type 0} (p : A → Bool) (g : X → List A) (xs : List X) → count_by p (flat_map g xs) ≡ sum_by (λ x. count_by p (g x)) xs
 count_flat_is p g [] = refl
