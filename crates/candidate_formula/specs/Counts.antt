@@ -8,5 +8,5 @@ abbrev pub allowed_up_to : ℕ → Kind → ℕ → List ℕ
 allowed_up_to greatest kind nodes = filter (allows kind nodes) (range_with_len 1 greatest)
 
 -- the chunk counts that the limits and the collective allow
-abbrev pub counts_of : QuestionValue → List ℕ
-counts_of q = allowed_up_to q.limits.max_c (kind_in q.spec) q.topology.nodes
+abbrev pub chunk_counts : QuestionValue → List ℕ
+chunk_counts q = allowed_up_to q.limits.max_c (kind_in q.spec) q.topology.nodes

@@ -4,7 +4,7 @@ use Rattle.std.{specs.List.{list_any, enumerate_from, IsDistinct, AllByRecursion
 use Rattle.std.proofs.lemmas.{List.Elements.{All-nil, All-cons, Contains-push_cases}, Map.Steps.length-le_from_distinct_below}
 use Rattle.list_laws.proofs.Members.{Contains-cons}
 use Rattle.cnf_formula.specs.{Literals.{LitValue, IsLit}, Formulas.{FormulaValue, IsClause}, Lines.ProofLineValue, declared.line.LratLine.TheVariants.Addition}
-use Rattle.proof_rules.specs.{Held.{Entry, CheckerValue, start_of, clause_at}, Accepting.{Conflicts, Implied, leading, groups_from}, Refuting.with_line}
+use Rattle.proof_rules.specs.{Held.{Entry, CheckerValue, start_of, clause_at}, Accepting.{Conflicts, Implied, leading, hint_groups_from}, Refuting.with_line}
 use Rattle.proof_rules.specs.Learning.{AllImplied}
 use Rattle.proof_rules.proofs.Verdicts.{implied_by}
 use Rattle.lrat_text.specs.Printing.{lrat_text, IsId, IsHint, IsReadable}
@@ -30,7 +30,7 @@ named_entry (entry ∷ held) id clause h = ⊎_elim
 named_id : (held : List Entry) → AreIds held → (id : ℕ) (clause : List LitValue) → clause_at held id ≡ Some clause → IsId id
 named_id held ids id clause h = let r = named_entry held id clause h in subst IsId r.2 (ids r.0 r.1)
 
-hints_read : (held : List Entry) → AreIds held → (hints : List ℤ) (place : ℕ) (falses : List LitValue) → groups_from place hints ≡ [] → Conflicts held falses (leading hints) → All IsHint hints
+hints_read : (held : List Entry) → AreIds held → (hints : List ℤ) (place : ℕ) (falses : List LitValue) → hint_groups_from place hints ≡ [] → Conflicts held falses (leading hints) → All IsHint hints
 hints_read held ids [] place falses g c = absurd c
 hints_read held ids (negsuc n ∷ hints) place falses g c = absurd (cc)
 hints_read held ids (pos id ∷ []) place falses g c = All-cons IsHint (pos id) [] (named_id held ids id c.clause c.names) (All-nil IsHint)

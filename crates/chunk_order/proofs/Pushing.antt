@@ -3,7 +3,7 @@ use Rattle.std.proofs.Common.{◌≡◌, ℕ, zero, suc, ◌+◌, ◌-◌, ◌<�
 use Rattle.std.{specs.List.range_with_len, proofs.lemmas.List.Elements.All-from_recursion}
 use Rattle.schedule.{specs.Placed.PlacementValue, proofs.First.each_filter}
 use Rattle.send_encoding.specs.Variables.{arrivals, sends}
-use Rattle.round_encoding.specs.{declared.encoding.Encoding.Encoding, Frames.{frame_of, own_variables}, Rounding.{counts_of, encoding_of}}
+use Rattle.round_encoding.specs.{declared.encoding.Encoding.Encoding, Frames.{frame_of, own_variables}, Rounding.{counts_in, encoding_of}}
 use Rattle.round_encoding.proofs.Counted.{more_variables}
 use Rattle.chunk_order.{specs.{Alike.is_alike, Ordering.{class_of, next_pairs}, Solutions.IsEncodingFor}, proofs.Classes.range_high}
 
@@ -54,4 +54,4 @@ pub own_within : (pre post : PlacementValue) (e : Encoding) (vars : ℕ) → IsE
 own_within pre post e vars is same =
     let f = frame_of is.topology pre is.steps is.rounds in
     let whole : e ≡ encoding_of is.topology pre post is.steps is.rounds = is.encodes.is in
-    omega (arith, same, ap (λ (x : Encoding). arrivals x.map + sends x.map) whole, ap (λ (x : Encoding). x.formula.vars) whole, more_variables (own_variables f) (counts_of f is.topology))
+    omega (arith, same, ap (λ (x : Encoding). arrivals x.map + sends x.map) whole, ap (λ (x : Encoding). x.formula.vars) whole, more_variables (own_variables f) (counts_in f is.topology))

@@ -6,7 +6,7 @@ use Rattle.schedule.specs.Solving.{Solves, Solvable}
 use Rattle.cnf_formula.specs.{Literals.{is_true, clause_holds, all_hold}, Formulas.{Satisfies, Satisfiable}}
 use Rattle.send_encoding.specs.{Variables.{SendMapValue, map_of, arrival, sent}, Sending.sending, Agreeing.SatisfiesAs}
 use Rattle.send_encoding.proofs.{Mapped.links_join, Sound.sending_says, Decoded.sends_tell, Running.run_is}
-use Rattle.round_encoding.specs.{Frames.{Frame, frame_of, own_variables}, Rounding.{counts_of, counters_after, extra_in_order, formula_of}, Decoding.decoded}
+use Rattle.round_encoding.specs.{Frames.{Frame, frame_of, own_variables}, Rounding.{counts_in, counters_after, extra_in_order, formula_of}, Decoding.decoded}
 use Rattle.round_encoding.specs.Candidates.{IsCandidate, IsTightSolution}
 use Rattle.round_encoding.proofs.{Obeyed.both_hold, Exactly.{sound, completely}}
 use Rattle.chunk_order.specs.{Alike.{Ordered, is_alike, watch_node}, Ordering.{order_clauses, ordered_formula_of}}
@@ -37,7 +37,7 @@ module _ (t : TopologyValue) (pre post : PlacementValue) (steps rounds : ℕ) (c
       → holds (after pre (decoded (frame_of t pre steps rounds) values) k) (c, n) ≡ is_true values (arrival m c n k)
   run_said values h k c n kl cl nl =
       let f : Frame = frame_of t pre steps rounds in
-      let first = both_hold values (sending m pre post ++ extra_in_order f) (counters_after (own_variables f) (counts_of f t)).clauses h.holds in
+      let first = both_hold values (sending m pre post ++ extra_in_order f) (counters_after (own_variables f) (counts_in f t)).clauses h.holds in
       let sends = both_hold values (sending m pre post) (extra_in_order f) first.0 in
       run_is m pre post (λ c n k. is_true values (arrival m c n k)) (λ c e k. is_true values (sent m c e k)) (decoded f values) refl candidate.nodes (links_join t pre steps)
       (sending_says m pre post values sends.0) (sends_tell m values (links_join t pre steps)) k c n kl cl nl

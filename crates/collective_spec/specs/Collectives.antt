@@ -11,12 +11,12 @@ abbrev pub chunks_of : Kind → ℕ → ℕ → ℕ
 chunks_of kind nodes c = unwrap_or (option_map (λ row. if row.per_node then nodes * c else c) (row_of kind)) 0
 
 -- where the chunks are before, or to which chunk which node contributes
-abbrev pub before : Kind → ℕ → Layout
-before kind root = unwrap_or (option_map (λ row. row.before root) (row_of kind)) All
+abbrev pub layout_before : Kind → ℕ → Layout
+layout_before kind root = unwrap_or (option_map (λ row. row.before root) (row_of kind)) All
 
 -- where the chunks, or their sums, have to be after
-abbrev pub after : Kind → ℕ → Layout
-after kind root = unwrap_or (option_map (λ row. row.after root) (row_of kind)) All
+abbrev pub layout_after : Kind → ℕ → Layout
+layout_after kind root = unwrap_or (option_map (λ row. row.after root) (row_of kind)) All
 
 -- the collective adds up what the nodes contribute
 abbrev pub reduces : Kind → Bool
@@ -25,8 +25,8 @@ reduces kind = unwrap_or (option_map (λ row. row.reduces) (row_of kind)) false
 -- the first and the last layout; a reduction is the inverse of a copying collective, which leads back from where the sums have to be
 abbrev pub ends_of : Collective → Layout × Layout
 ends_of collective =
-    let first = before collective.kind collective.root in
-    let last = after collective.kind collective.root in
+    let first = layout_before collective.kind collective.root in
+    let last = layout_after collective.kind collective.root in
     if reduces collective.kind then (last, first) else (first, last)
 
 -- the chunks that a collective copies, and where they are before and have to be after
@@ -38,7 +38,7 @@ instance_of collective nodes c =
 
 -- the pairs that have to be reached, by the chunks or by their sums
 abbrev pub demand_of : Collective → ℕ → ℕ → PlacementValue
-demand_of collective nodes c = laid_out (after collective.kind collective.root) (chunks_of collective.kind nodes c) nodes
+demand_of collective nodes c = laid_out (layout_after collective.kind collective.root) (chunks_of collective.kind nodes c) nodes
 
 -- ---- collectives whose pairs are given
 
@@ -58,7 +58,7 @@ spec_instance (spec.Standard collective) nodes c = instance_of collective nodes 
 spec_instance (spec.Custom p) nodes c = record { chunks = p.base * c; pre = copied p.base c nodes p.before; post = copied p.base c nodes p.after }
 
 abbrev pub spec_demand : Spec → ℕ → ℕ → PlacementValue
-spec_demand (spec.Standard collective) nodes c = laid_out (after collective.kind collective.root) (chunks_of collective.kind nodes c) nodes
+spec_demand (spec.Standard collective) nodes c = laid_out (layout_after collective.kind collective.root) (chunks_of collective.kind nodes c) nodes
 spec_demand (spec.Custom p) nodes c = copied p.base c nodes p.after
 
 -- the table has the collective, with a root among so many nodes; or the pattern is one for so many nodes

@@ -16,20 +16,20 @@ pub record KindRow : Type 0 where
   pub reduces : Bool
   pub takes_root : Bool
 
-abbrev pub row : ℕ → List ℕ → Bool → Bool → (ℕ → Layout) → (ℕ → Layout) → Bool → Bool → KindRow
-row number word per_node evenly before after reduces takes_root =
+abbrev pub kind_row : ℕ → List ℕ → Bool → Bool → (ℕ → Layout) → (ℕ → Layout) → Bool → Bool → KindRow
+kind_row number word per_node evenly before after reduces takes_root =
     record { number = number; word = word; per_node = per_node; evenly = evenly; before = before; after = after; reduces = reduces; takes_root = takes_root }
 
 -- the row of a kind. `Custom`, this project's own, has none: users give where the chunks are before and after
 abbrev pub row_of : Kind → Option KindRow
-row_of Broadcast = Some (row 0 (codes "broadcast") false false Root (λ root. All) false true)
-row_of Gather = Some (row 1 (codes "gather") true false (λ root. Scattered) Root false true)
-row_of Allgather = Some (row 2 (codes "allgather") true false (λ root. Scattered) (λ root. All) false false)
-row_of Scatter = Some (row 3 (codes "scatter") true false Root (λ root. Scattered) false true)
-row_of Alltoall = Some (row 4 (codes "alltoall") true true (λ root. Scattered) (λ root. Transpose) false false)
-row_of Reduce = Some (row 5 (codes "reduce") false false (λ root. All) Root true true)
-row_of Reducescatter = Some (row 6 (codes "reducescatter") true false (λ root. All) (λ root. Scattered) true false)
-row_of Allreduce = Some (row 7 (codes "allreduce") true false (λ root. All) (λ root. All) true false)
+row_of Broadcast = Some (kind_row 0 (codes "broadcast") false false Root (λ root. All) false true)
+row_of Gather = Some (kind_row 1 (codes "gather") true false (λ root. Scattered) Root false true)
+row_of Allgather = Some (kind_row 2 (codes "allgather") true false (λ root. Scattered) (λ root. All) false false)
+row_of Scatter = Some (kind_row 3 (codes "scatter") true false Root (λ root. Scattered) false true)
+row_of Alltoall = Some (kind_row 4 (codes "alltoall") true true (λ root. Scattered) (λ root. Transpose) false false)
+row_of Reduce = Some (kind_row 5 (codes "reduce") false false (λ root. All) Root true true)
+row_of Reducescatter = Some (kind_row 6 (codes "reducescatter") true false (λ root. All) (λ root. Scattered) true false)
+row_of Allreduce = Some (kind_row 7 (codes "allreduce") true false (λ root. All) (λ root. All) true false)
 row_of Custom = None
 
 -- users give where the chunks are before and have to be after

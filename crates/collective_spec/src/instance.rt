@@ -1,5 +1,5 @@
 ghost use Rattle.std.specs.Prelude.{◌≡◌, ◌≢◌, ◌<◌, ◌≤◌, IsTrue, false, IfOk};
-ghost use Rattle.collective_spec.specs.{Kinds.{allows, is_custom}, Collectives.{reduces, chunks_of, before, after, ends_of, instance_of, demand_of}};
+ghost use Rattle.collective_spec.specs.{Kinds.{allows, is_custom}, Collectives.{reduces, chunks_of, layout_before, layout_after, ends_of, instance_of, demand_of}};
 
 use crate::OutOfMemory;
 use crate::collective::Collective;
@@ -44,7 +44,7 @@ pub fn reduces(kind: Kind) -> bool
 
 /// Where the chunks are before; of a reduction, which node contributes to which.
 fn before(collective: Collective) -> Layout
-    ensures { result ≡ before collective.kind collective.root }
+    ensures { result ≡ layout_before collective.kind collective.root }
 {
     match collective.kind {
         Kind::Broadcast | Kind::Scatter => Layout::Root(collective.root),
@@ -55,7 +55,7 @@ fn before(collective: Collective) -> Layout
 
 /// Where the chunks, or their sums, have to be after.
 fn after(collective: Collective) -> Layout
-    ensures { result ≡ after collective.kind collective.root }
+    ensures { result ≡ layout_after collective.kind collective.root }
 {
     match collective.kind {
         Kind::Broadcast | Kind::Allgather | Kind::Allreduce | Kind::Custom => Layout::All,

@@ -5,7 +5,7 @@ use Rattle.text_lines.specs.Check.{◌>>=◌, refuse, need}
 use Rattle.collective_spec.specs.Kinds.{takes_root}
 use Rattle.topology_text.specs.Family.{is_allowed}
 use Rattle.command_words.specs.declared.{command.Command.Command, fault.{WordCode.WordCode, WordFault.WordFault}, key.Key.Key, verb.Verb.Verb}
-use Rattle.command_words.specs.{declared.fault.WordCode.TheVariants.{UnknownCommand, UnknownKey, KeyTwice, KeyMissing, BadValue, RootNotTaken}, Codes.number_of}
+use Rattle.command_words.specs.{declared.fault.WordCode.TheVariants.{UnknownCommand, UnknownKey, KeyTwice, KeyMissing, BadValue, RootNotTaken}, Codes.word_number}
 use Rattle.command_words.specs.Tables.{named, verbs, verb_word, keys, key_word, key_row, same_key, has_key}
 use Rattle.command_words.specs.Commands.{blame, required, command_from}
 use Rattle.command_words.specs.Words.{key_and_value, fits, is_refused, with_word, at_word, given_from, texts, command_of}
@@ -34,7 +34,7 @@ ok_then Q (Err e) f later = tt
 
 -- the codes of one word
 abbrev IsLow : WordCode → Type 0
-IsLow code = number_of code ≤ 7
+IsLow code = word_number code ≤ 7
 
 word_low : (verb : Verb) (g : List Given) (index : ℕ) (word : List ℕ) → IfErr (with_word verb g index word) IsLow
 word_low verb g index word =
@@ -67,7 +67,7 @@ at_within n k (x ∷ g) within = elim (same_key k x.key) as (λ b. unwrap_or (op
 
 -- a refusal by one of the codes 1 to 7, at most at the nth word
 abbrev Meets : ℕ → WordFault → Type 0
-Meets n fault = (number_of fault.code ≤ 7) × (fault.word ≤ n)
+Meets n fault = (word_number fault.code ≤ 7) × (fault.word ≤ n)
 
 -- what the words gave is within them, and a refusal meets
 abbrev Right : ℕ → Result (List Given) WordFault → Type 0
@@ -108,7 +108,7 @@ command_refused (first ∷ words) =
     (λ verb. command_right n verb (given_from verb [] 1 words) (length words + 1) (omega arith) (given_right n verb [] 1 words (omega arith) tt))
 
 -- the same of what is read of words
-pub refused_at : {Z : Type 0} (words : List (String Z)) (read : Result Command WordFault) → read ≡ command_of (texts words) → IfErr read (λ fault. number_of fault.code ≤ 7) × IfErr read (λ fault. fault.word ≤ length words)
+pub refused_at : {Z : Type 0} (words : List (String Z)) (read : Result Command WordFault) → read ≡ command_of (texts words) → IfErr read (λ fault. word_number fault.code ≤ 7) × IfErr read (λ fault. fault.word ≤ length words)
 refused_at words (Ok command) same = (tt, tt)
 refused_at words (Err fault) same =
     let meets = subst (λ r. IfErr r (Meets (length (texts words)))) (sym same) (command_refused (texts words)) in

@@ -1,7 +1,7 @@
 //! Why words are refused, and where.
 
 ghost use Rattle.std.specs.Prelude.{◌≡◌};
-ghost use Rattle.command_words.specs.Codes.{number_of};
+ghost use Rattle.command_words.specs.Codes.{word_number};
 
 /// Why words are refused.
 #[derive(Clone, Copy, Debug, PartialEq, Eq)]
@@ -40,7 +40,7 @@ pub enum WordCode {
 impl WordCode {
     /// The number by which a refusal names the code, from 1 to 15; there is no 11.
     pub fn number(self) -> u8
-        ensures { result ≡ number_of self }
+        ensures { result ≡ word_number self }
     {
         self as u8
     }

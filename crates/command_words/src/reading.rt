@@ -1,7 +1,7 @@
 //! The words, read from left to right.
 
 ghost use Rattle.std.specs.Prelude.{◌≡◌, ◌+◌, ◌≤◌, length, IfOk, IfErr, option_map};
-ghost use Rattle.command_words.specs.{Codes.number_of, Commands.IsProper, Words.{at_word, command_of, key_and_value, texts}, inner.Building.command_given};
+ghost use Rattle.command_words.specs.{Codes.word_number, Commands.IsProper, Words.{at_word, command_of, key_and_value, texts}, inner.Building.command_given};
 ghost use Rattle.command_words.specs.inner.{Counting.count_of, Reading.{nothing, values_from, word_value}, Values.AreProper};
 
 use crate::building::command_from;
@@ -90,7 +90,7 @@ fn command_given(
 pub fn read_words(words: &[String]) -> Result<Command, WordFault>
     ensures read { result ≡ command_of (texts words.now) }
     ensures proper { IfOk result IsProper }
-    ensures coded { IfErr result (λ fault. number_of fault.code ≤ 7) }
+    ensures coded { IfErr result (λ fault. word_number fault.code ≤ 7) }
     ensures placed { IfErr result (λ fault. fault.word ≤ length words.now) }
 {
     let Some((first, rest)) = words.split_first() else {

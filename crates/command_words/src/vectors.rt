@@ -3,7 +3,7 @@
 ghost use Rattle.std.specs.Prelude.{◌≡◌, true, false, [], ◌∷◌, map, Ok, Err, Some, None, codes};
 ghost use Rattle.text_lines.specs.Text.{words_of};
 ghost use Rattle.candidate_order.specs.Ranges.{unpruned};
-ghost use Rattle.command_words.specs.{Codes.number_of, Words.command_of};
+ghost use Rattle.command_words.specs.{Codes.word_number, Words.command_of};
 
 use crate::command::{Command, JsonWhat};
 use crate::fault::WordCode;
@@ -12,7 +12,7 @@ use topology_text::FamilyKind;
 
 /// The codes in their order.
 pub fn codes_are_numbered()
-    ensures { map number_of (WordCode.NoCommand ∷ WordCode.UnknownCommand ∷ WordCode.UnknownKey ∷ WordCode.KeyTwice ∷ WordCode.KeyMissing ∷ WordCode.BadValue ∷ WordCode.RootNotTaken ∷ WordCode.UnknownRoot ∷ WordCode.UnknownPoint ∷ WordCode.OutOfMemory ∷ WordCode.CustomMismatch ∷ WordCode.ReportNotTaken ∷ WordCode.UnknownGroup ∷ WordCode.NotNarrower ∷ []) ≡ 1 ∷ 2 ∷ 3 ∷ 4 ∷ 5 ∷ 6 ∷ 7 ∷ 8 ∷ 9 ∷ 10 ∷ 12 ∷ 13 ∷ 14 ∷ 15 ∷ [] }
+    ensures { map word_number (WordCode.NoCommand ∷ WordCode.UnknownCommand ∷ WordCode.UnknownKey ∷ WordCode.KeyTwice ∷ WordCode.KeyMissing ∷ WordCode.BadValue ∷ WordCode.RootNotTaken ∷ WordCode.UnknownRoot ∷ WordCode.UnknownPoint ∷ WordCode.OutOfMemory ∷ WordCode.CustomMismatch ∷ WordCode.ReportNotTaken ∷ WordCode.UnknownGroup ∷ WordCode.NotNarrower ∷ []) ≡ 1 ∷ 2 ∷ 3 ∷ 4 ∷ 5 ∷ 6 ∷ 7 ∷ 8 ∷ 9 ∷ 10 ∷ 12 ∷ 13 ∷ 14 ∷ 15 ∷ [] }
 {}
 
 /// Each code, and the index of the word that is blamed.

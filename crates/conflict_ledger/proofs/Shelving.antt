@@ -3,7 +3,7 @@ use Rattle.std.proofs.Common.{◌≡◌, ℕ, Bool, true, List, [], ◌∷◌, �
 use Rattle.std.{specs.List.list_any, proofs.lemmas.{Bool.{cases_Bool, false≢true, or_right}, List.{append_assoc, take-append-drop, Folds.list_any_at}}}
 use Rattle.std.proofs.lemmas.List.Elements.{Contains-append_left, Contains-push}
 use Rattle.cnf_formula.specs.{Literals.{LitValue, is_superset}, Formulas.FormulaValue, Lines.ProofLineValue, declared.line.LratLine.TheVariants.Addition}
-use Rattle.proof_rules.specs.{Held.{Entry, CheckerValue, start_of, is_empty}, Refuting.{is_fresh, with_line, after}, Learning.AllImplied, Judging.verdict_of, declared.verdict.LineVerdict.TheVariants.Accepted}
+use Rattle.proof_rules.specs.{Held.{Entry, CheckerValue, start_of, has_none}, Refuting.{is_fresh, with_line, after_lines}, Learning.AllImplied, Judging.verdict_of, declared.verdict.LineVerdict.TheVariants.Accepted}
 use Rattle.proof_rules.proofs.InTurn.{implied_more}
 use Rattle.text_lines.specs.Text.{line as text_line}
 use Rattle.lrat_text.specs.Printing.{line_words}
@@ -26,7 +26,7 @@ text_added lines line text e = ap (λ bytes. log_text lines ++ bytes) e ∙ sym 
 
 -- ---- a fresh clause is learned while nothing closes
 
-still_held : (lines : List ProofLineValue) (c : CheckerValue) (entry : Entry) → Contains c.held entry → Contains (after c (map Addition lines)).held entry
+still_held : (lines : List ProofLineValue) (c : CheckerValue) (entry : Entry) → Contains c.held entry → Contains (after_lines c (map Addition lines)).held entry
 still_held [] c entry i = i
 still_held (line ∷ lines) c entry i = still_held lines (with_line c line) entry (Contains-append_left c.held ((line.id, line.lits) ∷ []) entry i)
 
@@ -37,17 +37,17 @@ any_by p xs x c h = list_any_at p xs c.0 x c.1 (ap p c.2 ∙ h)
 none_fresh : (c : CheckerValue) (clause : List LitValue) (entry : Entry) → Contains c.held entry → entry.1 ≡ [] → is_fresh c clause ≡ true → ⊥
 none_fresh c clause entry i e f =
     let s : is_superset clause entry.1 ≡ true = ap (is_superset clause) e in
-    false≢true (sym (ap not (or_right (is_empty clause) (list_any (λ x. is_superset clause x.1) c.held) (any_by (λ x. is_superset clause x.1) c.held entry i s))) ∙ f)
+    false≢true (sym (ap not (or_right (has_none clause) (list_any (λ x. is_superset clause x.1) c.held) (any_by (λ x. is_superset clause x.1) c.held entry i s))) ∙ f)
 
-some_or_none : (clause : List LitValue) → (not (is_empty clause) ≡ true) ⊎ (clause ≡ [])
+some_or_none : (clause : List LitValue) → (not (has_none clause) ≡ true) ⊎ (clause ≡ [])
 some_or_none [] = inr refl
 some_or_none (l ∷ clause) = inl refl
 
-pub all_learned : (lines : List ProofLineValue) (c : CheckerValue) (clause : List LitValue) → is_fresh (after c (map Addition lines)) clause ≡ true → learned lines ≡ lines
+pub all_learned : (lines : List ProofLineValue) (c : CheckerValue) (clause : List LitValue) → is_fresh (after_lines c (map Addition lines)) clause ≡ true → learned lines ≡ lines
 all_learned [] c clause f = refl
 all_learned (line ∷ lines) c clause f = ⊎_elim
     (λ s. rw s (ap (λ ls. line ∷ ls) (all_learned lines (with_line c line) clause f)))
-    (λ e. absurd (none_fresh (after (with_line c line) (map Addition lines)) clause (line.id, line.lits) (still_held lines (with_line c line) (line.id, line.lits) (Contains-push c.held (line.id, line.lits))) e f))
+    (λ e. absurd (none_fresh (after_lines (with_line c line) (map Addition lines)) clause (line.id, line.lits) (still_held lines (with_line c line) (line.id, line.lits) (Contains-push c.held (line.id, line.lits))) e f))
     (some_or_none line.lits)
 
 -- ---- the files
@@ -88,17 +88,17 @@ moves_learned x lines line told files text a e old apart tells put others = reco
 abbrev pub IsWhole : ProofName → Bool → Files → Files → List ℕ → Type 0
 IsWhole name told files now text = IsTrue told → (before : List ℕ) → files name ≡ Some before → now name ≡ Some (before ++ text)
 
-learned_last : (lines : List ProofLineValue) (line : ProofLineValue) → not (is_empty line.lits) ≡ true → learned (lines ++ line ∷ []) ≡ learned lines ++ line ∷ []
+learned_last : (lines : List ProofLineValue) (line : ProofLineValue) → not (has_none line.lits) ≡ true → learned (lines ++ line ∷ []) ≡ learned lines ++ line ∷ []
 learned_last [] line s = rw s refl
 learned_last (l ∷ lines) line s =
     let more = learned_last lines line s in
-    ⊎_elim (λ b. rw b (ap (λ ls. l ∷ ls) more)) (λ b. rw b more) (cases_Bool (not (is_empty l.lits)))
+    ⊎_elim (λ b. rw b (ap (λ ls. l ∷ ls) more)) (λ b. rw b more) (cases_Bool (not (has_none l.lits)))
 
 learned_but : (lines : List ProofLineValue) (line : ProofLineValue) → line.lits ≡ [] → learned (lines ++ line ∷ []) ≡ learned lines
 learned_but [] line e = rw e refl
 learned_but (l ∷ lines) line e =
     let more = learned_but lines line e in
-    ⊎_elim (λ b. rw b (ap (λ ls. l ∷ ls) more)) (λ b. rw b more) (cases_Bool (not (is_empty l.lits)))
+    ⊎_elim (λ b. rw b (ap (λ ls. l ∷ ls) more)) (λ b. rw b more) (cases_Bool (not (has_none l.lits)))
 
 -- ---- a line that follows comes to the ledger
 

@@ -8,7 +8,7 @@ use Rattle.candidate_order.specs.{declared.candidate.Candidate.Candidate, Costs.
 use Rattle.candidate_order.proofs.Orders.{Before-trans, Before-total, HasChunk}
 use Rattle.report_form.{specs.Tests.is_before, proofs.Tested.decides_before}
 use Rattle.send_encoding.proofs.{Everywhere.{in_map, in_flat, From, in_range}, Orders.pairs_append}
-use Rattle.candidate_formula.specs.Counts.{counts_of}
+use Rattle.candidate_formula.specs.Counts.{chunk_counts}
 use Rattle.frontier_audit.specs.{Candidates.{put_in_order, in_search_order, candidates_within}, inner.Steps.candidates_of_step}
 use Rattle.frontier_audit.proofs.Tried.{all_put, all_ordered}
 
@@ -86,8 +86,8 @@ of_rounds s r [] = All-nil (OfRounds r)
 of_rounds s r (c ∷ cs) = All-cons (OfRounds r) (candidate_at s (r, c)) (map (λ n. candidate_at s (r, n)) cs) refl (of_rounds s r cs)
 
 step_apart : (q : QuestionValue) (s : ℕ) → AllPairs (λ x y. x ≢ y) (candidates_of_step q s)
-step_apart q s = pairs_of_range (λ x y. x ≢ y) OfRounds (λ r. map (λ c. candidate_at s (r, c)) (counts_of q)) (λ r. of_rounds s r (counts_of q))
-    (λ r. counted_apart s r (counts_of q) (AllPairs-filter Less (allows (kind_in q.spec) q.topology.nodes) (range_with_len 1 q.limits.max_c) (range_ascends 1 q.limits.max_c)))
+step_apart q s = pairs_of_range (λ x y. x ≢ y) OfRounds (λ r. map (λ c. candidate_at s (r, c)) (chunk_counts q)) (λ r. of_rounds s r (chunk_counts q))
+    (λ r. counted_apart s r (chunk_counts q) (AllPairs-filter Less (allows (kind_in q.spec) q.topology.nodes) (range_with_len 1 q.limits.max_c) (range_ascends 1 q.limits.max_c)))
     (λ i j x y less a b e. let same : x.r ≡ y.r = ap (λ z. z.r) e in omega (arith, less, a, b, same)) s (q.limits.k + 1)
 
 -- ---- and all of them ascend
@@ -96,12 +96,12 @@ abbrev OfSteps : ℕ → Candidate → Type 0
 OfSteps s x = x.s ≡ s
 
 with_chunks : (q : QuestionValue) (s : ℕ) → All HasChunk (candidates_of_step q s)
-with_chunks q s = in_flat HasChunk (λ r. Unit {0}) (λ r. map (λ c. candidate_at s (r, c)) (counts_of q)) (range_with_len s (q.limits.k + 1))
-    (λ r u. in_map HasChunk (λ c. 1 ≤ c) (λ c. candidate_at s (r, c)) (counts_of q) (λ c h. h) (All-filter (allows (kind_in q.spec) q.topology.nodes) (λ c. 1 ≤ c) (range_with_len 1 q.limits.max_c) (λ k d low. let at = in_range 1 q.limits.max_c k d low in at.0))) (λ k d low. tt)
+with_chunks q s = in_flat HasChunk (λ r. Unit {0}) (λ r. map (λ c. candidate_at s (r, c)) (chunk_counts q)) (range_with_len s (q.limits.k + 1))
+    (λ r u. in_map HasChunk (λ c. 1 ≤ c) (λ c. candidate_at s (r, c)) (chunk_counts q) (λ c h. h) (All-filter (allows (kind_in q.spec) q.topology.nodes) (λ c. 1 ≤ c) (range_with_len 1 q.limits.max_c) (λ k d low. let at = in_range 1 q.limits.max_c k d low in at.0))) (λ k d low. tt)
 
 of_steps : (q : QuestionValue) (s : ℕ) → All (OfSteps s) (candidates_of_step q s)
-of_steps q s = in_flat (OfSteps s) (λ r. Unit {0}) (λ r. map (λ c. candidate_at s (r, c)) (counts_of q)) (range_with_len s (q.limits.k + 1))
-    (λ r u. in_map (OfSteps s) (λ c. Unit {0}) (λ c. candidate_at s (r, c)) (counts_of q) (λ c v. refl) (λ k d low. tt)) (λ k d low. tt)
+of_steps q s = in_flat (OfSteps s) (λ r. Unit {0}) (λ r. map (λ c. candidate_at s (r, c)) (chunk_counts q)) (range_with_len s (q.limits.k + 1))
+    (λ r u. in_map (OfSteps s) (λ c. Unit {0}) (λ c. candidate_at s (r, c)) (chunk_counts q) (λ c v. refl) (λ k d low. tt)) (λ k d low. tt)
 
 pub step_ascends : (q : QuestionValue) (s : ℕ) → AllPairs Before (in_search_order (candidates_of_step q s))
 step_ascends q s = ordered_ascends (candidates_of_step q s) (with_chunks q s) (step_apart q s)

@@ -5,7 +5,7 @@ use Rattle.collective_spec.specs.{declared.kind.Kind.Kind, Collectives.kind_in}
 use Rattle.candidate_order.specs.{declared.candidate.Candidate.Candidate, Ranges.LimitsValue, Costs.Before, Listed.{IsListed, IsCount, candidate_at}}
 use Rattle.candidate_order.specs.Frontiers.{QuestionValue, IsWithin}
 use Rattle.candidate_order.proofs.Unique.{one_list_of_candidates}
-use Rattle.candidate_formula.specs.Counts.{allowed_up_to, counts_of}
+use Rattle.candidate_formula.specs.Counts.{allowed_up_to, chunk_counts}
 use Rattle.send_encoding.proofs.Everywhere.{in_map, in_flat, From, in_range}
 use Rattle.frontier_audit.specs.{Candidates.{candidates_within, in_search_order, is_listed}, inner.Steps.{unrefuted_among, candidates_of_step}}
 use Rattle.frontier_audit.proofs.{InOrder.step_ascends, Tried.{IsCountOf, all_ordered, counts_allowed, listed_contains, step_listed}}
@@ -15,31 +15,31 @@ use Rattle.frontier_audit.proofs.{InOrder.step_ascends, Tried.{IsCountOf, all_or
 abbrev pub step_of : QuestionValue → ℕ → List Candidate
 step_of q s = in_search_order (candidates_of_step q s)
 
-each_listed : (q : QuestionValue) (s : ℕ) → All (IsListed q.limits.k s (counts_of q)) (step_of q s)
-each_listed q s = all_ordered (IsListed q.limits.k s (counts_of q)) (candidates_of_step q s)
-    (in_flat (IsListed q.limits.k s (counts_of q)) (From s (q.limits.k + 1)) (λ r. map (λ c. candidate_at s (r, c)) (counts_of q)) (range_with_len s (q.limits.k + 1))
-    (λ r rounds. in_map (IsListed q.limits.k s (counts_of q)) (Contains (counts_of q)) (λ c. candidate_at s (r, c)) (counts_of q)
-    (λ c has. record { steps = refl; all_rounds = rounds.0; rounds = omega (arith, rounds.1); chunks = has }) (All-contains_itself (counts_of q))) (in_range s (q.limits.k + 1)))
+each_listed : (q : QuestionValue) (s : ℕ) → All (IsListed q.limits.k s (chunk_counts q)) (step_of q s)
+each_listed q s = all_ordered (IsListed q.limits.k s (chunk_counts q)) (candidates_of_step q s)
+    (in_flat (IsListed q.limits.k s (chunk_counts q)) (From s (q.limits.k + 1)) (λ r. map (λ c. candidate_at s (r, c)) (chunk_counts q)) (range_with_len s (q.limits.k + 1))
+    (λ r rounds. in_map (IsListed q.limits.k s (chunk_counts q)) (Contains (chunk_counts q)) (λ c. candidate_at s (r, c)) (chunk_counts q)
+    (λ c has. record { steps = refl; all_rounds = rounds.0; rounds = omega (arith, rounds.1); chunks = has }) (All-contains_itself (chunk_counts q))) (in_range s (q.limits.k + 1)))
 
-listed_within : (q : QuestionValue) (s : ℕ) (x : Candidate) → 1 ≤ s → s ≤ q.limits.max_s → IsListed q.limits.k s (counts_of q) x → IsWithin q x
+listed_within : (q : QuestionValue) (s : ℕ) (x : Candidate) → 1 ≤ s → s ≤ q.limits.max_s → IsListed q.limits.k s (chunk_counts q) x → IsWithin q x
 listed_within q s x some few l =
     let steps = l.steps in
     let rounds = l.all_rounds in
     let most = l.rounds in
-    let count = All-contains (IsCountOf q) (counts_of q) x.c (counts_allowed q) l.chunks in
+    let count = All-contains (IsCountOf q) (chunk_counts q) x.c (counts_allowed q) l.chunks in
     let below = count.0.1 in
     record { some_steps = omega arith; steps = omega arith; all_rounds = omega arith; rounds = omega arith; chunks = omega arith; allowed = count.1 }
 
-pub listed_step : (q : QuestionValue) (s : ℕ) (xs : List Candidate) → 1 ≤ s → s ≤ q.limits.max_s → ((x : Candidate) → Contains xs x ↔ IsListed q.limits.k s (counts_of q) x) → AllPairs Before xs → xs ≡ step_of q s
+pub listed_step : (q : QuestionValue) (s : ℕ) (xs : List Candidate) → 1 ≤ s → s ≤ q.limits.max_s → ((x : Candidate) → Contains xs x ↔ IsListed q.limits.k s (chunk_counts q) x) → AllPairs Before xs → xs ≡ step_of q s
 listed_step q s xs some few members ascend = one_list_of_candidates xs (step_of q s) ascend (step_ascends q s) (λ x. (
   λ has. let l = (members x).0 has in subst (λ n. Contains (step_of q n) x) l.steps (listed_contains (step_of q x.s) x (step_listed q x (listed_within q s x some few l))),
-  λ has. (members x).1 (All-contains (IsListed q.limits.k s (counts_of q)) (step_of q s) x (each_listed q s) has),
+  λ has. (members x).1 (All-contains (IsListed q.limits.k s (chunk_counts q)) (step_of q s) x (each_listed q s) has),
 ))
 
 -- ---- with what the calls gave
 
 module _ (q : QuestionValue) (limits : LimitsValue) (kind : Kind) (nodes : ℕ) (counts : List ℕ) (l : limits ≡ q.limits) (k : kind ≡ kind_in q.spec) (n : nodes ≡ q.topology.nodes) (made : counts ≡ allowed_up_to limits.max_c kind nodes) where
-  counts_are : counts ≡ counts_of q
+  counts_are : counts ≡ chunk_counts q
   counts_are = made ∙ (ap (λ (x : LimitsValue). allowed_up_to x.max_c kind nodes) l ∙ (ap (λ x. allowed_up_to q.limits.max_c x nodes) k ∙ ap (allowed_up_to q.limits.max_c (kind_in q.spec)) n))
 
   pub are_counts : All (IsCount limits.max_c) counts
@@ -48,7 +48,7 @@ module _ (q : QuestionValue) (limits : LimitsValue) (kind : Kind) (nodes : ℕ) 
   pub listed_is : (s : ℕ) (xs : List Candidate) → 1 ≤ s → s ≤ limits.max_s → ((x : Candidate) → Contains xs x ↔ IsListed limits.k s counts x) → AllPairs Before xs → xs ≡ step_of q s
   listed_is s xs some few members ascend =
       listed_step q s xs some (subst (λ (x : LimitsValue). s ≤ x.max_s) l few)
-      (subst (λ (x : LimitsValue). (y : Candidate) → Contains xs y ↔ IsListed x.k s (counts_of q) y) l (subst (λ cs. (y : Candidate) → Contains xs y ↔ IsListed limits.k s cs y) counts_are members)) ascend
+      (subst (λ (x : LimitsValue). (y : Candidate) → Contains xs y ↔ IsListed x.k s (chunk_counts q) y) l (subst (λ cs. (y : Candidate) → Contains xs y ↔ IsListed limits.k s cs y) counts_are members)) ascend
 
 -- ---- step by step
 

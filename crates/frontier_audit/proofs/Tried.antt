@@ -7,7 +7,7 @@ use Rattle.collective_spec.specs.{Kinds.allows, Collectives.kind_in}
 use Rattle.candidate_order.specs.{declared.candidate.Candidate.Candidate, Listed.candidate_at, Frontiers.{QuestionValue, IsWithin}}
 use Rattle.report_form.specs.Tests.{is_before}
 use Rattle.send_encoding.proofs.{Everywhere.{in_map, in_flat, From, in_range}, Decoded.any_range, Members.kept}
-use Rattle.candidate_formula.specs.Counts.{counts_of}
+use Rattle.candidate_formula.specs.Counts.{chunk_counts}
 use Rattle.frontier_audit.specs.{Candidates.{same_candidate, is_listed, put_in_order, in_search_order, candidates_within}, inner.Steps.candidates_of_step}
 
 -- ---- the test of the same candidate
@@ -80,12 +80,12 @@ all_ordered P (x ∷ xs) a = all_put P x (in_search_order xs) (All-head P x xs a
 abbrev pub IsCountOf : QuestionValue → ℕ → Type 0
 IsCountOf q c = From 1 q.limits.max_c c × (allows (kind_in q.spec) q.topology.nodes c ≡ true)
 
-pub counts_allowed : (q : QuestionValue) → All (IsCountOf q) (counts_of q)
+pub counts_allowed : (q : QuestionValue) → All (IsCountOf q) (chunk_counts q)
 counts_allowed q = kept (allows (kind_in q.spec) q.topology.nodes) (From 1 q.limits.max_c) (range_with_len 1 q.limits.max_c) (in_range 1 q.limits.max_c)
 
 pub step_within : (q : QuestionValue) (s : ℕ) → From 1 q.limits.max_s s → All (IsWithin q) (candidates_of_step q s)
-step_within q s step = in_flat (IsWithin q) (From s (q.limits.k + 1)) (λ r. map (λ c. candidate_at s (r, c)) (counts_of q)) (range_with_len s (q.limits.k + 1))
-    (λ r rounds. in_map (IsWithin q) (IsCountOf q) (λ c. candidate_at s (r, c)) (counts_of q)
+step_within q s step = in_flat (IsWithin q) (From s (q.limits.k + 1)) (λ r. map (λ c. candidate_at s (r, c)) (chunk_counts q)) (range_with_len s (q.limits.k + 1))
+    (λ r rounds. in_map (IsWithin q) (IsCountOf q) (λ c. candidate_at s (r, c)) (chunk_counts q)
     (λ c count. record { some_steps = step.0; steps = omega (arith, step.1); all_rounds = rounds.0; rounds = omega (arith, rounds.1); chunks = omega (arith, count.0.1); allowed = count.1 }) (counts_allowed q)) (in_range s (q.limits.k + 1))
 
 pub each_within : (q : QuestionValue) → All (IsWithin q) (candidates_within q)
@@ -116,7 +116,7 @@ pub step_listed : (q : QuestionValue) (x : Candidate) → IsWithin q x → is_li
 step_listed q x w =
     let p : Candidate → Bool = same_candidate x in
     any_ordered p (candidates_of_step q x.s)
-    ∙ any_range p (λ r. map (λ c. candidate_at x.s (r, c)) (counts_of q)) x.s (q.limits.k + 1) x.r w.all_rounds (omega (arith, w.rounds))
+    ∙ any_range p (λ r. map (λ c. candidate_at x.s (r, c)) (chunk_counts q)) x.s (q.limits.k + 1) x.r w.all_rounds (omega (arith, w.rounds))
     (any_passing p (λ c. candidate_at x.s (x.r, c)) (allows (kind_in q.spec) q.topology.nodes) 1 q.limits.max_c x.c (some_chunks w.allowed) (omega (arith, w.chunks)) w.allowed (same_itself x))
   where
     some_chunks : allows (kind_in q.spec) q.topology.nodes x.c ≡ true → 1 ≤ x.c

@@ -2,7 +2,7 @@
 
 ghost use Rattle.std.specs.Prelude.{◌≡◌, true, false, All, IfOk};
 ghost use Rattle.collective_spec.specs.Collectives.{adds_up};
-ghost use Rattle.report_form.specs.Reports.{IsPoint};
+ghost use Rattle.report_form.specs.Reports.{IsPrintedPoint};
 ghost use Rattle.frontier_audit.specs.{Denials.each, Solutions.is_solution, inner.Steps.point_checked, Beside.denial_of};
 
 use crate::part_question::PartQuestion;
@@ -19,7 +19,7 @@ pub(crate) fn points_denied(
     asked: &PartQuestion<'_>,
     points: &[Point],
 ) -> Result<Option<(Reason, Candidate)>, OutOfMemory>
-    requires { All (IsPoint asked.now) points.now }
+    requires { All (IsPrintedPoint asked.now) points.now }
     ensures { IfOk result (λ denied. denied ≡ denial_of (each (point_checked asked.now) points.now)) }
 {
     for point in points {
@@ -32,7 +32,7 @@ pub(crate) fn points_denied(
 
 /// Whether a point's schedule solves what is asked, or sums it. The only error is `OutOfMemory`.
 fn is_solution(alloc: Global, asked: &PartQuestion<'_>, point: &Point) -> Result<bool, OutOfMemory>
-    requires { IsPoint asked.now point.now }
+    requires { IsPrintedPoint asked.now point.now }
     ensures { IfOk result (λ solution. solution ≡ is_solution asked.now point.now) }
 {
     if asked.spec().adds_up() {
@@ -45,7 +45,7 @@ fn is_solution(alloc: Global, asked: &PartQuestion<'_>, point: &Point) -> Result
 /// Whether a point's schedule brings each chunk where it has to be. The only error is
 /// `OutOfMemory`.
 fn does_solve(alloc: Global, asked: &PartQuestion<'_>, point: &Point) -> Result<bool, OutOfMemory>
-    requires point { IsPoint asked.now point.now }
+    requires point { IsPrintedPoint asked.now point.now }
     requires copies { adds_up asked.now.spec ≡ false }
     ensures { IfOk result (λ solution. solution ≡ is_solution asked.now point.now) }
 {
@@ -62,7 +62,7 @@ fn does_solve(alloc: Global, asked: &PartQuestion<'_>, point: &Point) -> Result<
 
 /// Whether a point's schedule sums what is demanded. The only error is `OutOfMemory`.
 fn does_sum(alloc: Global, asked: &PartQuestion<'_>, point: &Point) -> Result<bool, OutOfMemory>
-    requires point { IsPoint asked.now point.now }
+    requires point { IsPrintedPoint asked.now point.now }
     requires adds { adds_up asked.now.spec ≡ true }
     ensures { IfOk result (λ solution. solution ≡ is_solution asked.now point.now) }
 {

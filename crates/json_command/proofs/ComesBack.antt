@@ -2,7 +2,7 @@
 use Rattle.std.proofs.{Common.{◌≡◌, ℕ, ◌≤◌, nat_lt, Bool, true, false, List, [], length, None, Result, Ok, Err, sym, ap, ◌∙◌, refl, arith}, lemmas.Bool.le-ltb}
 use Rattle.text_lines.specs.Check.{◌>>=◌, refuse}
 use Rattle.topology_text.{specs.{declared.fault.TopologyCode.TopologyCode, Reading.topology_of, Value.NamedTopologyValue}, proofs.Laws.all_take}
-use Rattle.report_form.specs.{declared.fault.ReportCode.ReportCode, Answer.code_number as report_number, Reading.report_of, Reports.ReportValue}
+use Rattle.report_form.specs.{declared.fault.ReportCode.ReportCode, Answer.report_number, Reading.report_of, Reports.ReportValue}
 use Rattle.report_form.proofs.ReportTaken.{report_take}
 use Rattle.serde_json.specs.{Data.depth, Read.max_depth, Written.compact_text}
 use Rattle.json_values.{specs.{Json.printed, TopologyJson.topology_json, Answer.topology_of_json}, proofs.Built.{topology_back, topology_flat}}

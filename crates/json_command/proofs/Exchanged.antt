@@ -3,11 +3,11 @@ use Rattle.std.proofs.Common.{◌≡◌, ◌≢◌, ◌⊎◌, inl, inr, ℕ, Li
 use Rattle.outer_ports.specs.declared.part.Part.{Part}
 use Rattle.text_lines.specs.Check.{◌>>=◌, need}
 use Rattle.candidate_order.specs.Frontiers.{PointValue}
-use Rattle.topology_text.specs.{declared.fault.TopologyCode.TopologyCode, Value.NamedTopologyValue, Answer.code_number as topology_number, Reading.topology_of}
+use Rattle.topology_text.specs.{declared.fault.TopologyCode.TopologyCode, Value.NamedTopologyValue, Answer.topology_number, Reading.topology_of}
 use Rattle.topology_text.specs.Spelling.{spelling}
 use Rattle.topology_text.specs.declared.fault.TopologyCode.TheVariants as topology
 use Rattle.report_form.specs.{Reading.report_of, Reports.ReportValue, Numbered.point_at, Spelling.report_text}
-use Rattle.json_values.specs.{declared.fault.JsonCode.JsonCode, Answer.{code_number as json_number, topology_of_json}, Json.printed}
+use Rattle.json_values.specs.{declared.fault.JsonCode.JsonCode, Answer.{json_number, topology_of_json}, Json.printed}
 use Rattle.json_values.specs.TopologyJson.{topology_in, topology_json}
 use Rattle.json_values.specs.declared.fault.JsonCode.TheVariants as json
 use Rattle.json_forms.{specs.{Reading.read_json, TopologyForm.topology as topology_form, ReportForm.report as report_form}, proofs.ReadJson.read_alike}

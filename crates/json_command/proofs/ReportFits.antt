@@ -11,7 +11,7 @@ use Rattle.candidate_order.specs.{declared.{candidate.Candidate.Candidate, mark.
 use Rattle.candidate_order.specs.Frontiers.{QuestionValue, PointValue, UnknownValue, FrontierValue, IsUnknown, IsWithin}
 use Rattle.candidate_order.specs.declared.mark.Mark.TheVariants as mark
 use Rattle.topology_text.specs.{Names.is_name, Spelling.name_at}
-use Rattle.report_form.specs.Reports.{HasSchedule, IsFrontier, IsJoinedPoint, IsPoint, IsReport, ReportValue, WordsValue, question_of}
+use Rattle.report_form.specs.Reports.{HasSchedule, IsFrontier, IsJoinedPoint, IsPrintedPoint, IsReport, ReportValue, WordsValue, question_of}
 use Rattle.report_laws.proofs.PointsAgain.{base_of}
 use Rattle.serde_json.specs.{Data.{Data, string}, View.items_of}
 use Rattle.json_values.specs.Json.{count_of, members_of, object_of}
@@ -73,7 +73,7 @@ module _ (names : List (List ℕ)) (named : All (λ n. is_name n ≡ true) names
     not_joined m (inl e) n joined = absurd cc
     not_joined m (inr e) n joined = absurd cc
 
-    point_small : (p : PointValue) → IsPoint q p → AreSmall p
+    point_small : (p : PointValue) → IsPrintedPoint q p → AreSmall p
     point_small p h =
         let w = h.within in
         has_small p h.has (omega (arith, w.steps, limits.steps)) (omega (arith, w.steps, w.rounds, limits.steps, limits.k)) (omega (arith, w.chunks, limits.chunks)) (not_joined p.mark h.mark)
@@ -83,7 +83,7 @@ module _ (names : List (List ℕ)) (named : All (λ n. is_name n ≡ true) names
         has_small p h.has (omega (arith, h.steps, limits.steps)) (omega (arith, h.steps, h.rounds, limits.steps, limits.k)) (omega (arith, h.chunks, limits.chunks))
         (λ n e. let same : mark.Joined h.adding ≡ mark.Joined n = sym h.mark ∙ e in let is : h.adding ≡ n = cc in omega (arith, h.some_copy, h.steps, limits.steps, is))
 
-    all_small : (points : List PointValue) → All (IsPoint q) points → All AreSmall points
+    all_small : (points : List PointValue) → All (IsPrintedPoint q) points → All AreSmall points
     all_small points h i d below = point_small _ (h i d below)
 
     all_joined_small : (points : List PointValue) → All (IsJoinedPoint q) points → All AreSmall points

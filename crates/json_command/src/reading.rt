@@ -1,7 +1,7 @@
 //! Topologies and reports that are read from JSON.
 
 ghost use Rattle.std.specs.Prelude.{◌≢◌, ◌≤◌, length, IfOk};
-ghost use Rattle.json_values.specs.Answer.{code_number as json_number};
+ghost use Rattle.json_values.specs.Answer.{json_number};
 ghost use Rattle.run_rules.specs.{Answers.{IsAnswerAlone, Says}, Refusals.{refusal_line, refused_at}, Tasks.{limit, unjson_asked}};
 
 use crate::OutOfMemory;

@@ -95,5 +95,5 @@ abbrev pub fields : {A X : Type 0} → Part A X → Form A X
 fields p = record { json = λ x. object (p.puts x no_members); read = λ d. as_object d >>= λ ms. if same_keys (p.keys d no_members) ms then p.read d else None }
 
 -- what the value at the key stands for is this word
-abbrev pub at_word : List ℕ → (Data → Option (List (List ℕ))) → List ℕ → Data → Bool
-at_word key read w d = unwrap_or (option_map (λ ws. bytes_eq (slice_index_or ws 0 []) w) (get key d >>= read)) false
+abbrev pub says_word : List ℕ → (Data → Option (List (List ℕ))) → List ℕ → Data → Bool
+says_word key read w d = unwrap_or (option_map (λ ws. bytes_eq (slice_index_or ws 0 []) w) (get key d >>= read)) false

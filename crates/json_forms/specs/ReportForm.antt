@@ -9,7 +9,7 @@ use Rattle.topology_text.specs.Spelling.{name_at}
 use Rattle.report_form.specs.{Reports.{WordsValue, ReportValue}, Spelling.{mark_words, part_words}}
 use Rattle.serde_json.specs.Find.{as_array, get}
 use Rattle.json_values.specs.Shape.{◌>>=◌, headed}
-use Rattle.json_forms.specs.Forms.{Form, count, name, word, via, with_key, lined, each, row_read, row, Part as Members, seen, at, at_if, ◌&◌, line_of, fields, at_word}
+use Rattle.json_forms.specs.Forms.{Form, count, name, word, via, with_key, lined, each, row_read, row, Part as Members, seen, at, at_if, ◌&◌, line_of, fields, says_word}
 use Rattle.json_forms.specs.TopologyForm.{version, topology}
 
 -- ---- points
@@ -18,15 +18,15 @@ use Rattle.json_forms.specs.TopologyForm.{version, topology}
 abbrev pub send : List (List ℕ) → Form (List (List ℕ)) Hop
 send names = lined (codes "send") (row (via (λ h. h.chunk) count ∷ via (λ h. name_at names h.from) name ∷ via (λ h. name_at names h.to) name ∷ via (λ h. h.step) count ∷ []))
 
-abbrev pub adding_of : Mark → Option ℕ
-adding_of (mark.Joined adding) = Some adding
-adding_of _ = None
+abbrev pub adding_in : Mark → Option ℕ
+adding_in (mark.Joined adding) = Some adding
+adding_in _ = None
 
 -- a joined point has one key more, and one token
 abbrev pub point : List (List ℕ) → Form (List (List ℕ)) PointValue
 point names =
     let marks = word (codes "optimal" ∷ codes "open" ∷ codes "joined" ∷ []) in
-    let adding : Members (List ℕ) PointValue = at_if (at_word (codes "mark") marks.read (codes "joined")) (codes "adding") (λ p. adding_of p.mark) count in
+    let adding : Members (List ℕ) PointValue = at_if (says_word (codes "mark") marks.read (codes "joined")) (codes "adding") (λ p. adding_in p.mark) count in
     fields (line_of (codes "point") (at (codes "s") (λ p. p.candidate.s) count & at (codes "r") (λ p. p.candidate.r) count & at (codes "c") (λ p. p.candidate.c) count & at (codes "mark") (λ p. slice_index_or (mark_words p.mark) 0 []) marks & adding)
     & line_of (codes "rounds") (at (codes "rounds") (λ p. p.schedule.rounds) (each count)) & at (codes "sends") (λ p. p.schedule.sends) (each (send names)))
 
@@ -68,7 +68,7 @@ words names =
 abbrev pub joined : List (List ℕ) → Members (List (List ℕ)) ReportValue
 joined names =
     let points : Members (List (List ℕ)) ReportValue = at (codes "joined") (λ r. r.joined) (each (point names)) in
-    let joins = at_word (codes "words") (λ w. get (codes "collective") w >>= kinds.read) (codes "allreduce") in
+    let joins = says_word (codes "words") (λ w. get (codes "collective") w >>= kinds.read) (codes "allreduce") in
     record points { read = λ d. if joins d then headed (codes "joined" ∷ []) (points.read d) else get (codes "joined") d >>= λ v. as_array v >>= row_read [] }
 
 -- the names are those of its nodes

@@ -6,7 +6,7 @@ use Rattle.collective_spec.specs.Patterns.{PatternValue}
 use Rattle.topology_text.specs.{Value.NamedTopologyValue, Spelling.name_at}
 use Rattle.serde_json.specs.{Data.{Data, number, unsigned, Items, no_items, item}, Events.items_len, Find.{as_number, as_u64, as_array, get}}
 use Rattle.json_values.specs.Shape.{◌>>=◌, ◌⊕◌, one, headed}
-use Rattle.json_forms.specs.Forms.{Form, count, name, via, each, row, Part, at, at_if, ◌&◌, line_of, fields, at_word}
+use Rattle.json_forms.specs.Forms.{Form, count, name, via, each, row, Part, at, at_if, ◌&◌, line_of, fields, says_word}
 
 -- 1, or 2 where there is a pattern
 abbrev pub version : Form (List ℕ) (Option PatternValue)
@@ -39,5 +39,5 @@ custom names =
 -- the names are those of its nodes
 abbrev pub topology : List (List ℕ) → Form (List (List ℕ)) NamedTopologyValue
 topology names =
-    let pattern : Part (List (List ℕ)) NamedTopologyValue = at_if (at_word (codes "version") version.read (codes "2")) (codes "custom") (λ t. t.custom) (custom names) in
+    let pattern : Part (List (List ℕ)) NamedTopologyValue = at_if (says_word (codes "version") version.read (codes "2")) (codes "custom") (λ t. t.custom) (custom names) in
     fields (line_of (codes "topology") (at (codes "version") (λ t. t.custom) version) & line_of (codes "nodes") (at (codes "nodes") (λ t. t.names) (each name)) & at (codes "groups") (λ t. t.topology.groups) (each (group names)) & pattern)

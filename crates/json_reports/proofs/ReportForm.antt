@@ -10,7 +10,7 @@ use Rattle.candidate_order.specs.declared.{pruning.Pruning.Pruning, candidate.Ca
 use Rattle.candidate_order.specs.Frontiers.{PointValue, UnknownValue, FrontierValue, QuestionValue}
 use Rattle.candidate_order.specs.declared.mark.Mark.TheVariants as mark
 use Rattle.topology_text.specs.{Names.AreNames, Spelling.{name_at, version_word}}
-use Rattle.report_form.specs.Reports.{WordsValue, ReportValue, IsReport, IsFrontier, IsPoint, IsJoinedPoint, HasSchedule, parts_of, question_of}
+use Rattle.report_form.specs.Reports.{WordsValue, ReportValue, IsReport, IsFrontier, IsPrintedPoint, IsJoinedPoint, HasSchedule, parts_of, question_of}
 use Rattle.report_form.specs.Spelling.{pruning_words, synth_words, point_lines, rounds_words, send_words, refuted_words, unknown_words, frontier_lines, joined_lines, report_lines}
 use Rattle.list_laws.proofs.Each.{each_always}
 use Rattle.serde_json.specs.Data.{Data, string}
@@ -191,7 +191,7 @@ report_form r valid =
     let k = w.collective.kind in
     let below = λ (q : QuestionValue) (same : length names ≡ q.topology.nodes) (p : PointValue) (has : HasSchedule q p). sends_within names (chunks_in q.spec q.topology.nodes p.candidate.c) q.topology.nodes p.schedule.sends same has.in_range in
     let parts = mapped (λ p. p ≢ part.Joined) (λ x. x.0) r.frontiers (subst (AllByRecursion (λ p. p ≢ part.Joined)) (sym valid.parts) (parts_have k)) in
-    let points = each_weaker _ _ (λ (x : Part × FrontierValue) (ok : IsFrontier (question_of w r.topology x.0) x.1). each_weaker _ _ (λ (p : PointValue) (h : IsPoint (question_of w r.topology x.0) p). below (question_of w r.topology x.0) valid.topology.as_many p h.has) x.1.points (recursion_from_All _ x.1.points ok.points)) r.frontiers (recursion_from_All _ r.frontiers valid.frontiers) in
+    let points = each_weaker _ _ (λ (x : Part × FrontierValue) (ok : IsFrontier (question_of w r.topology x.0) x.1). each_weaker _ _ (λ (p : PointValue) (h : IsPrintedPoint (question_of w r.topology x.0) p). below (question_of w r.topology x.0) valid.topology.as_many p h.has) x.1.points (recursion_from_All _ x.1.points ok.points)) r.frontiers (recursion_from_All _ r.frontiers valid.frontiers) in
     let joined = each_weaker _ _ (λ (p : PointValue) (h : IsJoinedPoint (question_of w r.topology part.Joined) p). below (question_of w r.topology part.Joined) valid.topology.as_many p h.has) r.joined (recursion_from_All _ r.joined valid.joined) in
     in_parts _ (bytes_eq (word_of k) (codes "allreduce")) _ _ _ _ _ _ (λ j. joined_in j (points_json names r.joined)) _ _ _ (joins_found names w k refl) (title_of names r.topology.topology.nodes r.topology.topology.groups r.topology.custom)
     (words_found names named w valid.words.root) (topology_form r.topology valid.topology)

@@ -7,11 +7,11 @@ use Rattle.json_values.specs.{declared.fault.{JsonCode.{JsonCode, TheVariants.{N
 use Rattle.json_values.specs.TopologyJson.{topology_text_in}
 
 -- the numbers of the codes, by which refusals name them
-abbrev pub code_number : JsonCode → ℕ
-code_number NotJson = 1
-code_number BadShape = 2
-code_number BadText = 3
-code_number OutOfMemory = 4
+abbrev pub json_number : JsonCode → ℕ
+json_number NotJson = 1
+json_number BadShape = 2
+json_number BadText = 3
+json_number OutOfMemory = 4
 
 -- the text that the JSON stands for: the bytes are to be JSON, and their value is to have the shape
 abbrev pub text_of_json : (Data → Option (List ℕ)) → List ℕ → Result (List ℕ) JsonCode

@@ -1,7 +1,7 @@
 //! Why JSON is refused, and where.
 
 ghost use Rattle.std.specs.Prelude.{◌≡◌};
-ghost use Rattle.json_values.specs.Answer.{code_number};
+ghost use Rattle.json_values.specs.Answer.{json_number};
 
 /// Why bytes are not the JSON of a value, or were not read.
 #[derive(Clone, Copy, PartialEq, Eq)]
@@ -19,7 +19,7 @@ pub enum JsonCode {
 impl JsonCode {
     /// The number by which a refusal names the code, from 1 to 4 in the order of the variants.
     pub fn number(self) -> u32
-        ensures { result ≡ code_number self }
+        ensures { result ≡ json_number self }
     {
         match self {
             JsonCode::NotJson => 1,

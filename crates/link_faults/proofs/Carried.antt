@@ -1,7 +1,7 @@
 -- What some schedule does after a fault, one does before it, of fewer chunks and in no fewer rounds.
 use Rattle.std.proofs.Common.{ℕ, ◌+◌, ◌*◌, ◌≤◌, Bool, true, false, subst, sym, arith}
 use Rattle.schedule.specs.{Links.TopologyValue, Placed.PlacementValue, Judging.group_at, Solving.Solvable, Summing.SummedSolvable}
-use Rattle.collective_spec.specs.{declared.spec.Spec.Spec, Collectives.{chunks_of, spec_instance, spec_demand, ends_of, after, adds_up}, Layouts.stands}
+use Rattle.collective_spec.specs.{declared.spec.Spec.Spec, Collectives.{chunks_of, spec_instance, spec_demand, ends_of, layout_after, adds_up}, Layouts.stands}
 use Rattle.collective_spec.specs.Patterns.{in_copies}
 use Rattle.collective_spec.proofs.Chunks.{chunks_more}
 use Rattle.collective_spec.specs.declared.spec.Spec.TheVariants as spec
@@ -40,7 +40,7 @@ module _ (t : TopologyValue) (nodes c d steps rounds more_rounds : ℕ) (fewer :
 
   pub summed_carried : (s : Spec) → SummedSolvable t (spec_demand s nodes d) steps rounds → SummedSolvable t (spec_demand s nodes c) steps more_rounds
   summed_carried (spec.Standard collective) solvable =
-      summed_fewer t (chunks_of collective.kind nodes c) (chunks_of collective.kind nodes d) nodes (stands (after collective.kind collective.root) nodes) steps rounds more_rounds (chunks_more (spec.Standard collective) nodes c d fewer) longer few solvable
+      summed_fewer t (chunks_of collective.kind nodes c) (chunks_of collective.kind nodes d) nodes (stands (layout_after collective.kind collective.root) nodes) steps rounds more_rounds (chunks_more (spec.Standard collective) nodes c d fewer) longer few solvable
   summed_carried (spec.Custom p) solvable =
       summed_fewer t (p.base * c) (p.base * d) nodes (in_copies p.base p.after) steps rounds more_rounds (chunks_more (spec.Custom p) nodes c d fewer) longer few solvable
 

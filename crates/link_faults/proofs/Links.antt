@@ -3,17 +3,17 @@ use Rattle.std.proofs.Common.{◌≡◌, ℕ, zero, suc, ◌+◌, ◌≤◌, ◌
 use Rattle.std.{specs.List.{list_any, AllByRecursion}, proofs.lemmas.Bool.{false≢true, and_parts, cases_Bool, or_cases, or_left, or_right, lt-ltb, not-true}}
 use Rattle.std.proofs.{lemmas.{List.Sums.sum_by-cons, Map.Views.any-filter_same}, Math.Bool.and-false}
 use Rattle.schedule.{specs.{declared.hop.Hop.Hop, Links.{GroupValue, has_link}, Placed.same_pair, Sends.link_of, Fitting.load}, proofs.Placing.pair_is}
-use Rattle.link_faults.specs.Narrowed.{without, has_links, left_of}
+use Rattle.link_faults.specs.Narrowed.{without_links, has_links, left_of}
 
 -- a link is left in a group exactly where it was there and is not gone
-pub left_link : (lost group : GroupValue) (link : ℕ × ℕ) → has_link (without lost group) link ≡ (not (has_link lost link) && has_link group link)
+pub left_link : (lost group : GroupValue) (link : ℕ × ℕ) → has_link (without_links lost group) link ≡ (not (has_link lost link) && has_link group link)
 left_link lost group link = any-filter_same (same_pair link) (λ l. not (has_link lost l)) (not (has_link lost link)) (λ l same. ap (λ x. not (has_link lost x)) (sym (pair_is link l same))) group.links
 
 -- a link that is left was there
-pub was_there : (lost group : GroupValue) (link : ℕ × ℕ) → has_link (without lost group) link ≡ true → has_link group link ≡ true
+pub was_there : (lost group : GroupValue) (link : ℕ × ℕ) → has_link (without_links lost group) link ≡ true → has_link group link ≡ true
 was_there lost group link h = (and_parts (not (has_link lost link)) (has_link group link) (sym (left_link lost group link) ∙ h)).1
 
-not_gone : (lost group : GroupValue) (link : ℕ × ℕ) → has_link (without lost group) link ≡ true → has_link lost link ≡ false
+not_gone : (lost group : GroupValue) (link : ℕ × ℕ) → has_link (without_links lost group) link ≡ true → has_link lost link ≡ false
 not_gone lost group link h = not-true (has_link lost link) (and_parts (not (has_link lost link)) (has_link group link) (sym (left_link lost group link) ∙ h)).0
 
 -- what is usable was usable, and is not gone
@@ -22,26 +22,26 @@ pub left_usable : (lost : GroupValue) (groups : List GroupValue) (link : ℕ × 
 left_usable lost [] link h = absurd (false≢true h)
 left_usable lost (group ∷ groups) link h =
     ⊎_elim
-    (λ (kept : has_links (without lost group) ≡ true).
-    let some : (has_link (without lost group) link || list_any (λ group. has_link group link) (left_of lost groups)) ≡ true = rw kept at h in
+    (λ (kept : has_links (without_links lost group) ≡ true).
+    let some : (has_link (without_links lost group) link || list_any (λ group. has_link group link) (left_of lost groups)) ≡ true = rw kept at h in
     ⊎_elim
-    (λ (here : has_link (without lost group) link ≡ true). (or_left _ _ (was_there lost group link here), not_gone lost group link here))
+    (λ (here : has_link (without_links lost group) link ≡ true). (or_left _ _ (was_there lost group link here), not_gone lost group link here))
     (λ (later : list_any (λ group. has_link group link) (left_of lost groups) ≡ true).
     let rest = left_usable lost groups link later in (or_right _ _ rest.0, rest.1))
     (or_cases _ _ some))
-    (λ (dropped : has_links (without lost group) ≡ false).
+    (λ (dropped : has_links (without_links lost group) ≡ false).
     let later : list_any (λ group. has_link group link) (left_of lost groups) ≡ true = rw dropped at h in
     let rest = left_usable lost groups link later in (or_right _ _ rest.0, rest.1))
-    (cases_Bool (has_links (without lost group)))
+    (cases_Bool (has_links (without_links lost group)))
 
 -- sends that use no link that is gone load a group as they load what is left of it
-pub same_load : (lost group : GroupValue) (step : ℕ) (sends : List Hop) → AllByRecursion (λ h. has_link lost (link_of h) ≡ false) sends → load (without lost group) step sends ≡ load group step sends
+pub same_load : (lost group : GroupValue) (step : ℕ) (sends : List Hop) → AllByRecursion (λ h. has_link lost (link_of h) ≡ false) sends → load (without_links lost group) step sends ≡ load group step sends
 same_load lost group step [] none = refl
 same_load lost group step (h ∷ sends) none =
-    let here : has_link (without lost group) (link_of h) ≡ has_link group (link_of h) = left_link lost group (link_of h) ∙ ap (λ b. not b && has_link group (link_of h)) none.0 in
-    let rest : load (without lost group) step sends ≡ load group step sends = same_load lost group step sends none.1 in
-    sum_by-cons (λ x. cond (eqb x.step step && has_link (without lost group) (link_of x)) 1 0) h sends
-    ∙ ap (λ b. cond (eqb h.step step && b) 1 0 + load (without lost group) step sends) here
+    let here : has_link (without_links lost group) (link_of h) ≡ has_link group (link_of h) = left_link lost group (link_of h) ∙ ap (λ b. not b && has_link group (link_of h)) none.0 in
+    let rest : load (without_links lost group) step sends ≡ load group step sends = same_load lost group step sends none.1 in
+    sum_by-cons (λ x. cond (eqb x.step step && has_link (without_links lost group) (link_of x)) 1 0) h sends
+    ∙ ap (λ b. cond (eqb h.step step && b) 1 0 + load (without_links lost group) step sends) here
     ∙ ap (λ n. cond (eqb h.step step && has_link group (link_of h)) 1 0 + n) rest
     ∙ sym (sum_by-cons (λ x. cond (eqb x.step step && has_link group (link_of x)) 1 0) h sends)
 
@@ -64,16 +64,16 @@ pub left_within : (lost : GroupValue) (step rounds : ℕ) (sends : List Hop) (gr
     → AllByRecursion (λ group. load group step sends ≤ group.width * rounds) (left_of lost groups) → AllByRecursion (λ group. load group step sends ≤ group.width * rounds) groups
 left_within lost step rounds sends [] none within = tt
 left_within lost step rounds sends (group ∷ groups) none within =
-    let same : load (without lost group) step sends ≡ load group step sends = same_load lost group step sends none in
+    let same : load (without_links lost group) step sends ≡ load group step sends = same_load lost group step sends none in
     ⊎_elim
-    (λ (kept : has_links (without lost group) ≡ true).
-    let both : AllByRecursion (λ group. load group step sends ≤ group.width * rounds) (without lost group ∷ left_of lost groups) = rw kept at within in
-    let here : load (without lost group) step sends ≤ group.width * rounds = both.0 in
+    (λ (kept : has_links (without_links lost group) ≡ true).
+    let both : AllByRecursion (λ group. load group step sends ≤ group.width * rounds) (without_links lost group ∷ left_of lost groups) = rw kept at within in
+    let here : load (without_links lost group) step sends ≤ group.width * rounds = both.0 in
     (omega (arith, here, same), left_within lost step rounds sends groups none both.1))
-    (λ (dropped : has_links (without lost group) ≡ false).
+    (λ (dropped : has_links (without_links lost group) ≡ false).
     let rest : AllByRecursion (λ group. load group step sends ≤ group.width * rounds) (left_of lost groups) = rw dropped at within in
-    (omega (arith, no_load (without lost group) step sends dropped, same), left_within lost step rounds sends groups none rest))
-    (cases_Bool (has_links (without lost group)))
+    (omega (arith, no_load (without_links lost group) step sends dropped, same), left_within lost step rounds sends groups none rest))
+    (cases_Bool (has_links (without_links lost group)))
 
 -- ---- a group with another width
 

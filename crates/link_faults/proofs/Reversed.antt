@@ -5,7 +5,7 @@ use Rattle.schedule.specs.{Links.{GroupValue, TopologyValue, has_link, turned, r
 use Rattle.collective_spec.specs.declared.kind.Kind.TheVariants as kind
 use Rattle.collective_spec.specs.Collectives.{IsSpec, adds_up, kind_in}
 use Rattle.candidate_order.specs.{declared.candidate.Candidate.Candidate, Frontiers.QuestionValue, Copied.{copied_question, copied_spec}}
-use Rattle.link_faults.specs.{Narrowed.{with_width, without, has_links, left_of, groups_after, narrowed}, Carrying.{IsOldRefuted, narrowed_question}}
+use Rattle.link_faults.specs.{Narrowed.{with_width, without_links, has_links, left_of, groups_after, narrowed}, Carrying.{IsOldRefuted, narrowed_question}}
 use Rattle.inversion.proofs.Copied.{solvable_exactly}
 
 any_turned : (link : ℕ × ℕ) (links : List (ℕ × ℕ)) → list_any (same_pair (turned link)) (map turned links) ≡ list_any (same_pair link) links
@@ -28,13 +28,13 @@ links_turned lost (l ∷ links) =
     kept true ls = refl
     kept false ls = refl
 
-without_turned : (lost group : GroupValue) → without (reversed_group lost) (reversed_group group) ≡ reversed_group (without lost group)
+without_turned : (lost group : GroupValue) → without_links (reversed_group lost) (reversed_group group) ≡ reversed_group (without_links lost group)
 without_turned lost group = ap (λ ls. record { links = ls; width = group.width }) (links_turned lost group.links)
 
 left_turned : (lost : GroupValue) (groups : List GroupValue) → left_of (reversed_group lost) (map reversed_group groups) ≡ map reversed_group (left_of lost groups)
 left_turned lost [] = refl
 left_turned lost (group ∷ groups) =
-    let left = without lost group in
+    let left = without_links lost group in
     let rest = left_of (reversed_group lost) (map reversed_group groups) in
     let same : has_links (reversed_group left) ≡ has_links left = ap (λ n. ltb 0 n) (length-map left.links turned) in
     ap (λ g. cond (has_links g) (g ∷ rest) rest) (without_turned lost group)
@@ -42,7 +42,7 @@ left_turned lost (group ∷ groups) =
     ∙ ap (λ gs. cond (has_links left) (reversed_group left ∷ gs) gs) (left_turned lost groups)
     ∙ kept (has_links left) (left_of lost groups)
   where
-    kept : (b : Bool) (gs : List GroupValue) → cond b (reversed_group (without lost group) ∷ map reversed_group gs) (map reversed_group gs) ≡ map reversed_group (cond b (without lost group ∷ gs) gs)
+    kept : (b : Bool) (gs : List GroupValue) → cond b (reversed_group (without_links lost group) ∷ map reversed_group gs) (map reversed_group gs) ≡ map reversed_group (cond b (without_links lost group ∷ gs) gs)
     kept true gs = refl
     kept false gs = refl
 

@@ -5,7 +5,7 @@ use Rattle.schedule.specs.{Links.{GroupValue, TopologyValue, has_link, is_usable
 use Rattle.candidate_order.specs.Frontiers.{QuestionValue}
 use Rattle.round_encoding.specs.Candidates.{group_size}
 use Rattle.candidate_formula.specs.{Questions.IsSmallQuestion, Sizes.{most_chunks, size_of}}
-use Rattle.link_faults.specs.{Narrowed.{with_width, without, has_links, left_of, narrowed}, Carrying.narrowed_question}
+use Rattle.link_faults.specs.{Narrowed.{with_width, without_links, has_links, left_of, narrowed}, Carrying.narrowed_question}
 use Rattle.link_faults.proofs.{Links.{left_usable, set_any}, Sound.narrowed_topology}
 
 -- ---- links
@@ -33,15 +33,15 @@ fewer_links t g w = fewer_pass (is_usable (narrowed t g w)) (is_usable t) (usabl
 
 -- ---- groups
 
-less_left : (size : GroupValue → ℕ) (lost : GroupValue) → ((group : GroupValue) → size (without lost group) ≤ size group) → (groups : List GroupValue) → sum_by size (left_of lost groups) ≤ sum_by size groups
+less_left : (size : GroupValue → ℕ) (lost : GroupValue) → ((group : GroupValue) → size (without_links lost group) ≤ size group) → (groups : List GroupValue) → sum_by size (left_of lost groups) ≤ sum_by size groups
 less_left size lost less [] = omega arith
 less_left size lost less (group ∷ groups) =
     let left : List GroupValue = left_of lost groups in
     let rest : sum_by size left ≤ sum_by size groups = less_left size lost less groups in
-    let here : size (without lost group) ≤ size group = less group in
+    let here : size (without_links lost group) ≤ size group = less group in
     let whole : sum_by size (group ∷ groups) ≡ size group + sum_by size groups = sum_by-cons size group groups in
-    let kept : sum_by size (without lost group ∷ left) ≡ size (without lost group) + sum_by size left = sum_by-cons size (without lost group) left in
-    elim (has_links (without lost group)) as (λ b. sum_by size (cond b (without lost group ∷ left) left) ≤ sum_by size (group ∷ groups))
+    let kept : sum_by size (without_links lost group ∷ left) ≡ size (without_links lost group) + sum_by size left = sum_by-cons size (without_links lost group) left in
+    elim (has_links (without_links lost group)) as (λ b. sum_by size (cond b (without_links lost group ∷ left) left) ≤ sum_by size (group ∷ groups))
     [ true ↦ omega (arith, rest, here, whole, kept) | false ↦ omega (arith, rest, whole) ]
 
 less_set : (size : GroupValue → ℕ) (groups : List GroupValue) (g : ℕ) (d y : GroupValue) → size y ≤ size (get_or groups g d) → sum_by size (slice_set groups g y) ≤ sum_by size groups
@@ -50,9 +50,9 @@ less_set size (group ∷ groups) zero d y less = omega (arith, less, sum_by-cons
 less_set size (group ∷ groups) (suc g) d y less = omega (arith, less_set size groups g d y less, sum_by-cons size group (slice_set groups g y), sum_by-cons size group groups)
 
 module _ (chunks steps extra : ℕ) where
-  less_links : (lost group : GroupValue) → group_size chunks steps extra (without lost group) ≤ group_size chunks steps extra group
+  less_links : (lost group : GroupValue) → group_size chunks steps extra (without_links lost group) ≤ group_size chunks steps extra group
   less_links lost group =
-      let links : ℕ = length (without lost group).links in
+      let links : ℕ = length (without_links lost group).links in
       let all : ℕ = length group.links in
       let rounds : ℕ = group.width * (1 + extra) + 1 in
       let few : links ≤ all = kept (λ link. not (has_link lost link)) group.links in

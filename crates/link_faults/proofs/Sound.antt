@@ -3,22 +3,22 @@ use Rattle.std.proofs.Common.{◌≡◌, ℕ, zero, suc, ◌<◌, ◌≤◌, Boo
 use Rattle.std.{specs.List.AllByRecursion, proofs.lemmas.{Bool.{cases_Bool, ltb-true, lt-ltb}, List.{length-set, Kept.AllPairs-filter}}}
 use Rattle.std.proofs.lemmas.List.Elements.{All-filter, All-from_recursion, recursion_from_All}
 use Rattle.schedule.specs.{Links.{GroupValue, TopologyValue, IsBelow, IsGroup, IsLink, IsTopology, has_link}, Judging.group_at}
-use Rattle.link_faults.specs.Narrowed.{with_width, without, has_links, left_of, groups_after, narrowed}
+use Rattle.link_faults.specs.Narrowed.{with_width, without_links, has_links, left_of, groups_after, narrowed}
 
-pub left_each : (P : GroupValue → Type 0) (lost : GroupValue) → ((group : GroupValue) → P group → has_links (without lost group) ≡ true → P (without lost group))
+pub left_each : (P : GroupValue → Type 0) (lost : GroupValue) → ((group : GroupValue) → P group → has_links (without_links lost group) ≡ true → P (without_links lost group))
     → (groups : List GroupValue) → AllByRecursion P groups → AllByRecursion P (left_of lost groups)
 left_each P lost kept [] each = tt
 left_each P lost kept (group ∷ groups) each =
     ⊎_elim
-    (λ (some : has_links (without lost group) ≡ true). rw some (kept group each.0 some, left_each P lost kept groups each.1))
-    (λ (none : has_links (without lost group) ≡ false). rw none (left_each P lost kept groups each.1))
-    (cases_Bool (has_links (without lost group)))
+    (λ (some : has_links (without_links lost group) ≡ true). rw some (kept group each.0 some, left_each P lost kept groups each.1))
+    (λ (none : has_links (without_links lost group) ≡ false). rw none (left_each P lost kept groups each.1))
+    (cases_Bool (has_links (without_links lost group)))
 
 pub left_few : (lost : GroupValue) (groups : List GroupValue) → length (left_of lost groups) ≤ length groups
 left_few lost [] = omega arith
 left_few lost (group ∷ groups) =
     let rest : length (left_of lost groups) ≤ length groups = left_few lost groups in
-    elim (has_links (without lost group)) as (λ b. length (cond b (without lost group ∷ left_of lost groups) (left_of lost groups)) ≤ length (group ∷ groups))
+    elim (has_links (without_links lost group)) as (λ b. length (cond b (without_links lost group ∷ left_of lost groups) (left_of lost groups)) ≤ length (group ∷ groups))
     [ true ↦ omega (arith, rest) | false ↦ omega (arith, rest) ]
 
 pub each_set : {X : Type 0} (P : X → Type 0) (xs : List X) (k : ℕ) (y : X) → P y → AllByRecursion P xs → AllByRecursion P (slice_set xs k y)
@@ -26,7 +26,7 @@ each_set P [] k y new each = tt
 each_set P (x ∷ xs) zero y new each = (new, each.1)
 each_set P (x ∷ xs) (suc k) y new each = (each.0, each_set P xs k y new each.1)
 
-pub left_group : (lost group : GroupValue) → IsGroup group → has_links (without lost group) ≡ true → IsGroup (without lost group)
+pub left_group : (lost group : GroupValue) → IsGroup group → has_links (without_links lost group) ≡ true → IsGroup (without_links lost group)
 left_group lost group ok some =
     let p : ℕ × ℕ → Bool = λ link. not (has_link lost link) in
     record {
@@ -67,10 +67,10 @@ narrowed_topology t g (suc w) ok low less =
 
 -- ---- in the words of the code
 
-pub left_with : (lost group : GroupValue) (links : List (ℕ × ℕ)) (width : ℕ) → IsGroup group → links ≡ (without lost group).links → width ≡ group.width → 0 < length links → IsGroup (record { links = links; width = width })
+pub left_with : (lost group : GroupValue) (links : List (ℕ × ℕ)) (width : ℕ) → IsGroup group → links ≡ (without_links lost group).links → width ≡ group.width → 0 < length links → IsGroup (record { links = links; width = width })
 left_with lost group links width ok are is some =
-    subst (λ ls. IsGroup (record { links = ls; width = width })) (sym are) (subst (λ w. IsGroup (record { links = (without lost group).links; width = w })) (sym is)
-    (left_group lost group ok (lt-ltb 0 (length (without lost group).links) (omega (arith, some, ap length are)))))
+    subst (λ ls. IsGroup (record { links = ls; width = width })) (sym are) (subst (λ w. IsGroup (record { links = (without_links lost group).links; width = w })) (sym is)
+    (left_group lost group ok (lt-ltb 0 (length (without_links lost group).links) (omega (arith, some, ap length are)))))
 
 pub groups_gone : (t : TopologyValue) (g w : ℕ) → w ≡ 0 → groups_after t g w ≡ left_of (group_at t g) t.groups
 groups_gone t g zero is = refl

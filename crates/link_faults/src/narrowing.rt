@@ -2,7 +2,7 @@
 
 ghost use Rattle.std.specs.Prelude.{◌≡◌, ◌<◌, length, slice_set, IfOk};
 ghost use Rattle.schedule.specs.Judging.{group_at};
-ghost use Rattle.link_faults.specs.Narrowed.{groups_after, left_of, narrowed, with_width, without};
+ghost use Rattle.link_faults.specs.Narrowed.{groups_after, left_of, narrowed, with_width, without_links};
 
 use crate::OutOfMemory;
 use schedule::{Group, Topology, has_link};
@@ -11,7 +11,7 @@ use topology_text::NamedTopology;
 
 /// The links of a group that do not stand in another.
 fn links_without(alloc: Global, group: &Group, lost: &Group) -> Result<Vec<(u8, u8)>, OutOfMemory>
-    ensures { IfOk result (λ links. links.items ≡ (without lost.now group.now).links) }
+    ensures { IfOk result (λ links. links.items ≡ (without_links lost.now group.now).links) }
 {
     let mut links = Vec::new(alloc);
     for link in group.links() {

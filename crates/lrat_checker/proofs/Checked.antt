@@ -2,7 +2,7 @@
 use Rattle.std.proofs.Common.{◌≡◌, ℕ, ◌<◌, ◌≤◌, max, Bool, true, false, List, [], ◌∷◌, ◌++◌, length, take, Result, Ok, Err, refl, sym, ap, ◌∙◌, subst, arith, ◌&&◌, ◌||◌, ◌==◌, not, filter, IfOk, if◌then◌else◌}
 use Rattle.std.{specs.List.list_any, proofs.lemmas.{Bool.{false≢true, lt-leb, ne_eqb}, List.{take-append-le, length-take-le, length_push}}}
 use Rattle.cnf_formula.specs.{Lines.{ProofLineValue, DeletionValue}, Literals.LitValue, declared.line.LratLine.TheVariants.{Addition, Deletion}}
-use Rattle.proof_rules.specs.{declared.verdict.LineVerdict.{LineVerdict, TheVariants.{Accepted, Refused}}, Held.{Entry, CheckerValue, is_empty}}
+use Rattle.proof_rules.specs.{declared.verdict.LineVerdict.{LineVerdict, TheVariants.{Accepted, Refused}}, Held.{Entry, CheckerValue, has_none}}
 use Rattle.proof_rules.specs.{declared.verdict.LineCode.TheVariants.{IdNotGreater, VariableRange, VariableTwice}, Testing.{are_held, has_number_twice}}
 use Rattle.proof_rules.specs.{Judging.{verdict_of, deletion_verdict, is_foreign, has_variable_twice, led_verdict, is_accepted}, Accepting.IsNew}
 use Rattle.proof_rules.specs.Refuting.{with_line, IsChecker}
@@ -22,11 +22,11 @@ accepted_new c line a = go (verdict_of c line) refl a
 abbrev pub table_with : TableValue → ProofLineValue → TableValue
 table_with table line = record { vars = table.vars; clauses = table.clauses ++ line.lits ∷ []; held = table.held ++ (line.id, line.lits) ∷ []; last = line.id }
 
-pub with_line_is : (table : TableValue) (o g : ℕ) (r : Bool) (line : ProofLineValue) → o ≤ length table.clauses → checker_of (table_with table line) o line.id (r || is_empty line.lits) ≡ with_line (checker_of table o g r) line
+pub with_line_is : (table : TableValue) (o g : ℕ) (r : Bool) (line : ProofLineValue) → o ≤ length table.clauses → checker_of (table_with table line) o line.id (r || has_none line.lits) ≡ with_line (checker_of table o g r) line
 with_line_is table o g r line w = cc (take-append-le o table.clauses (line.lits ∷ []) w)
 
 pub can_add : (table : TableValue) (marks : MarksValue) (o g : ℕ) (r : Bool) (line : ProofLineValue) → CanCheck table marks o g r → is_accepted (verdict_of (checker_of table o g r) line) ≡ true
-    → CanCheck (table_with table line) marks o line.id (r || is_empty line.lits)
+    → CanCheck (table_with table line) marks o line.id (r || has_none line.lits)
 can_add table marks o g r line c a =
     let n = accepted_new (checker_of table o g r) line a in
     let long : length (take o table.clauses) ≡ o = length-take-le o table.clauses c.many in
@@ -71,6 +71,6 @@ judged_ok table o g r line (Ok v) w high h =
     h ∙ sym (ap (λ b. if b then Refused IdNotGreater 0 else judged table.vars table.held line) (lt-leb line.id (max (length (take o table.clauses)) g) low))
 judged_ok table o g r line (Err e) w high h = tt
 
-pub empty_is : (xs : List LitValue) → (length xs == 0) ≡ is_empty xs
+pub empty_is : (xs : List LitValue) → (length xs == 0) ≡ has_none xs
 empty_is [] = refl
 empty_is (x ∷ xs) = ne_eqb (length (x ∷ xs)) 0 (λ e. omega (arith, e))

@@ -3,22 +3,22 @@ use Rattle.std.proofs.Common.{◌≡◌, ℕ, ◌+◌, ◌<◌, Bool, true, fals
 use Rattle.std.{specs.{List.list_any, BTreeSet.{BTreeSet, contains}, Ordering.nat_cmp}, proofs.lemmas.{Bool.false≢true, Int.to_z-of_z, List.drop_more}}
 use lib.IntN.{nat_abs}
 use Rattle.cnf_formula.specs.Literals.{LitValue}
-use Rattle.proof_rules.specs.{Held.{Entry, clause_at}, Judging.{Fault, group_fault, groups_fault}, Accepting.{Group, leading, groups_from, groups_of}}
+use Rattle.proof_rules.specs.{Held.{Entry, clause_at}, Judging.{Fault, group_fault, groups_fault}, Accepting.{Group, leading, hint_groups_from, groups_of}}
 use Rattle.lrat_checker.specs.inner.Steps.{Same}
 
 -- the groups before this place have no fault, and their clauses are in the set
 pub record Left (held : List Entry) (pivot : LitValue) (start : List LitValue) (hints : List ℤ) (named : BTreeSet ℕ) (at : ℕ) : Type 0 where
   pub earlier : List ℕ
   pub same : Same named earlier
-  pub fault : groups_fault held pivot start [] (groups_of hints) ≡ groups_fault held pivot start earlier (groups_from at (drop at hints))
-  pub names : (id : ℕ) → list_any (λ group. group.named == id) (groups_of hints) ≡ (list_any (λ other. other == id) earlier || list_any (λ group. group.named == id) (groups_from at (drop at hints)))
+  pub fault : groups_fault held pivot start [] (groups_of hints) ≡ groups_fault held pivot start earlier (hint_groups_from at (drop at hints))
+  pub names : (id : ℕ) → list_any (λ group. group.named == id) (groups_of hints) ≡ (list_any (λ other. other == id) earlier || list_any (λ group. group.named == id) (hint_groups_from at (drop at hints)))
 
 module _ (held : List Entry) (pivot : LitValue) (start : List LitValue) (hints : List ℤ) where
   abbrev pub group_at : ℕ → ℕ → Group
   group_at at id = record { place = at; named = id; hints = leading (drop (at + 1) hints) }
 
-  pub group_here : (at n : ℕ) → drop at hints ≡ negsuc n ∷ drop (at + 1) hints → groups_from at (drop at hints) ≡ group_at at (n + 1) ∷ groups_from (at + 1) (drop (at + 1) hints)
-  group_here at n e = ap (groups_from at) e
+  pub group_here : (at n : ℕ) → drop at hints ≡ negsuc n ∷ drop (at + 1) hints → hint_groups_from at (drop at hints) ≡ group_at at (n + 1) ∷ hint_groups_from (at + 1) (drop (at + 1) hints)
+  group_here at n e = ap (hint_groups_from at) e
 
   pub faulty : (named : BTreeSet ℕ) (at n : ℕ) (fault : Fault) (l : Left held pivot start hints named at) → drop at hints ≡ negsuc n ∷ drop (at + 1) hints
       → group_fault held pivot start l.earlier (group_at at (n + 1)) (clause_at held (n + 1)) ≡ Some fault → groups_fault held pivot start [] (groups_of hints) ≡ Some fault
@@ -29,7 +29,7 @@ module _ (held : List Entry) (pivot : LitValue) (start : List LitValue) (hints :
 
   pub passes : (named named' : BTreeSet ℕ) (at n next : ℕ) (l : Left held pivot start hints named at) → drop at hints ≡ negsuc n ∷ drop (at + 1) hints
       → group_fault held pivot start l.earlier (group_at at (n + 1)) (clause_at held (n + 1)) ≡ None → ((k : ℕ) → contains nat_cmp named' k ≡ (n + 1 == k || contains nat_cmp named k))
-      → groups_from (at + 1) (drop (at + 1) hints) ≡ groups_from next (drop next hints) → Left held pivot start hints named' next
+      → hint_groups_from (at + 1) (drop (at + 1) hints) ≡ hint_groups_from next (drop next hints) → Left held pivot start hints named' next
   passes named named' at n next l e f s g = record {
     earlier = (n + 1) ∷ l.earlier;
     same = λ k. s k ∙ ap (λ b. n + 1 == k || b) (l.same k);
@@ -37,7 +37,7 @@ module _ (held : List Entry) (pivot : LitValue) (start : List LitValue) (hints :
     names = λ id.
         l.names id ∙ ap (λ gs. list_any (λ other. other == id) l.earlier || list_any (λ group. group.named == id) gs) (group_here at n e)
         ∙ ap (λ gs. list_any (λ other. other == id) l.earlier || (n + 1 == id || list_any (λ group. group.named == id) gs)) g
-        ∙ swap (list_any (λ other. other == id) l.earlier) (n + 1 == id) (list_any (λ group. group.named == id) (groups_from next (drop next hints)));
+        ∙ swap (list_any (λ other. other == id) l.earlier) (n + 1 == id) (list_any (λ group. group.named == id) (hint_groups_from next (drop next hints)));
   }
 
   pub faulty_any : (named : BTreeSet ℕ) (at n : ℕ) (o : Option Fault) (l : Left held pivot start hints named at) → is_some o ≡ true → drop at hints ≡ negsuc n ∷ drop (at + 1) hints

@@ -3,7 +3,7 @@
 ghost use Rattle.std.specs.Prelude.{◌≡◌, ◌≢◌, ◌&&◌, Ok, IfOk, OnOk, OnErr, true, false};
 ghost use Rattle.cnf_formula.specs.Formulas.{IsClause, Satisfiable};
 ghost use Rattle.proof_rules.specs.{Held.start_of, Judging.{verdict_of, deletion_verdict, is_accepted, is_implied}, Accepting.{Implied, Redundant}};
-ghost use Rattle.proof_rules.specs.Refuting.{is_fresh as is_fresh_for, with_line, without};
+ghost use Rattle.proof_rules.specs.Refuting.{is_fresh as is_fresh_for, with_line, without_clauses};
 
 use crate::freshness::is_fresh;
 use crate::judging::judge;
@@ -186,7 +186,7 @@ impl Checker {
     /// deletion is refused and nothing changes.
     pub fn delete(&mut self, deletion: &Deletion) -> LineVerdict
         ensures verdict { result ≡ deletion_verdict self.old deletion.now }
-        ensures accepted { is_accepted result ≡ true → self.new ≡ without self.old deletion.now }
+        ensures accepted { is_accepted result ≡ true → self.new ≡ without_clauses self.old deletion.now }
         ensures refused { is_accepted result ≡ false → self.new ≡ self.old }
     {
         let room = self.room_at(&deletion.ids);

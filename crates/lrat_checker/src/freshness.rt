@@ -2,7 +2,7 @@
 
 ghost use Rattle.std.specs.{Prelude.{◌≡◌, ◌||◌, not, [], IfOk, OnOk}, List.list_any};
 ghost use Rattle.cnf_formula.specs.{Literals.is_superset, Formulas.IsClause};
-ghost use Rattle.proof_rules.specs.Held.{is_empty};
+ghost use Rattle.proof_rules.specs.Held.{has_none};
 
 use crate::marks::Marks;
 use crate::table::ClauseTable;
@@ -32,7 +32,7 @@ pub(crate) fn is_fresh(
     requires same { marks.old.vars ≡ table.now.vars }
     requires about { IsClause table.now.vars lits.now }
     requires empty { marks.old.falses ≡ [] }
-    ensures fresh { IfOk result (λ fresh. fresh ≡ not (is_empty lits.now || list_any (λ entry. is_superset lits.now entry.1) table.now.held)) }
+    ensures fresh { IfOk result (λ fresh. fresh ≡ not (has_none lits.now || list_any (λ entry. is_superset lits.now entry.1) table.now.held)) }
     ensures vars { marks.new.vars ≡ marks.old.vars }
 {
     if lits.is_empty() {

@@ -3,7 +3,7 @@
 
 ghost use Rattle.std.specs.Prelude.{◌≡◌, ℕ, ◌+◌, ◌<◌, ◌≤◌, ◌∷◌, List, length, drop, IfOk, negsuc};
 ghost use Rattle.cnf_formula.specs.{Literals.LitValue, Formulas.IsClause};
-ghost use Rattle.proof_rules.specs.{Held.open_literals, Judging.{given_by, after_conflict, led_to}, Accepting.{leading, groups_from}};
+ghost use Rattle.proof_rules.specs.{Held.open_literals, Judging.{given_by, after_conflict, led_to}, Accepting.{leading, hint_groups_from}};
 ghost use Rattle.lrat_checker.specs.inner.{Marking.Extends, Steps.led_as};
 
 use crate::marks::Marks;
@@ -102,7 +102,7 @@ pub(crate) fn next_group(hints: &[i64], from: usize) -> usize
     requires { from ≤ length hints.now }
     ensures low { from ≤ result }
     ensures within { result ≤ length hints.now }
-    ensures groups { groups_from from (drop from hints.now) ≡ groups_from result (drop result hints.now) }
+    ensures groups { hint_groups_from from (drop from hints.now) ≡ hint_groups_from result (drop result hints.now) }
     ensures negative { result < length hints.now → (n : ℕ) × (drop result hints.now ≡ negsuc n ∷ drop (result + 1) hints.now) }
 {
     for place in from..hints.len() {

@@ -2,7 +2,7 @@
 use Rattle.std.proofs.Common.{◌≡◌, ℕ, zero, suc, ◌+◌, ◌*◌, ◌<◌, List, [], ◌∷◌, ◌++◌, length, map, get_or, replicate, zero-mul, refl, sym, ap, ◌∙◌, arith}
 use Rattle.std.{specs.List.range_with_len, proofs.lemmas.List.{get_or_append_left, get_or-append-add, length-append, map-append, replicate-append-replicate}}
 use Rattle.std.proofs.lemmas.List.FromFn.{get_or-map-range_with_len, length-map-range_with_len, length-range_with_len}
-use Rattle.node_programs.specs.{declared.op.Op.Op, Machines.{Message, State, start_of}, Below.AreBelow}
+use Rattle.node_programs.specs.{declared.op.Op.Op, Machines.{Message, State, started}, Below.AreBelow}
 use Rattle.node_programs.specs.Queues.{IsMachine, empty_queue, messages_in, new_queues, no_queue, queue_of, queues_from, sends_to}
 use Rattle.node_programs.proofs.Firing.{state_of}
 use Rattle.bag_runs.specs.Stores.{StoreValue}
@@ -54,7 +54,7 @@ queues_none nodes (ops ∷ programs) =
     ∙ replicate-append-replicate nodes (length programs * nodes) []
     ∙ ap (λ k. replicate k []) more
 
-pub state_new : (programs : List (List Op)) (start : StoreValue) → length programs ≡ start.nodes → state_of programs start (new_queues start.nodes programs) ≡ start_of programs start
+pub state_new : (programs : List (List Op)) (start : StoreValue) → length programs ≡ start.nodes → state_of programs start (new_queues start.nodes programs) ≡ started programs start
 state_new programs start same =
     ap (λ (qs : List (List Message)). make qs) (queues_none start.nodes programs ∙ ap (λ n. replicate (n * start.nodes) []) same)
   where

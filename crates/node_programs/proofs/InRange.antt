@@ -4,7 +4,7 @@ use Rattle.std.proofs.lemmas.List.Elements.{recursion_from_All}
 use Rattle.list_laws.proofs.Each.{each_map, every_map}
 use Rattle.schedule.specs.Sends.{IsInRange, ScheduleValue, is_hop_below}
 use Rattle.schedule.proofs.{First.{each_filter, each_weaker, each_append}, Joining.{IsHopBelow, hop_below}}
-use Rattle.node_programs.specs.{Programs.{program_of, programs_of, step_of}, Below.{AreBelow, IsOpBelow}}
+use Rattle.node_programs.specs.{Programs.{program_of, programs_of, ops_at}, Below.{AreBelow, IsOpBelow}}
 use Rattle.node_programs.specs.inner.Pushed.{send_of, take_of}
 
 pub each_flat : {X Y : Type 0} (P : X → Type 0) (f : Y → List X) → ((y : Y) → AllByRecursion P (f y)) → (ys : List Y) → AllByRecursion P (flat_map f ys)
@@ -29,6 +29,6 @@ programs_below nodes s adding chunks range = every_map (AllByRecursion (IsOpBelo
 
     program : (node : ℕ) → AllByRecursion (IsOpBelow chunks nodes) (program_of s adding node)
     program node =
-        each_flat (IsOpBelow chunks nodes) (step_of s.sends adding node)
+        each_flat (IsOpBelow chunks nodes) (ops_at s.sends adding node)
         (λ step. each_append (IsOpBelow chunks nodes) (map send_of (filter (λ h. eqb h.step step && eqb h.from node) s.sends)) (map (take_of adding) (filter (λ h. eqb h.step step && eqb h.to node) s.sends)) (sends node step) (takes node step))
         (range_with_len 1 (length s.rounds))

@@ -3,7 +3,7 @@ use Rattle.std.proofs.Common.{◌≡◌, ℕ, ◌+◌, ◌<◌, ◌≤◌, Bool,
 use Rattle.std.{specs.List.{flat_map, range_with_len}, proofs.lemmas.{Bool.eq-eqb, Grind.flat_map-append, List.{append-nil, map-append, take_all, map-id}}}
 use Rattle.std.proofs.lemmas.List.{Elements.filter_more, FromFn.{get_or-map-range_with_len, map-range_with_len_more}}
 use Rattle.schedule.specs.{declared.hop.Hop.Hop, Sends.ScheduleValue}
-use Rattle.node_programs.{specs.{declared.op.Op.Op, Programs.step_of}, proofs.Each.{flipped, set_each}}
+use Rattle.node_programs.{specs.{declared.op.Op.Op, Programs.ops_at}, proofs.Each.{flipped, set_each}}
 use Rattle.bag_runs.proofs.{Arrivals.filter_both, Counting.map_alike}
 use Rattle.node_programs.specs.inner.Pushed.{send_of, take_of}
 
@@ -68,15 +68,15 @@ module _ (op_of : Hop → Op) (node_of : Hop → ℕ) where
 
 -- the operations of the first so many steps
 abbrev pub first_steps : ScheduleValue → ℕ → ℕ → ℕ → List Op
-first_steps s adding n node = flat_map (step_of s.sends adding node) (range_with_len 1 n)
+first_steps s adding n node = flat_map (ops_at s.sends adding node) (range_with_len 1 n)
 
-steps_more : (s : ScheduleValue) (adding n node : ℕ) → first_steps s adding (n + 1) node ≡ first_steps s adding n node ++ step_of s.sends adding node (n + 1)
+steps_more : (s : ScheduleValue) (adding n node : ℕ) → first_steps s adding (n + 1) node ≡ first_steps s adding n node ++ ops_at s.sends adding node (n + 1)
 steps_more s adding n node =
     let range : range_with_len 1 (n + 1) ≡ range_with_len 1 n ++ (n + 1) ∷ [] =
     sym (map-id (range_with_len 1 (n + 1))) ∙ map-range_with_len_more (λ k. k) 1 n (n + 1) (omega arith) ∙ ap (λ r. r ++ (n + 1) ∷ []) (map-id (range_with_len 1 n)) in
-    ap (flat_map (step_of s.sends adding node)) range
-    ∙ flat_map-append (step_of s.sends adding node) (range_with_len 1 n) ((n + 1) ∷ [])
-    ∙ ap (λ ops. first_steps s adding n node ++ ops) (append-nil (step_of s.sends adding node (n + 1)))
+    ap (flat_map (ops_at s.sends adding node)) range
+    ∙ flat_map-append (ops_at s.sends adding node) (range_with_len 1 n) ((n + 1) ∷ [])
+    ∙ ap (λ ops. first_steps s adding n node ++ ops) (append-nil (ops_at s.sends adding node (n + 1)))
 
 -- the sends of a step pushed, and then its takes
 abbrev pub StepPushed : ℕ → List (List Op) → List (List Op) → List Hop → Type 0

@@ -5,14 +5,14 @@ use Rattle.bag_runs.specs.Stores.{mode_at}
 use Rattle.node_programs.specs.declared.op.Op.{Op, TheVariants.{Send, Take}}
 
 -- in a step a node first sends, by chunk and receiver, and then takes, by chunk and sender: the order of the schedule's sends
-abbrev pub step_of : List Hop → ℕ → ℕ → ℕ → List Op
-step_of sends adding node step =
+abbrev pub ops_at : List Hop → ℕ → ℕ → ℕ → List Op
+ops_at sends adding node step =
     map (λ h. Send h.chunk h.to h.step) (filter (λ h. h.step == step && h.from == node) sends)
     ++ map (λ h. Take h.chunk h.from h.step (mode_at adding h.step)) (filter (λ h. h.step == step && h.to == node) sends)
 
 -- a node's operations, step by step
 abbrev pub program_of : ScheduleValue → ℕ → ℕ → List Op
-program_of s adding node = flat_map (step_of s.sends adding node) (range_with_len 1 (length s.rounds))
+program_of s adding node = flat_map (ops_at s.sends adding node) (range_with_len 1 (length s.rounds))
 
 -- the program of each node
 abbrev pub programs_of : ℕ → ScheduleValue → ℕ → List (List Op)

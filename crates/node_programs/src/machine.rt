@@ -1,7 +1,7 @@
 ghost use Rattle.std.specs.Prelude.{◌≡◌, ◌*◌, ◌+◌, ◌^◌, ◌<◌, ◌≤◌, Some, length, slice_get, if◌then◌else◌, unwrap_or, IfOk, MatchOption};
 ghost use Rattle.node_programs.specs.declared.op.Op.TheVariants as op;
 ghost use Rattle.node_programs.specs.declared.machine.Fired.TheVariants as fired;
-ghost use Rattle.node_programs.specs.{Machines.{State, event, is_enabled, is_finished, ops_left, start_of}, Runs.operations, Below.AreBelow};
+ghost use Rattle.node_programs.specs.{Machines.{State, event, is_enabled, is_finished, ops_left, started}, Runs.operations, Below.AreBelow};
 
 use crate::OutOfMemory;
 use crate::message::Message;
@@ -47,7 +47,7 @@ impl Machine {
     pub fn new(alloc: Global, programs: Programs, start: Store) -> Result<Machine, OutOfMemory>
         requires nodes { length programs ≡ start.nodes }
         requires in_range { AreBelow start.chunks start.nodes programs }
-        ensures { IfOk result (λ m. m ≡ start_of programs start) }
+        ensures { IfOk result (λ m. m ≡ started programs start) }
     {
         let queues = new_queues(alloc, &programs, start.nodes())?;
         Ok(Machine {

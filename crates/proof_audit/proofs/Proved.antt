@@ -3,7 +3,7 @@ use Rattle.std.proofs.Common.{◌≡◌, ℕ, suc, true, List, [], ◌∷◌, le
 use Rattle.std.proofs.lemmas.Bool.{and_parts, eqb-true, eq-eqb, and_from}
 use Rattle.cnf_formula.specs.{Formulas.FormulaValue, Lines.ProofLineValue, declared.line.LratLine.{LratLine, TheVariants.{Addition, Deletion}}}
 use Rattle.proof_rules.specs.{Held.{CheckerValue, start_of}, Testing.is_rup}
-use Rattle.proof_rules.specs.Refuting.{all_accepted, with_line, is_fresh, after, are_learned, Refutes, SpentLog}
+use Rattle.proof_rules.specs.Refuting.{all_accepted, with_line, is_fresh, after_lines, are_learned, Refutes, SpentLog}
 use Rattle.proof_audit.specs.Tested.{do_refute, do_spend}
 
 -- ---- refutations
@@ -11,11 +11,11 @@ use Rattle.proof_audit.specs.Tested.{do_refute, do_spend}
 pub refutes_by : (f : FormulaValue) (said : Option (List LratLine)) → do_refute f said ≡ true → (lines : List LratLine) × (said ≡ Some lines) × Refutes lines f
 refutes_by f None e = absurd (cc)
 refutes_by f (Some lines) e =
-    let parts = and_parts (all_accepted (start_of f) lines) (after (start_of f) lines).refuted e in
+    let parts = and_parts (all_accepted (start_of f) lines) (after_lines (start_of f) lines).refuted e in
     (lines, refl, record { accepted = parts.0; refuted = parts.1 })
 
 pub by_refuting : (f : FormulaValue) (said : Option (List LratLine)) (lines : List LratLine) → said ≡ Some lines → Refutes lines f → do_refute f said ≡ true
-by_refuting f said lines e h = ap (do_refute f) e ∙ and_from (all_accepted (start_of f) lines) (after (start_of f) lines).refuted h.accepted h.refuted
+by_refuting f said lines e h = ap (do_refute f) e ∙ and_from (all_accepted (start_of f) lines) (after_lines (start_of f) lines).refuted h.accepted h.refuted
 
 -- ---- logs
 

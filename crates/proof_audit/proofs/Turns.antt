@@ -2,7 +2,7 @@
 use Rattle.std.proofs.Common.{◌≡◌, ◌∙◌, refl, sym, ap, Bool, true, false, List, [], ◌∷◌, Option, None, ◌&&◌, if◌then◌else◌}
 use Rattle.cnf_formula.specs.declared.line.LratLine.{LratLine, TheVariants.{Addition, Deletion}}
 use Rattle.proof_rules.specs.{Held.CheckerValue, Testing.is_rup, Judging.{verdict_on, is_accepted}}
-use Rattle.proof_rules.specs.Refuting.{all_accepted, with_accepted, with_line, after, is_fresh, are_learned}
+use Rattle.proof_rules.specs.Refuting.{all_accepted, with_accepted, with_line, after_lines, is_fresh, are_learned}
 use Rattle.proof_rules.proofs.Tested.{acceptance_said, rup_said}
 use Rattle.proof_audit.specs.inner.Turns.{checker_after, is_refuted, are_taken}
 
@@ -10,11 +10,11 @@ one_more : (now later refuted : Bool) (o : Option CheckerValue) → is_refuted o
 one_more true later refuted o e = e
 one_more false later refuted o e = refl
 
-pub same_refuting : (c : CheckerValue) (lines : List LratLine) → is_refuted (checker_after c lines) ≡ (all_accepted c lines && (after c lines).refuted)
+pub same_refuting : (c : CheckerValue) (lines : List LratLine) → is_refuted (checker_after c lines) ≡ (all_accepted c lines && (after_lines c lines).refuted)
 same_refuting c [] = refl
 same_refuting c (line ∷ lines) =
     let later : Bool = all_accepted (with_accepted c line) lines in
-    let refuted : Bool = (after (with_accepted c line) lines).refuted in
+    let refuted : Bool = (after_lines (with_accepted c line) lines).refuted in
     one_more (is_accepted (verdict_on c line)) later refuted (checker_after (with_accepted c line) lines) (same_refuting (with_accepted c line) lines)
     ∙ ap (λ now. now && later && refuted) (sym (acceptance_said c line))
 

@@ -1,7 +1,7 @@
 -- The tests of files of proof lines (LRAT: Cruz-Filipe et al. 2017; logs are this project's own).
 use Rattle.std.specs.Prelude.{◌==◌, ◌&&◌, ℕ, Bool, false, List, length, None, Some, nat_le}
 use Rattle.cnf_formula.specs.{Formulas.FormulaValue, declared.line.LratLine.LratLine}
-use Rattle.proof_rules.specs.{Held.start_of, Refuting.{all_accepted, after, are_learned}}
+use Rattle.proof_rules.specs.{Held.start_of, Refuting.{all_accepted, after_lines, are_learned}}
 use Rattle.candidate_formula.specs.{ReadLines.lines_said, Files.longest_proof}
 
 -- the bytes are not too many, and say lines that pass this test
@@ -10,7 +10,7 @@ say_lines test bytes = nat_le (length bytes) longest_proof && elim (lines_said b
 
 -- they say lines that refute the formula
 abbrev pub is_refutation : FormulaValue → List ℕ → Bool
-is_refutation f = say_lines (λ lines. all_accepted (start_of f) lines && (after (start_of f) lines).refuted)
+is_refutation f = say_lines (λ lines. all_accepted (start_of f) lines && (after_lines (start_of f) lines).refuted)
 
 -- they say a spent log of so many lines
 abbrev pub is_spent_log : FormulaValue → ℕ → List ℕ → Bool

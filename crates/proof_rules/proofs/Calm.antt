@@ -4,9 +4,9 @@ use Rattle.std.{specs.List.{list_any, enumerate_from}, proofs.lemmas.Bool.{false
 use Rattle.std.proofs.lemmas.List.Elements.{All-nil, All-cons, All-push, All-filter}
 use Rattle.cnf_formula.specs.{Literals.{LitValue, same_literal, has_literal, value_of, all_hold, clause_holds}, Formulas.{FormulaValue, Satisfiable}}
 use Rattle.cnf_formula.specs.{Lines.ProofLineValue, declared.line.LratLine.{LratLine, TheVariants.{Addition, Deletion}}}
-use Rattle.proof_rules.specs.{Held.{CheckerValue, start_of, is_empty}, Testing.{is_rup, is_rat, accepts}}
+use Rattle.proof_rules.specs.{Held.{CheckerValue, start_of, has_none}, Testing.{is_rup, is_rat, accepts}}
 use Rattle.proof_rules.specs.Accepting.{Implied, Redundant, groups_of, leading, IsNew}
-use Rattle.proof_rules.specs.Refuting.{with_line, with_accepted, all_accepted, after, IsChecker, Refutes}
+use Rattle.proof_rules.specs.Refuting.{with_line, with_accepted, all_accepted, after_lines, IsChecker, Refutes}
 use Rattle.proof_rules.proofs.{Tested.{rup_by, rat_by}, Sound.{none_any, is_so, holds, Holds, no_conflict, still_untrue, turned, own_holds, entry_holds}}
 use Rattle.proof_rules.proofs.{Taking.same_itself, Numbered.{Numbered, start_numbered, more_numbered, fewer_numbered}}
 
@@ -17,7 +17,7 @@ pub record Calm (c : CheckerValue) : Type 0 where
   pub calm : c.refuted ≡ false
   pub numbered : Numbered c.held (max (length c.formula.clauses) c.greatest + 1)
 
-some_literal : (v : ℕ → Bool) (clause : List LitValue) → holds v clause ≡ true → is_empty clause ≡ false
+some_literal : (v : ℕ → Bool) (clause : List LitValue) → holds v clause ≡ true → has_none clause ≡ false
 some_literal v [] h = absurd (false≢true h)
 some_literal v (l ∷ clause) h = refl
 
@@ -30,7 +30,7 @@ with_clause c line v n q all h =
     record {
       values = v;
       all = All-push (Holds v) c.held (line.id, line.lits) all h;
-      calm = or_from c.refuted (is_empty line.lits) q.calm (some_literal v line.lits h);
+      calm = or_from c.refuted (has_none line.lits) q.calm (some_literal v line.lits h);
       numbered = subst (λ k. Numbered (c.held ++ (line.id, line.lits) ∷ []) (k + 1)) (sym is) more;
     }
 
@@ -64,7 +64,7 @@ stays_calm c (Deletion deletion) h q =
       numbered = fewer_numbered stays c.held (max (length c.formula.clauses) c.greatest + 1) q.numbered;
     }
 
-pub all_calm : (lines : List LratLine) (c : CheckerValue) → all_accepted c lines ≡ true → Calm c → Calm (after c lines)
+pub all_calm : (lines : List LratLine) (c : CheckerValue) → all_accepted c lines ≡ true → Calm c → Calm (after_lines c lines)
 all_calm [] c a q = q
 all_calm (line ∷ lines) c a q =
     let parts = and_parts (accepts c line) (all_accepted (with_accepted c line) lines) a in

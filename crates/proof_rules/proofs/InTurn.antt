@@ -2,15 +2,15 @@
 use Rattle.std.proofs.{Common.{◌≡◌, true, List, [], ◌∷◌, ◌++◌, map, refl, ap, ◌∙◌, ◌↔◌, ◌&&◌}, lemmas.Bool.{and_parts, and_from}}
 use Rattle.cnf_formula.specs.{Lines.ProofLineValue, declared.line.LratLine.TheVariants.Addition}
 use Rattle.proof_rules.specs.{declared.verdict.LineVerdict.TheVariants.Accepted, Held.CheckerValue, Testing.{is_rup, accepts}, Learning.{AllImplied, AllFresh}}
-use Rattle.proof_rules.specs.{Judging.{verdict_of, is_accepted}, Refuting.{all_accepted, after, with_line, is_fresh, are_learned}}
+use Rattle.proof_rules.specs.{Judging.{verdict_of, is_accepted}, Refuting.{all_accepted, after_lines, with_line, is_fresh, are_learned}}
 use Rattle.proof_rules.proofs.{Verdicts.{implied_by, by_implied}, Tested.{rup_by, by_rup, acceptance_said}}
 
 -- the checker after one line more
-pub after_more : (lines : List ProofLineValue) (c : CheckerValue) (line : ProofLineValue) → after c (map Addition (lines ++ line ∷ [])) ≡ with_line (after c (map Addition lines)) line
+pub after_more : (lines : List ProofLineValue) (c : CheckerValue) (line : ProofLineValue) → after_lines c (map Addition (lines ++ line ∷ [])) ≡ with_line (after_lines c (map Addition lines)) line
 after_more [] c line = refl
 after_more (l ∷ lines) c line = after_more lines (with_line c l) line
 
-pub implied_more : (lines : List ProofLineValue) (c : CheckerValue) (line : ProofLineValue) → AllImplied c lines → verdict_of (after c (map Addition lines)) line ≡ Accepted true → AllImplied c (lines ++ line ∷ [])
+pub implied_more : (lines : List ProofLineValue) (c : CheckerValue) (line : ProofLineValue) → AllImplied c lines → verdict_of (after_lines c (map Addition lines)) line ≡ Accepted true → AllImplied c (lines ++ line ∷ [])
 implied_more [] c line all last = (last, tt)
 implied_more (l ∷ lines) c line all last = (all.0, implied_more lines (with_line c l) line all.1 last)
 

@@ -5,7 +5,7 @@ use Rattle.cnf_formula.specs.{Literals.{LitValue, negation}, Formulas.{FormulaVa
 use Rattle.cnf_formula.specs.declared.line.LratLine.TheVariants.{Addition, Deletion}
 use Rattle.proof_rules.specs.{declared.verdict.LineVerdict.TheVariants.Accepted as AcceptedVerdict, Held.{Entry, CheckerValue, start_of, clause_at}}
 use Rattle.proof_rules.specs.{Testing.accepts, Judging.{verdict_of, is_accepted, verdict_on}, Accepting.{Conflicts, Implied, leading}}
-use Rattle.proof_rules.specs.Refuting.{with_line, with_accepted, all_accepted, after, IsChecker, Exhaustion, Exhausted}
+use Rattle.proof_rules.specs.Refuting.{with_line, with_accepted, all_accepted, after_lines, IsChecker, Exhaustion, Exhausted}
 use Rattle.proof_rules.proofs.{Verdicts.implied_by, Tested.{by_rup, acceptance_said}}
 
 abbrev pub Keeps : List Entry → List Entry → Type 0
@@ -28,13 +28,13 @@ conflict_kept held more k falses (id ∷ next ∷ ids) c =
       conflict_kept held more k (negation c.0 ∷ falses) (next ∷ ids) c.2,
     )
 
-pub additions_keep : (lines : List ProofLineValue) (c : CheckerValue) → Keeps c.held (after c (map Addition lines)).held
+pub additions_keep : (lines : List ProofLineValue) (c : CheckerValue) → Keeps c.held (after_lines c (map Addition lines)).held
 additions_keep [] c id clause h = h
 additions_keep (line ∷ lines) c id clause h = additions_keep lines (with_line c line) id clause (keeps_append c.held ((line.id, line.lits) ∷ []) id clause h)
 
 no_exhaustion : (f : FormulaValue) (line : ProofLineValue) (n : ℕ) → line.lits ≡ [] → verdict_of (start_of f) line ≡ AcceptedVerdict true → Exhaustion f n → ⊥
 no_exhaustion f line n e v x =
-    let end = after (start_of f) (map Addition x.lines) in
+    let end = after_lines (start_of f) (map Addition x.lines) in
     let i = implied_by (start_of f) line v in
     let conflict = subst (λ lits. Conflicts (start_of f).held lits (leading line.hints)) e i.conflict in
     let again : ProofLineValue = record { id = suc (max (length end.formula.clauses) end.greatest); lits = []; hints = line.hints } in
@@ -55,13 +55,13 @@ never_exhausted f line n e v x = ∥∥₁_elim x (λ a b. absurd a) (no_exhaust
 
 -- ---- checkers
 
-more_accepted : (lines : List LratLine) (c : CheckerValue) (line : LratLine) → all_accepted c lines ≡ true → accepts (after c lines) line ≡ true → all_accepted c (lines ++ line ∷ []) ≡ true
+more_accepted : (lines : List LratLine) (c : CheckerValue) (line : LratLine) → all_accepted c lines ≡ true → accepts (after_lines c lines) line ≡ true → all_accepted c (lines ++ line ∷ []) ≡ true
 more_accepted [] c line a v = and_from (accepts c line) true v refl
 more_accepted (l ∷ lines) c line a v =
     let parts = and_parts (accepts c l) (all_accepted (with_accepted c l) lines) a in
     and_from (accepts c l) (all_accepted (with_accepted c l) (lines ++ line ∷ [])) parts.0 (more_accepted lines (with_accepted c l) line parts.1 v)
 
-after_more : (lines : List LratLine) (c : CheckerValue) (line : LratLine) → after c (lines ++ line ∷ []) ≡ with_accepted (after c lines) line
+after_more : (lines : List LratLine) (c : CheckerValue) (line : LratLine) → after_lines c (lines ++ line ∷ []) ≡ with_accepted (after_lines c lines) line
 after_more [] c line = refl
 after_more (l ∷ lines) c line = after_more lines (with_accepted c l) line
 
@@ -75,10 +75,10 @@ same_formula c (Deletion deletion) = refl
 pub stays_checker : (c : CheckerValue) (line : LratLine) → IsChecker c → is_accepted (verdict_on c line) ≡ true → IsChecker (with_accepted c line)
 stays_checker c line i v =
     let accepted : all_accepted (start_of c.formula) (i.lines ++ line ∷ []) ≡ true = more_accepted i.lines (start_of c.formula) line i.accepted (ap (λ d. accepts d line) i.is ∙ (acceptance_said c line ∙ v)) in
-    let is : after (start_of c.formula) (i.lines ++ line ∷ []) ≡ with_accepted c line = after_more i.lines (start_of c.formula) line ∙ ap (λ d. with_accepted d line) i.is in
+    let is : after_lines (start_of c.formula) (i.lines ++ line ∷ []) ≡ with_accepted c line = after_more i.lines (start_of c.formula) line ∙ ap (λ d. with_accepted d line) i.is in
     let e : c.formula ≡ (with_accepted c line).formula = sym (same_formula c line) in
     record {
       lines = i.lines ++ line ∷ [];
       accepted = subst (λ f. all_accepted (start_of f) (i.lines ++ line ∷ []) ≡ true) e accepted;
-      is = subst (λ f. after (start_of f) (i.lines ++ line ∷ []) ≡ with_accepted c line) e is;
+      is = subst (λ f. after_lines (start_of f) (i.lines ++ line ∷ []) ≡ with_accepted c line) e is;
     }

@@ -2,7 +2,7 @@
 use Rattle.std.proofs.Common.{◌≡◌, ℕ, ◌+◌, Bool, true, false, List, [], ◌∷◌, Option, Some, None, Result, Ok, Err, refl, sym, ap, ◌∙◌, inl, inr, ⊎_elim, ◌&&◌, if◌then◌else◌, option_map}
 use Rattle.std.{specs.List.list_all, proofs.lemmas.Bool.{false≢true, and_parts, and_from, or_cases, or_left, or_right}}
 use Rattle.cnf_formula.specs.Literals.{LitValue, negation, same_literal}
-use Rattle.proof_rules.specs.{declared.verdict.LineCode.{LineCode, TheVariants.HintNotUnit}, Held.{Entry, clause_at, open_literals, is_empty}}
+use Rattle.proof_rules.specs.{declared.verdict.LineCode.{LineCode, TheVariants.HintNotUnit}, Held.{Entry, clause_at, open_literals, has_none}}
 use Rattle.proof_rules.specs.{Judging.{given_by, given_by_clause, after_conflict, led_to}, Testing.{propagated, is_conflict, closes, closes_one}}
 use Rattle.proof_rules.specs.Accepting.{Group, has_negated, without_negated, is_made_true, LeadsTo, Conflicts, Closes, Answers}
 use Rattle.proof_rules.proofs.Hints.{Led, conflicts, leads_to_conflict, leads, led_by}
@@ -19,7 +19,7 @@ plain (Ok end) = Some end
 abbrev tested : List Entry → List LitValue → List ℕ → Option (List LitValue) → Propagated
 tested held falses ids left = elim left [
   | None ↦ None
-  | Some [] ↦ if is_empty ids then Some None else None
+  | Some [] ↦ if has_none ids then Some None else None
   | Some (l ∷ ls) ↦ if list_all (same_literal l) ls then propagated held (negation l ∷ falses) ids else None
 ]
 
@@ -30,7 +30,7 @@ judged held falses place ids given = elim given [
   | Ok (Some l) ↦ led_to held (negation l ∷ falses) (place + 1) ids
 ]
 
-at_end : (place : ℕ) (ids : List ℕ) → (if is_empty ids then Some None else None) ≡ plain (after_conflict place ids)
+at_end : (place : ℕ) (ids : List ℕ) → (if has_none ids then Some None else None) ≡ plain (after_conflict place ids)
 at_end place [] = refl
 at_end place (id ∷ ids) = refl
 

@@ -5,7 +5,7 @@ use Rattle.std.proofs.lemmas.Bool.{false≢true, and_parts, and_from, or_cases, 
 use Rattle.std.proofs.lemmas.List.Sums.{AllPass-from_list_all, list_all-from_AllPass}
 use Rattle.list_laws.proofs.Pairs.{no_pairs, pairs_head, pairs_tail}
 use Rattle.cnf_formula.specs.{Literals.LitValue, Lines.ProofLineValue, declared.line.LratLine.{LratLine, TheVariants.{Addition, Deletion}}}
-use Rattle.proof_rules.specs.{declared.verdict.{LineCode.TheVariants.UnknownDeletion, LineVerdict.LineVerdict}, Held.{CheckerValue, is_empty}}
+use Rattle.proof_rules.specs.{declared.verdict.{LineCode.TheVariants.UnknownDeletion, LineVerdict.LineVerdict}, Held.{CheckerValue, has_none}}
 use Rattle.proof_rules.specs.declared.verdict.LineVerdict.TheVariants.{Accepted as AcceptedVerdict, Refused}
 use Rattle.proof_rules.specs.Accepting.{Group, leading, groups_of, is_answered, IsNew, Implied, Redundant}
 use Rattle.proof_rules.specs.Testing.{propagated, is_conflict, closes_one, has_number_twice, is_new, is_rup, are_resolved, is_rat, are_held, accepts}
@@ -88,20 +88,20 @@ module _ (c : CheckerValue) (line : ProofLineValue) where
 
 -- ---- RUP
 
-no_groups : (groups : List Group) → is_empty groups ≡ true → groups ≡ []
+no_groups : (groups : List Group) → has_none groups ≡ true → groups ≡ []
 no_groups [] h = refl
 no_groups (group ∷ groups) h = absurd (false≢true h)
 
 pub rup_by : (c : CheckerValue) (line : ProofLineValue) → is_rup c line ≡ true → Implied c line
 rup_by c line h =
-    let outer = and_parts (is_new c line && is_empty (groups_of line.hints)) (is_conflict (propagated c.held line.lits (leading line.hints))) h in
-    let inner = and_parts (is_new c line) (is_empty (groups_of line.hints)) outer.0 in
+    let outer = and_parts (is_new c line && has_none (groups_of line.hints)) (is_conflict (propagated c.held line.lits (leading line.hints))) h in
+    let inner = and_parts (is_new c line) (has_none (groups_of line.hints)) outer.0 in
     record { new = new_by c line inner.0; no_groups = no_groups (groups_of line.hints) inner.1; conflict = conflict_by c.held line.lits (leading line.hints) outer.1 }
 
 pub by_rup : (c : CheckerValue) (line : ProofLineValue) → Implied c line → is_rup c line ≡ true
 by_rup c line i =
-    and_from (is_new c line && is_empty (groups_of line.hints)) (is_conflict (propagated c.held line.lits (leading line.hints)))
-    (and_from (is_new c line) (is_empty (groups_of line.hints)) (by_new c line i.new) (ap is_empty i.no_groups))
+    and_from (is_new c line && has_none (groups_of line.hints)) (is_conflict (propagated c.held line.lits (leading line.hints)))
+    (and_from (is_new c line) (has_none (groups_of line.hints)) (by_new c line i.new) (ap has_none i.no_groups))
     (by_conflict c.held line.lits (leading line.hints) i.conflict)
 
 -- ---- RAT

@@ -6,7 +6,7 @@ use Rattle.std.proofs.lemmas.List.Elements.{All-nil, All-cons, All-head, All-tai
 use Rattle.cnf_formula.specs.{Literals.{LitValue, value_of, clause_holds, all_hold}, Formulas.{FormulaValue, IsFormula, IsClause, IsAbout, Satisfiable}}
 use Rattle.cnf_formula.specs.declared.line.LratLine.{LratLine, TheVariants.{Addition, Deletion}}
 use Rattle.proof_rules.specs.{Held.{Entry, CheckerValue, start_of}, Testing.{is_rup, is_rat, accepts}}
-use Rattle.proof_rules.specs.Refuting.{with_accepted, all_accepted, after, formula_after}
+use Rattle.proof_rules.specs.Refuting.{with_accepted, all_accepted, after_lines, formula_after}
 use Rattle.proof_rules.proofs.{Tested.{rup_by, rat_by}, Sound.{holds, Holds}, Calm.{all_calm, starts_calm}, Kept.same_formula}
 
 -- ---- what is held is about the formula's variables
@@ -31,7 +31,7 @@ new_in_range c (Addition line) vars e a h =
     let own : IsClause c.formula.vars line.lits = ⊎_elim (λ r. (rup_by c line r).new.in_range) (λ r. (rat_by c line r).new.in_range) (or_cases (is_rup c line) (is_rat c line) a) in
     All-push (InRange vars) c.held (line.id, line.lits) h (subst (λ n. IsClause n line.lits) e own)
 
-all_kept : (f : FormulaValue) (lines : List LratLine) (c : CheckerValue) → all_accepted c lines ≡ true → Kept f c → Kept f (after c lines)
+all_kept : (f : FormulaValue) (lines : List LratLine) (c : CheckerValue) → all_accepted c lines ≡ true → Kept f c → Kept f (after_lines c lines)
 all_kept f [] c a k = k
 all_kept f (line ∷ lines) c a k =
     let parts = and_parts (accepts c line) (all_accepted (with_accepted c line) lines) a in
@@ -69,6 +69,6 @@ still_satisfiable f lines i s a =
       values = listed end.values f.vars;
       satisfies = record {
         values_are = length-map-range_with_len end.values 1 f.vars;
-        holds = all_listed end.values f.vars (after (start_of f) lines).held kept.in_range end.all;
+        holds = all_listed end.values f.vars (after_lines (start_of f) lines).held kept.in_range end.all;
       };
     }

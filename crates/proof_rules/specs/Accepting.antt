@@ -50,13 +50,13 @@ pub record Group : Type 0 where
   pub hints : List ℕ
 
 -- the groups of these hints, the first of which stands at this place
-abbrev pub groups_from : ℕ → List ℤ → List Group
-groups_from place [] = []
-groups_from place (pos id ∷ hints) = groups_from (place + 1) hints
-groups_from place (negsuc n ∷ hints) = record { place = place; named = n + 1; hints = leading hints } ∷ groups_from (place + 1) hints
+abbrev pub hint_groups_from : ℕ → List ℤ → List Group
+hint_groups_from place [] = []
+hint_groups_from place (pos id ∷ hints) = hint_groups_from (place + 1) hints
+hint_groups_from place (negsuc n ∷ hints) = record { place = place; named = n + 1; hints = leading hints } ∷ hint_groups_from (place + 1) hints
 
 abbrev pub groups_of : List ℤ → List Group
-groups_of hints = groups_from 0 hints
+groups_of hints = hint_groups_from 0 hints
 
 -- ---- clauses with the negation of a literal, the pivot
 

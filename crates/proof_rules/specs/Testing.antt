@@ -4,7 +4,7 @@ use Rattle.std.specs.Prelude.{◌==◌, ◌&&◌, ◌||◌, ℕ, Bool, true, fal
 use Rattle.std.specs.List.{list_any, list_all}
 use Rattle.cnf_formula.specs.{Literals.{LitValue, negation, same_literal}, Lines.ProofLineValue, declared.line.LratLine.LratLine}
 use Rattle.cnf_formula.specs.declared.line.LratLine.TheVariants.{Addition, Deletion}
-use Rattle.proof_rules.specs.Held.{Entry, CheckerValue, clause_at, open_literals, is_empty}
+use Rattle.proof_rules.specs.Held.{Entry, CheckerValue, clause_at, open_literals, has_none}
 use Rattle.proof_rules.specs.Accepting.{Group, leading, groups_of, has_negated, without_negated, is_made_true, is_answered}
 
 -- ---- unit propagation
@@ -14,7 +14,7 @@ abbrev pub propagated : List Entry → List LitValue → List ℕ → Option (Op
 propagated held falses [] = Some (Some falses)
 propagated held falses (id ∷ ids) = elim (option_map (open_literals falses) (clause_at held id)) [
   | None ↦ None
-  | Some [] ↦ if is_empty ids then Some None else None
+  | Some [] ↦ if has_none ids then Some None else None
   | Some (l ∷ ls) ↦ if list_all (same_literal l) ls then propagated held (negation l ∷ falses) ids else None
 ]
 
@@ -51,7 +51,7 @@ is_new c line =
 
 -- it follows from what is held: its hints are a conflict where every literal of the clause is assumed false
 abbrev pub is_rup : CheckerValue → ProofLineValue → Bool
-is_rup c line = is_new c line && is_empty (groups_of line.hints) && is_conflict (propagated c.held line.lits (leading line.hints))
+is_rup c line = is_new c line && has_none (groups_of line.hints) && is_conflict (propagated c.held line.lits (leading line.hints))
 
 -- a group closes each clause with the negation of the first literal, unless another literal of that clause is true already; none has two groups
 abbrev pub are_resolved : List Entry → List Group → List LitValue → Option (Option (List LitValue)) → Bool

@@ -3,7 +3,7 @@
 ghost use Rattle.std.specs.Prelude.{◌≡◌, true, false, [], ◌∷◌, pos, negsuc};
 ghost use Rattle.cnf_formula.specs.{Literals.{yes, no}, declared.line.LratLine.LratLine};
 ghost use Rattle.proof_rules.specs.{Held.start_of, Judging.{verdict_of, deletion_verdict}};
-ghost use Rattle.proof_rules.specs.Refuting.{with_line, without, is_fresh, Refutes, SpentLog, Exhausted};
+ghost use Rattle.proof_rules.specs.Refuting.{with_line, without_clauses, is_fresh, Refutes, SpentLog, Exhausted};
 ghost use Rattle.proof_rules.specs.Examples.{two_clauses, three_clauses, four_clauses, unit_of_four, end_of_four, eight_clauses, line_of_3, chain};
 
 use crate::verdict::{LineCode, LineVerdict};
@@ -36,8 +36,8 @@ pub fn refutation_of_four_clauses()
 pub fn deletions_from_four_clauses()
     ensures deleted { deletion_verdict (start_of four_clauses) (record { id = 5; ids = 4 ∷ 1 ∷ [] }) ≡ LineVerdict.Accepted false }
     ensures twice { deletion_verdict (start_of four_clauses) (record { id = 5; ids = 1 ∷ 1 ∷ [] }) ≡ LineVerdict.Refused LineCode.UnknownDeletion 0 }
-    ensures hint { verdict_of (without (start_of four_clauses) (record { id = 5; ids = 4 ∷ 1 ∷ [] })) unit_of_four ≡ LineVerdict.Refused LineCode.UnknownHint 0 }
-    ensures again { deletion_verdict (without (start_of four_clauses) (record { id = 5; ids = 4 ∷ 1 ∷ [] })) (record { id = 6; ids = 1 ∷ [] }) ≡ LineVerdict.Refused LineCode.UnknownDeletion 0 }
+    ensures hint { verdict_of (without_clauses (start_of four_clauses) (record { id = 5; ids = 4 ∷ 1 ∷ [] })) unit_of_four ≡ LineVerdict.Refused LineCode.UnknownHint 0 }
+    ensures again { deletion_verdict (without_clauses (start_of four_clauses) (record { id = 5; ids = 4 ∷ 1 ∷ [] })) (record { id = 6; ids = 1 ∷ [] }) ≡ LineVerdict.Refused LineCode.UnknownDeletion 0 }
 {}
 
 /// The formula of every clause of all of three variables is exhausted by one line: no clause that

@@ -9,7 +9,7 @@ use Rattle.bag_runs.{specs.Stores.{StoreValue, stored}, proofs.Tables.table_cell
 use Rattle.node_programs.specs.{Machines.State, Ended.machine_of}
 use Rattle.text_lines.specs.Text.{line, text_of}
 use Rattle.topology_text.specs.Spelling.{name_at}
-use Rattle.replay_text.specs.{Replay.{node_lines, numbered_steps, verdict_words}, Points.body_lines}
+use Rattle.replay_text.specs.{Replay.{held_lines, numbered_steps, verdict_words}, Points.body_lines}
 use Rattle.replay_text.specs.Showing.{Shown, adding_of, bag_lines, chunks_at, copied_verdict, holds_as_shown, instance_at, is_copied, nodes_of, order_lines, shown_steps, shown_text, shown_verdict, steps_that_add, sum_words, summed_verdict}
 use Rattle.replay_text.specs.inner.Appended.{bag_word, digits_of, keeper_words, more_lines, placed_lines, placed_steps, store_lines, stored_lines, stored_steps, bag_words, counts_word, start_bags}
 use Rattle.replay_text.proofs.{Lines.appends, Showable.{pre_chunks, pre_nodes}}
@@ -41,7 +41,7 @@ same_lines names a b v w m n g h order p q r s =
 
 module _ (x : Shown) (copied : is_copied x ≡ true) where
   steps_copied : shown_steps x ≡ placed_steps x.names (instance_at x).pre x.point.schedule
-  steps_copied = ap (λ b. if b then map (node_lines x.names) (run_of (instance_at x).pre x.point.schedule) else map (bag_lines x) (joined_run (contributions (nodes_of x)) x.point.schedule (adding_of x))) copied
+  steps_copied = ap (λ b. if b then map (held_lines x.names) (run_of (instance_at x).pre x.point.schedule) else map (bag_lines x) (joined_run (contributions (nodes_of x)) x.point.schedule (adding_of x))) copied
 
   verdict_copied : shown_verdict x ≡ verdict_words x.names (copied_verdict x)
   verdict_copied = ap (λ b. if b then verdict_words x.names (copied_verdict x) else sum_words x.names (summed_verdict x)) copied
@@ -92,7 +92,7 @@ module _ (x : Shown) (bags : Bags) where
 module _ (x : Shown) (adds : is_copied x ≡ false) where
   steps_added : shown_steps x ≡ stored_steps x.names (chunks_at x) (nodes_of x) (contributions (nodes_of x)) x.point.schedule (adding_of x)
   steps_added =
-      ap (λ b. if b then map (node_lines x.names) (run_of (instance_at x).pre x.point.schedule) else map (bag_lines x) (joined_run (contributions (nodes_of x)) x.point.schedule (adding_of x))) adds
+      ap (λ b. if b then map (held_lines x.names) (run_of (instance_at x).pre x.point.schedule) else map (bag_lines x) (joined_run (contributions (nodes_of x)) x.point.schedule (adding_of x))) adds
       ∙ same_each (bag_lines x) (λ bags. store_lines x.names (stored (chunks_at x) (nodes_of x) bags)) (joined_run (contributions (nodes_of x)) x.point.schedule (adding_of x)) (bags_shown x)
 
   verdict_added : shown_verdict x ≡ sum_words x.names (summed_verdict x)

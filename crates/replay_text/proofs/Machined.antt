@@ -2,7 +2,7 @@
 use Rattle.std.{proofs.Common.{◌≡◌, ℕ, List, [], ◌∷◌, length, map, sym, ap, ◌∙◌, subst, All, Result, IfOk}, specs.List.AllByRecursion}
 use Rattle.std.proofs.lemmas.List.Elements.{All-from_recursion}
 use Rattle.schedule.specs.Sends.{IsInRange, ScheduleValue}
-use Rattle.node_programs.specs.{declared.op.Op.Op, Below.AreBelow, Machines.{State, start_of}, Programs.programs_of, Runs.{chosen, operations}}
+use Rattle.node_programs.specs.{declared.op.Op.Op, Below.AreBelow, Machines.{State, started}, Programs.programs_of, Runs.{chosen, operations}}
 use Rattle.node_programs.proofs.Everywhere.{every_seed}
 use Rattle.bag_runs.specs.Stores.{StoreValue, stored}
 use Rattle.replay_text.specs.{Points.IsShowable, Showing.{Shown, adding_of, chunks_at, machine_of, nodes_of}, inner.Appended.start_bags}
@@ -20,8 +20,8 @@ pub below_start : (x : Shown) (start : StoreValue) (programs : List (List Op)) �
 below_start x start programs shows is below = subst (λ (s : StoreValue). AreBelow s.chunks s.nodes programs) (sym is) (below (chunks_at x) shows.in_range)
 
 -- the machine is that of the point
-pub machine_is : (x : Shown) (start : StoreValue) (programs : List (List Op)) (m : State) → start ≡ stored (chunks_at x) (nodes_of x) (start_bags x) → programs ≡ programs_of (nodes_of x) x.point.schedule (adding_of x) → m ≡ start_of programs start → m ≡ machine_of x
-machine_is x start programs m is of made = made ∙ ap (λ p. start_of p start) of ∙ ap (start_of (programs_of (nodes_of x) x.point.schedule (adding_of x))) is
+pub machine_is : (x : Shown) (start : StoreValue) (programs : List (List Op)) (m : State) → start ≡ stored (chunks_at x) (nodes_of x) (start_bags x) → programs ≡ programs_of (nodes_of x) x.point.schedule (adding_of x) → m ≡ started programs start → m ≡ machine_of x
+machine_is x start programs m is of made = made ∙ ap (λ p. started p start) of ∙ ap (started (programs_of (nodes_of x) x.point.schedule (adding_of x))) is
 
 -- lists that are made of numbers, each as long as the others
 all_as_long : {X : Type 0} (f : X → List ℕ) (g : ℕ → List ℕ) (n : ℕ) (xs : List X) (numbers : List ℕ) → map f xs ≡ map g numbers → ((number : ℕ) → length (g number) ≡ n) → AllByRecursion (λ x. length (f x) ≡ n) xs

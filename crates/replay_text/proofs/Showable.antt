@@ -6,13 +6,13 @@ use Rattle.outer_ports.specs.declared.part.Part.{Part}
 use Rattle.outer_ports.specs.declared.part.Part.TheVariants as part
 use Rattle.collective_spec.specs.{declared.{kind.Kind.Kind, collective.Collective.Collective, spec.Spec.Spec}, Kinds.{allows, is_custom}}
 use Rattle.collective_spec.specs.{Layouts.laid_out, Patterns.{PatternValue, IsPattern}}
-use Rattle.collective_spec.specs.Collectives.{IsSpec, after, chunks_in, chunks_of, fits_kind, spec_demand, spec_instance, spec_of}
+use Rattle.collective_spec.specs.Collectives.{IsSpec, layout_after, chunks_in, chunks_of, fits_kind, spec_demand, spec_instance, spec_of}
 use Rattle.collective_spec.specs.declared.kind.Kind.TheVariants as kind
 use Rattle.collective_spec.specs.declared.layout.Layout.TheVariants as layout
 use Rattle.collective_spec.specs.declared.spec.Spec.TheVariants as spec
 use Rattle.candidate_order.specs.{declared.mark.Mark.Mark, Frontiers.{PointValue, FrontierValue}}
 use Rattle.candidate_order.specs.declared.mark.Mark.TheVariants as mark
-use Rattle.report_form.specs.{Reports.{ReportValue, IsReport, IsPoint, IsJoinedPoint, question_of, kind_of, parts_of}, Numbered.{point_at, points_of}}
+use Rattle.report_form.specs.{Reports.{ReportValue, IsReport, IsPrintedPoint, IsJoinedPoint, question_of, kind_of, parts_of}, Numbered.{point_at, points_of}}
 use Rattle.schedule.proofs.First.{each_append}
 use Rattle.replay_text.specs.{Showing.{is_joined, shown_in, steps_that_add}, Points.IsShowable}
 
@@ -41,7 +41,7 @@ spec_valid r part valid =
 
 -- an allreduce demands every chunk at every node
 all_demanded : (whole : Collective) (nodes c : ℕ) (custom : Option PatternValue) → whole.kind ≡ kind.Allreduce → fits_kind whole.kind custom ≡ true → spec_demand (spec_of whole custom) nodes c ≡ laid_out layout.All (chunks_in (spec_of whole custom) nodes c) nodes
-all_demanded whole nodes c None is fits = ap (λ k. laid_out (after k whole.root) (chunks_of whole.kind nodes c) nodes) is
+all_demanded whole nodes c None is fits = ap (λ k. laid_out (layout_after k whole.root) (chunks_of whole.kind nodes c) nodes) is
 all_demanded whole nodes c (Some p) is fits = let custom = ap is_custom is in absurd (cc)
 
 -- whether a kind is an allreduce, and that no part with a frontier joins others
@@ -66,7 +66,7 @@ every_step : (m : Mark) (steps : ℕ) → (m ≡ mark.Optimal) ⊎ (m ≡ mark.O
 every_step m steps is = ⊎_elim (λ (e : m ≡ mark.Optimal). ap (λ k. steps_that_add k steps) e) (λ (e : m ≡ mark.Open). ap (λ k. steps_that_add k steps) e) is
 
 module _ (r : ReportValue) (valid : IsReport r) where
-  of_point : (part : Part) (p : PointValue) → is_joined part ≡ false → IsPoint (question_of r.words r.topology part) p → IsShowable (shown_in r (part, p))
+  of_point : (part : Part) (p : PointValue) → is_joined part ≡ false → IsPrintedPoint (question_of r.words r.topology part) p → IsShowable (shown_in r (part, p))
   of_point part p single point = record {
     spec = spec_valid r part valid;
     schedule = point.has.schedule;
@@ -93,11 +93,11 @@ module _ (r : ReportValue) (valid : IsReport r) where
   abbrev Shows : Part × PointValue → Type 0
   Shows x = IsShowable (shown_in r x)
 
-  part_shows : (part : Part) (points : List PointValue) → is_joined part ≡ false → AllByRecursion (IsPoint (question_of r.words r.topology part)) points → AllByRecursion Shows (map (λ p. (part, p)) points)
+  part_shows : (part : Part) (points : List PointValue) → is_joined part ≡ false → AllByRecursion (IsPrintedPoint (question_of r.words r.topology part)) points → AllByRecursion Shows (map (λ p. (part, p)) points)
   part_shows part [] single all = tt
   part_shows part (p ∷ points) single all = (of_point part p single all.0, part_shows part points single all.1)
 
-  frontiers_show : (xs : List (Part × FrontierValue)) → AllByRecursion (λ part. is_joined part ≡ false) (map (λ x. x.0) xs) → AllByRecursion (λ x. All (IsPoint (question_of r.words r.topology x.0)) x.1.points) xs → AllByRecursion Shows (flat_map (λ x. map (λ p. (x.0, p)) x.1.points) xs)
+  frontiers_show : (xs : List (Part × FrontierValue)) → AllByRecursion (λ part. is_joined part ≡ false) (map (λ x. x.0) xs) → AllByRecursion (λ x. All (IsPrintedPoint (question_of r.words r.topology x.0)) x.1.points) xs → AllByRecursion Shows (flat_map (λ x. map (λ p. (x.0, p)) x.1.points) xs)
   frontiers_show [] single all = tt
   frontiers_show (x ∷ xs) single all = each_append Shows _ _ (part_shows x.0 x.1.points single.0 (recursion_from_All _ x.1.points all.0)) (frontiers_show xs single.1 all.1)
 
@@ -114,7 +114,7 @@ module _ (r : ReportValue) (valid : IsReport r) where
       (λ (is : r.words.collective.kind ≡ kind.Allreduce). joined_show r.joined is (recursion_from_All _ r.joined valid.joined))
       (λ (other : r.words.collective.kind ≢ kind.Allreduce). subst (λ ps. AllByRecursion Shows (map (λ p. (part.Joined, p)) ps)) (sym (valid.only_allreduce other)) tt)
       known.0 in
-      let frontiers : AllByRecursion (λ y. All (IsPoint (question_of r.words r.topology y.0)) y.1.points) r.frontiers = recursion_from_All _ r.frontiers (λ k d at. (valid.frontiers k d at).points) in
+      let frontiers : AllByRecursion (λ y. All (IsPrintedPoint (question_of r.words r.topology y.0)) y.1.points) r.frontiers = recursion_from_All _ r.frontiers (λ k d at. (valid.frontiers k d at).points) in
       each_append Shows _ _ (frontiers_show r.frontiers single frontiers) joined
 
   -- the point of a number is one of the report's

@@ -4,8 +4,8 @@ use Rattle.schedule.specs.{Placed.{PlacementValue, holds}, declared.verdict.Verd
 use Rattle.topology_text.specs.Spelling.{name_at}
 
 -- the lines of the nodes: a node's name, and the chunks that it holds, ascending
-abbrev pub node_lines : List (List ℕ) → PlacementValue → List (List (List ℕ))
-node_lines names p = map (λ node. name_at names node ∷ map decimal (filter (λ chunk. holds p (chunk, node)) (range_with_len 0 p.chunks))) (range_with_len 0 p.nodes)
+abbrev pub held_lines : List (List ℕ) → PlacementValue → List (List (List ℕ))
+held_lines names p = map (λ node. name_at names node ∷ map decimal (filter (λ chunk. holds p (chunk, node)) (range_with_len 0 p.chunks))) (range_with_len 0 p.nodes)
 
 -- the lines of the nodes after this step and the later ones
 abbrev pub numbered_steps : ℕ → List (List (List (List ℕ))) → List (List (List ℕ))

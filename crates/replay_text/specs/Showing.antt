@@ -10,12 +10,12 @@ use Rattle.allreduce_join.specs.Judging.{summed_verdict_of}
 use Rattle.collective_spec.specs.{declared.instance.Instance.Instance, Collectives.{spec_instance, spec_demand, chunks_in, adds_up}}
 use Rattle.candidate_order.specs.{declared.mark.Mark.Mark, Frontiers.{QuestionValue, PointValue}}
 use Rattle.candidate_order.specs.declared.mark.Mark.TheVariants as mark
-use Rattle.node_programs.specs.{Programs.programs_of, Machines.{State, start_of}, Runs.{operations, chosen}}
+use Rattle.node_programs.specs.{Programs.programs_of, Machines.{State, started}, Runs.{operations, chosen}}
 use Rattle.bag_runs.specs.Stores.{stored}
 use Rattle.text_lines.specs.Text.{text_of}
 use Rattle.topology_text.specs.Spelling.{name_at}
 use Rattle.report_form.specs.Reports.{ReportValue, question_of}
-use Rattle.replay_text.specs.Replay.{node_lines, numbered_steps, verdict_words}
+use Rattle.replay_text.specs.Replay.{held_lines, numbered_steps, verdict_words}
 
 -- a point, its part, and what its part is asked for
 pub record Shown : Type 0 where
@@ -65,7 +65,7 @@ bag_lines x bags =
 abbrev pub shown_steps : Shown → List (List (List (List ℕ)))
 shown_steps x =
     if is_copied x
-    then map (node_lines x.names) (run_of (instance_at x).pre x.point.schedule)
+    then map (held_lines x.names) (run_of (instance_at x).pre x.point.schedule)
     else map (bag_lines x) (joined_run (contributions (nodes_of x)) x.point.schedule (adding_of x))
 
 -- ---- the verdict
@@ -96,7 +96,7 @@ holds_as_shown x = if is_copied x then says_solves (copied_verdict x) else says_
 -- from what is held, or from one contribution of each node
 abbrev pub machine_of : Shown → State
 machine_of x =
-    start_of (programs_of (nodes_of x) x.point.schedule (adding_of x))
+    started (programs_of (nodes_of x) x.point.schedule (adding_of x))
     (stored (chunks_at x) (nodes_of x) (if is_copied x then of_placement (instance_at x).pre else contributions (nodes_of x)))
 
 -- how many events a run has, which nodes move, and what they have in the end

@@ -2,7 +2,7 @@
 
 ghost use Rattle.std.specs.Prelude.{◌≡◌, ◌++◌, ◌∷◌, flat_map, length, if◌then◌else◌, None, OnOk};
 ghost use Rattle.schedule.specs.Sends.{IsInRange, IsSchedule};
-ghost use Rattle.node_programs.specs.{Programs.programs_of, Machines.start_of, Runs.{chosen, operations}};
+ghost use Rattle.node_programs.specs.{Programs.programs_of, Machines.started, Runs.{chosen, operations}};
 ghost use Rattle.text_lines.specs.Text.{text_of};
 ghost use Rattle.topology_text.specs.Spelling.{name_at};
 ghost use Rattle.replay_text.specs.inner.Appended.{move_lines};
@@ -57,7 +57,7 @@ pub(crate) fn push_order(
 ) -> Result<(), OutOfMemory>
     requires valid { IsSchedule schedule.now }
     requires in_range { IsInRange start.chunks start.nodes schedule.now }
-    ensures { let m = start_of (programs_of start.nodes schedule.now adding) start in OnOk result (out.new.items ≡ out.old.items ++ text_of (move_lines names.now seed (operations m) (chosen m seed))) }
+    ensures { let m = started (programs_of start.nodes schedule.now adding) start in OnOk result (out.new.items ≡ out.old.items ++ text_of (move_lines names.now seed (operations m) (chosen m seed))) }
 {
     let programs = programs_of(alloc, start.nodes(), schedule, adding)?;
     let mut machine = Machine::new(alloc, programs, start)?;

@@ -3,7 +3,7 @@
 ghost use Rattle.std.specs.Prelude.{◌≡◌, ◌<◌, ◌++◌, ◌∷◌, [], decimal, if◌then◌else◌, flat_map, map, OnOk};
 ghost use Rattle.schedule.specs.Placed.{holds};
 ghost use Rattle.text_lines.specs.Text.{line, text_of};
-ghost use Rattle.replay_text.specs.{Replay.{node_lines, numbered_steps}, inner.Appended.{last_of, held_by, holder_words, step_head}};
+ghost use Rattle.replay_text.specs.{Replay.{held_lines, numbered_steps}, inner.Appended.{last_of, held_by, holder_words, step_head}};
 
 use crate::OutOfMemory;
 use crate::words::push_step_head;
@@ -60,7 +60,7 @@ fn push_placement(
     names: &[Name],
     placement: &Placement,
 ) -> Result<(), OutOfMemory>
-    ensures { OnOk result (out.new.items ≡ out.old.items ++ text_of (node_lines names.now placement.now)) }
+    ensures { OnOk result (out.new.items ≡ out.old.items ++ text_of (held_lines names.now placement.now)) }
 {
     for node in 0..placement.nodes() {
         push_holder(out, names, placement, node)?;
@@ -75,7 +75,7 @@ fn push_step(
     step: u64,
     placement: &Placement,
 ) -> Result<(), OutOfMemory>
-    ensures { OnOk result (out.new.items ≡ out.old.items ++ text_of (step_head step ∷ node_lines names.now placement.now)) }
+    ensures { OnOk result (out.new.items ≡ out.old.items ++ text_of (step_head step ∷ held_lines names.now placement.now)) }
 {
     push_step_head(out, step)?;
     push_placement(out, names, placement)
@@ -87,7 +87,7 @@ pub(crate) fn push_placements(
     names: &[Name],
     run: &[Placement],
 ) -> Result<(), OutOfMemory>
-    ensures { OnOk result (out.new.items ≡ out.old.items ++ text_of (numbered_steps 0 (map (node_lines names.now) run.now))) }
+    ensures { OnOk result (out.new.items ≡ out.old.items ++ text_of (numbered_steps 0 (map (held_lines names.now) run.now))) }
 {
     for (step, placement) in run.iter().enumerate() {
         push_step(out, names, step as u64, placement)?;
@@ -101,7 +101,7 @@ pub(crate) fn push_last_placement(
     names: &[Name],
     run: &[Placement],
 ) -> Result<(), OutOfMemory>
-    ensures { OnOk result (out.new.items ≡ out.old.items ++ text_of (last_of (map (node_lines names.now) run.now))) }
+    ensures { OnOk result (out.new.items ≡ out.old.items ++ text_of (last_of (map (held_lines names.now) run.now))) }
 {
     match run.last() {
         Some(placement) => push_placement(out, names, placement),

@@ -2,7 +2,7 @@
 
 ghost use Rattle.std.specs.Prelude.{◌≡◌, All, Contains, IfOk, length, map};
 ghost use Rattle.bag_runs.specs.Stores.{stored};
-ghost use Rattle.node_programs.specs.{Below.AreBelow, Machines.start_of, Runs.{chosen, operations}};
+ghost use Rattle.node_programs.specs.{Below.AreBelow, Machines.started, Runs.{chosen, operations}};
 ghost use Rattle.report_form.specs.Numbered.{points_of};
 ghost use Rattle.replay_text.specs.{Points.IsShowable, Showing.{chunks_at, machine_of, nodes_of, shown_in}, inner.Appended.start_bags};
 
@@ -49,7 +49,7 @@ fn run_order(
 ) -> Result<Vec<u8>, OutOfMemory>
     requires nodes { length programs.now ≡ start.now.nodes }
     requires in_range { AreBelow start.now.chunks start.now.nodes programs.now }
-    ensures { IfOk result (λ moves. moves.items ≡ chosen (start_of programs.now start.now) seed) }
+    ensures { IfOk result (λ moves. moves.items ≡ chosen (started programs.now start.now) seed) }
 {
     let mut machine = Machine::new(alloc, programs.clone()?, start.clone()?)?;
     replay_by_order(alloc, &mut machine, seed)
@@ -65,7 +65,7 @@ fn run_orders(
 ) -> Result<Vec<Vec<u8>>, OutOfMemory>
     requires nodes { length programs.now ≡ start.now.nodes }
     requires in_range { AreBelow start.now.chunks start.now.nodes programs.now }
-    ensures { IfOk result (λ runs. map (λ moves. moves.items) runs.items ≡ map (chosen (start_of programs.now start.now)) seeds.now) }
+    ensures { IfOk result (λ runs. map (λ moves. moves.items) runs.items ≡ map (chosen (started programs.now start.now)) seeds.now) }
 {
     let mut runs = Vec::new(alloc);
     for seed in seeds {

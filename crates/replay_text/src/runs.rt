@@ -4,7 +4,7 @@
 ghost use Rattle.std.specs.Prelude.{◌≡◌, ◌++◌, map, OnOk};
 ghost use Rattle.schedule.specs.{Sends.{IsInRange, IsSchedule}, Bags.{Bags, of_placement}, Running.run_of, JoinedRuns.joined_run};
 ghost use Rattle.bag_runs.specs.Stores.{stored};
-ghost use Rattle.node_programs.specs.{Machines.start_of, Programs.programs_of, Ended.machine_of};
+ghost use Rattle.node_programs.specs.{Machines.started, Programs.programs_of, Ended.machine_of};
 ghost use Rattle.text_lines.specs.Text.{text_of};
 ghost use Rattle.replay_text.specs.inner.Appended.{more_lines, placed_lines, placed_steps, store_lines, stored_lines};
 
@@ -80,7 +80,7 @@ fn push_stored_order(
 ) -> Result<(), OutOfMemory>
     requires valid { IsSchedule schedule.now }
     requires in_range { IsInRange start.chunks start.nodes schedule.now }
-    ensures { OnOk result (out.new.items ≡ out.old.items ++ text_of (more_lines names.now (start_of (programs_of start.nodes schedule.now adding) start) (map (store_lines names.now) run.now) order)) }
+    ensures { OnOk result (out.new.items ≡ out.old.items ++ text_of (more_lines names.now (started (programs_of start.nodes schedule.now adding) start) (map (store_lines names.now) run.now) order)) }
 {
     let Some(seed) = order else {
         return Ok(());

@@ -9,7 +9,7 @@ use Rattle.schedule.specs.{declared.hop.Hop.Hop, Sends.{IsRound, IsStep, is_hop_
 use Rattle.collective_spec.specs.Collectives.{chunks_in}
 use Rattle.candidate_order.specs.{declared.{candidate.Candidate.Candidate, mark.Mark.Mark}, Ranges.IsLimits, Frontiers.{QuestionValue, PointValue, IsWithin}}
 use Rattle.candidate_order.specs.declared.mark.Mark.TheVariants as mark
-use Rattle.report_form.specs.{declared.fault.ReportCode.ReportCode, Reports.{HasSchedule, IsPoint}, Tests.{is_within, comes_next}}
+use Rattle.report_form.specs.{declared.fault.ReportCode.ReportCode, Reports.{HasSchedule, IsPrintedPoint}, Tests.{is_within, comes_next}}
 use Rattle.report_form.specs.Spelling.{rounds_words, send_words, point_words, point_lines}
 use Rattle.report_form.specs.Points.{HeadValue, head_from, head_line, rounds_from, are_rounds, rounds_line, send_from, follows, may_be_sent, send_line, schedule_at, frontier_point_at}
 use Rattle.report_form.proofs.{Tested.decides_within, Ascending.{HopBefore, push_hop}, LineTaken.{ruled_gives, ruled_takes}}
@@ -168,11 +168,11 @@ module _ (names : List (List ℕ)) (q : QuestionValue) (as_many : length names �
   solved_by ps = map (λ p. p.candidate) ps
 
   pub record ArePoints (ps : List PointValue) : Type 0 where
-    pub each : All (IsPoint q) ps
+    pub each : All (IsPrintedPoint q) ps
     pub listed : AreListed q (solved_by ps)
 
   pub no_points : ArePoints []
-  no_points = record { each = All-nil (IsPoint q); listed = none_listed q }
+  no_points = record { each = All-nil (IsPrintedPoint q); listed = none_listed q }
 
   pub point_steps : IsLimits q.limits → Steps (frontier_point_at names q) (point_lines names) ArePoints
   unfolding frontier_point_at
@@ -193,7 +193,7 @@ module _ (names : List (List ℕ)) (q : QuestionValue) (as_many : length names �
         record {
           some = some_rounds h.candidate.s h.candidate.r w.all_rounds (omega (arith, some, rounds, more));
           keeps = λ x s. let within : IsWithin q x.candidate = subst W (sym s.candidate) w in record {
-            each = All-push (IsPoint q) before x are.each (record { has = s.has some (omega (arith, steps, most)); within = within; mark = subst M (sym s.mark) taken.mark });
+            each = All-push (IsPrintedPoint q) before x are.each (record { has = s.has some (omega (arith, steps, most)); within = within; mark = subst M (sym s.mark) taken.mark });
             listed = push_part q (λ y. y.candidate) before x are.listed within (ap (comes_next (last_or None (solved_by before))) s.candidate ∙ parts.1);
           };
         },

@@ -4,11 +4,11 @@ use Rattle.report_form.specs.declared.fault.{ReportCode.{ReportCode, TheVariants
 use Rattle.report_form.specs.Reports.{ReportValue}
 
 -- the numbers of the codes, by which refusals name them
-abbrev pub code_number : ReportCode → ℕ
-code_number BadLine = 1
-code_number Truncated = 2
-code_number Limits = 3
-code_number OutOfMemory = 4
+abbrev pub report_number : ReportCode → ℕ
+report_number BadLine = 1
+report_number Truncated = 2
+report_number Limits = 3
+report_number OutOfMemory = 4
 
 -- the answer is what the checks give, unless memory ran out
 abbrev pub Answers : Result ReportValue ReportFault → Result ReportValue (ReportCode × ℕ) → Type 0

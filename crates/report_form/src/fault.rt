@@ -1,7 +1,7 @@
 //! Why a text is no report, and where.
 
 ghost use Rattle.std.specs.Prelude.{◌≡◌};
-ghost use Rattle.report_form.specs.Answer.{code_number};
+ghost use Rattle.report_form.specs.Answer.{report_number};
 
 /// Why a text is no report, or was not read.
 #[derive(Clone, Copy, Debug, PartialEq, Eq)]
@@ -20,7 +20,7 @@ pub enum ReportCode {
 impl ReportCode {
     /// The number by which a refusal names the code, from 1 to 4 in the order of the variants.
     pub fn number(self) -> u32
-        ensures { result ≡ code_number self }
+        ensures { result ≡ report_number self }
     {
         match self {
             ReportCode::BadLine => 1,

@@ -8,7 +8,7 @@ use Rattle.collective_spec.{specs.{declared.kind.Kind.Kind, Patterns.IsPattern},
 use Rattle.collective_spec.specs.declared.kind.Kind.TheVariants as kind
 use Rattle.candidate_order.specs.{Ranges.IsLimits, Frontiers.{QuestionValue, PointValue, FrontierValue, IsWithin, IsUnknown}}
 use Rattle.topology_text.{specs.{Value.NamedTopologyValue, Names.AreNames}, proofs.Groups.{place, EndsGroups}}
-use Rattle.report_form.specs.{Reports.{WordsValue, IsPoint, IsFrontier, IsJoinedPoint, question_of}, Lines.parts_at}
+use Rattle.report_form.specs.{Reports.{WordsValue, IsPrintedPoint, IsFrontier, IsJoinedPoint, question_of}, Lines.parts_at}
 use Rattle.report_form.specs.Spelling.{point_lines, refuted_words, unknown_words, part_words, frontier_lines, joined_lines}
 use Rattle.report_form.specs.Points.{frontier_point_at, joined_point_at}
 use Rattle.report_form.specs.Reading.{refuted_line, unknown_line, part_bytes, frontier_at, frontiers_from, joined_at}
@@ -61,7 +61,7 @@ points_fit names ps rest = parts_fit (point_lines names) (λ p. omega arith) ps 
 
 module _ (names : List (List ℕ)) (q : QuestionValue) (as_many : length names ≡ q.topology.nodes) (named : AreNames names) (ok : IsLimits q.limits) (base : FewBase q.spec) where
   points_are : (f : FrontierValue) → IsFrontier q f → ArePoints names q as_many f.points
-  points_are f is = record { each = is.points; listed = record { within = All-map (IsWithin q) (λ p. p.candidate) f.points (All-weaker (IsPoint q) (λ p. IsWithin q p.candidate) (λ p i. i.within) f.points is.points); ascending = is.points_ascend } }
+  points_are f is = record { each = is.points; listed = record { within = All-map (IsWithin q) (λ p. p.candidate) f.points (All-weaker (IsPrintedPoint q) (λ p. IsWithin q p.candidate) (λ p i. i.within) f.points is.points); ascending = is.points_ascend } }
 
   pub frontier_again : (x : Part) (f : FrontierValue) (n : ℕ) (rest : List Row) → IsFrontier q f → EndsPart rest → Reads (frontier_at names q x (place n (map row_of (frontier_lines names (x, f)) ++ rest))) f rest
   unfolding frontier_at

@@ -8,7 +8,7 @@ use Rattle.outer_ports.specs.declared.part.Part.{Part}
 use Rattle.candidate_order.specs.{declared.{candidate.Candidate.Candidate, mark.Mark.Mark}, Ranges.IsLimits, Frontiers.{QuestionValue, PointValue, IsWithin}}
 use Rattle.candidate_order.specs.declared.mark.Mark.TheVariants as mark
 use Rattle.topology_text.{specs.{Value.NamedTopologyValue, Names.AreNames}, proofs.Groups.place}
-use Rattle.report_form.specs.{declared.fault.ReportCode.ReportCode, Reports.{WordsValue, HasSchedule, IsPoint, kind_of}, Tests.{is_within, comes_next}}
+use Rattle.report_form.specs.{declared.fault.ReportCode.ReportCode, Reports.{WordsValue, HasSchedule, IsPrintedPoint, kind_of}, Tests.{is_within, comes_next}}
 use Rattle.report_form.specs.Spelling.{rounds_words, send_words, point_words, point_lines}
 use Rattle.report_form.specs.Points.{HeadValue, head_from, head_line, rounds_from, are_rounds, schedule_at, frontier_point_at}
 use Rattle.report_form.proofs.{Tested.decides_within, PointsTaken.{schedule_lines, AreSends, ArePoints}}
@@ -85,7 +85,7 @@ module _ (names : List (List ℕ)) (q : QuestionValue) (as_many : length names �
       let most = ok.chunks in
       omega (arith, c, most)
 
-  mark_small : (p : PointValue) → IsPoint q p → MarkIsSmall p.mark
+  mark_small : (p : PointValue) → IsPrintedPoint q p → MarkIsSmall p.mark
   mark_small p is = plain p.mark is.mark
     where
       plain : (m : Mark) → (m ≡ mark.Optimal) ⊎ (m ≡ mark.Open) → MarkIsSmall m
@@ -94,17 +94,17 @@ module _ (names : List (List ℕ)) (q : QuestionValue) (as_many : length names �
       plain (mark.Joined n) (inl e) = absurd (cc)
       plain (mark.Joined n) (inr e) = absurd (cc)
 
-  head_tokens : (p : PointValue) → IsPoint q p → AreTokens (point_words p)
+  head_tokens : (p : PointValue) → IsPrintedPoint q p → AreTokens (point_words p)
   head_tokens p is = tokens_from (point_words p) (omega arith) (head_are_words p.candidate p.mark (within_small q ok p.candidate is.within) (mark_small p is))
 
   pub point_reads : ReadsPart (codes "point ") (frontier_point_at names q) (point_lines names) (ArePoints names q as_many) (Ends (codes "send "))
   unfolding frontier_point_at
   point_reads = headed_reads (λ before. head_line q (last_or None (map (λ y. y.candidate) before))) (ArePoints names q as_many)
       (λ before p more are.
-      let is = next_has (IsPoint q) before p more are.each in
+      let is = next_has (IsPrintedPoint q) before p more are.each in
       let rule : HeadValue → Bool = λ h. is_within q h.candidate && comes_next (last_or None (map (λ y. y.candidate) before)) h.candidate in
       let kept = and_from (is_within q p.candidate) (comes_next (last_or None (map (λ y. y.candidate) before)) p.candidate) ((decides_within q p.candidate).1 is.within) (part_comes_again (λ y. y.candidate) before p more are.listed.ascending) in
       (ruled_line head_from rule (λ h. h) (point_words p) (head_of p) (head_tokens p is) (head_again p.candidate p.mark (within_small q ok p.candidate is.within) is.mark) kept, is.has, few_chunks p.candidate is.within))
 
-  pub point_are_tokens : (p : PointValue) → IsPoint q p → AllByRecursion AreTokens (point_lines names p)
+  pub point_are_tokens : (p : PointValue) → IsPrintedPoint q p → AllByRecursion AreTokens (point_lines names p)
   point_are_tokens p is = (head_tokens p is, schedule_are_tokens p is.has (few_chunks p.candidate is.within))

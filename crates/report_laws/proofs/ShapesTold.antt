@@ -12,7 +12,7 @@ use Rattle.report_form.specs.Fields.{is_digit, is_number, any_number, small_numb
 use Rattle.report_form.specs.Points.{candidate_from, mark_named, head_from, joined_head_from, numbers_from, rounds_from, send_from}
 use Rattle.report_form.specs.SynthLine.{AskedValue, kind_named, kinds_of, limits_from, root_from, said_from, pruning_from, asked_from}
 use Rattle.report_form.proofs.{Shapes.candidate, SynthLineTaken.{found_is, limits, pruned, asked}}
-use Rattle.report_laws.specs.Shapes.{Token, Word, Any, May, has_shape, small, is_decimal, keyed, asked_shape, candidate_shape, send_shape}
+use Rattle.report_laws.specs.Shapes.{Token, Word, Any, May, has_shape, small, is_decimal, key_with, asked_shape, candidate_shape, send_shape}
 use Rattle.report_laws.proofs.SynthLineAgain.{kind_back, rooted}
 
 -- the check passes where the test holds, and else says that the line is bad
@@ -100,7 +100,7 @@ any_passes : (w : List ℕ) → is_decimal w ≡ is_some (any_number w)
 any_passes w = is_decimal_is w ∙ some_if (is_number w) (digits_value 10 w)
 
 keyed_told : {A B : Type 0} (key : List ℕ) (read : List ℕ → Option A) (passes : List ℕ → Bool) (shape : List Token) (f : A × List (List ℕ) → Result B ReportCode) → ((w : List ℕ) → passes w ≡ is_some (read w)) → ((x : A) (ws : List (List ℕ)) → Shaped shape ws (f (x, ws)))
-    → (words : List (List ℕ)) → Shaped (keyed key passes ∷ shape) words (next_keyed key read words >>= f)
+    → (words : List (List ℕ)) → Shaped (key_with key passes ∷ shape) words (next_keyed key read words >>= f)
 keyed_told {A} key read passes shape f same next words = word_told (behind_key key read) (λ w. begins key w && passes (drop (length key) w)) shape f (λ w. by_front (begins key w) (passes (drop (length key) w)) (read (drop (length key) w)) (same (drop (length key) w))) next words
   where
     by_front : (b c : Bool) (o : Option A) → c ≡ is_some o → (b && c) ≡ is_some (if b then o else None)
@@ -207,7 +207,7 @@ one_kind : (a b : Kind) → word_of a ≡ word_of b → a ≡ b
 one_kind a b e = same_Some a b (sym (kind_back a) ∙ (ap (kind_named true) e ∙ kind_back b))
 
 abbrev numbers_shape : List Token → List Token
-numbers_shape more = keyed (codes "k=") is_decimal ∷ keyed (codes "steps=") is_decimal ∷ keyed (codes "chunks=") is_decimal ∷ keyed (codes "conflicts=") is_decimal ∷ more
+numbers_shape more = key_with (codes "k=") is_decimal ∷ key_with (codes "steps=") is_decimal ∷ key_with (codes "chunks=") is_decimal ∷ key_with (codes "conflicts=") is_decimal ∷ more
 
 limits_told : {B : Type 0} (more : List Token) (f : LimitsValue × List (List ℕ) → Result B ReportCode) → ((l : LimitsValue) (ws : List (List ℕ)) → Shaped more ws (f (l, ws))) → (words : List (List ℕ)) → Shaped (numbers_shape more) words (limits_from words >>= f)
 limits_told more f next words =
@@ -215,7 +215,7 @@ limits_told more f next words =
     (λ s vs. assoc_told (next_keyed (codes "chunks=") any_number vs) _ f (keyed_told (codes "chunks=") any_number is_decimal _ _ any_passes (λ c us. assoc_told (next_keyed (codes "conflicts=") any_number us) _ f (keyed_told (codes "conflicts=") any_number is_decimal _ _ any_passes (λ n ts. next (limits k s c n) ts) us)) vs)) ws)) words)
 
 abbrev root_shape : Bool → List Token → List Token
-root_shape b more = (if b then keyed (codes "root=") is_name ∷ [] else []) ++ more
+root_shape b more = (if b then key_with (codes "root=") is_name ∷ [] else []) ++ more
 
 root_told : {B : Type 0} (b : Bool) (more : List Token) (f : Option (List ℕ) × List (List ℕ) → Result B ReportCode) → ((root : Option (List ℕ)) (ws : List (List ℕ)) → Shaped more ws (f (root, ws)))
     → (words : List (List ℕ)) → Shaped (root_shape b more) words ((if b then (next_keyed (codes "root=") name_of words >>= rooted) else Ok (None, words)) >>= f)

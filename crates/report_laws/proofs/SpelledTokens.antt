@@ -9,7 +9,7 @@ use Rattle.collective_spec.{specs.{declared.kind.Kind.Kind, Patterns.PatternValu
 use Rattle.collective_spec.specs.declared.kind.Kind.TheVariants as kind
 use Rattle.candidate_order.specs.{Ranges.IsLimits, Frontiers.{QuestionValue, PointValue, FrontierValue, IsWithin, IsUnknown}}
 use Rattle.topology_text.{specs.{Names.AreNames, Value.NamedTopologyValue, Spelling.{lines_of, version_word}}, proofs.Laws.lines_are_words}
-use Rattle.report_form.specs.Reports.{WordsValue, ReportValue, IsPoint, IsFrontier, IsJoinedPoint, IsReport, question_of}
+use Rattle.report_form.specs.Reports.{WordsValue, ReportValue, IsPrintedPoint, IsFrontier, IsJoinedPoint, IsReport, question_of}
 use Rattle.report_form.specs.Spelling.{point_lines, refuted_words, unknown_words, part_words, frontier_lines, joined_lines, body_lines, report_lines, report_text}
 use Rattle.report_laws.proofs.{ListsAgain.{lines_are_tokens, refuted_tokens, unknown_tokens}, PointsAgain.{base_of, point_are_tokens}}
 use Rattle.report_laws.proofs.{JoinedAgain.joined_are_tokens, SynthLineAgain.synth_tokens}
@@ -30,7 +30,7 @@ module _ (names : List (List â„•)) (q : QuestionValue) (as_many : length names â
   frontier_are_tokens x f is = (
     part_tokens x,
     each_append AreTokens (flat_map (point_lines names) f.points) (map refuted_words f.refuted ++ map unknown_words f.unknown)
-        (parts_are_tokens (IsPoint q) (point_lines names) (point_are_tokens names q as_many named ok base) f.points is.points)
+        (parts_are_tokens (IsPrintedPoint q) (point_lines names) (point_are_tokens names q as_many named ok base) f.points is.points)
         (each_append AreTokens (map refuted_words f.refuted) (map unknown_words f.unknown)
         (lines_are_tokens (IsWithin q) refuted_words (refuted_tokens q ok) f.refuted is.refuted)
         (lines_are_tokens (IsUnknown q) unknown_words (unknown_tokens q ok) f.unknown is.unknown)),

@@ -35,14 +35,14 @@ abbrev pub is_decimal : List ℕ → Bool
 is_decimal w = bytes_eq w (codes "0") || (nat_lt 48 (slice_index w 0) && list_all (λ b. nat_le 48 b && nat_le b 57) w)
 
 -- a key, and behind it what passes the test
-abbrev pub keyed : List ℕ → (List ℕ → Bool) → Token
-keyed key passes = Any (λ w. begins key w && passes (drop (length key) w))
+abbrev pub key_with : List ℕ → (List ℕ → Bool) → Token
+key_with key passes = Any (λ w. begins key w && passes (drop (length key) w))
 
 -- the line of the words, for a collective
 abbrev pub asked_shape : Kind → List Token
 asked_shape kind =
-    Word (codes "synth") ∷ Word (codes "collective=" ++ word_of kind) ∷ map (λ key. keyed key is_decimal) (codes "k=" ∷ codes "steps=" ∷ codes "chunks=" ∷ codes "conflicts=" ∷ [])
-    ++ (if takes_root kind then keyed (codes "root=") is_name ∷ [] else []) ++ May (codes "cuts=yes") ∷ May (codes "ordered=yes") ∷ []
+    Word (codes "synth") ∷ Word (codes "collective=" ++ word_of kind) ∷ map (λ key. key_with key is_decimal) (codes "k=" ∷ codes "steps=" ∷ codes "chunks=" ∷ codes "conflicts=" ∷ [])
+    ++ (if takes_root kind then key_with (codes "root=") is_name ∷ [] else []) ++ May (codes "cuts=yes") ∷ May (codes "ordered=yes") ∷ []
 
 -- a word, the three numbers of a candidate, and more
 abbrev pub candidate_shape : List ℕ → List Token → List Token

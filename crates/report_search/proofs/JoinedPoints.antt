@@ -9,19 +9,19 @@ use Rattle.candidate_order.{specs.{Frontiers.{QuestionValue, FrontierValue, Poin
 use Rattle.allreduce_join.specs.Joins.{IsJoinable, Joins, join_of, one_after, pairs_of}
 use Rattle.allreduce_join.proofs.{Frontiers.frontiers_join, Paired.{IsPair, pairs_among}, Sequence.{in_range_sequence, sizes_sequence, valid_sequence}}
 use Rattle.topology_text.specs.Value.{NamedTopologyValue}
-use Rattle.report_form.specs.Reports.{WordsValue, IsJoinedPoint, IsPoint, question_of}
+use Rattle.report_form.specs.Reports.{WordsValue, IsJoinedPoint, IsPrintedPoint, question_of}
 use Rattle.frontier_audit.specs.Searches.{IsAsked}
 use Rattle.engine_search.specs.Found.{IsFound}
 use Rattle.report_search.{specs.inner.Reporting.joins_of, proofs.{PartQuestions.none_given, Valid.valid_frontier}}
 
 -- ---- points that may be joined
 
-joinable : (q : QuestionValue) (p : PointValue) → IsLimits q.limits → IsPoint q p → IsJoinable p
+joinable : (q : QuestionValue) (p : PointValue) → IsLimits q.limits → IsPrintedPoint q p → IsJoinable p
 joinable q p limits point = let within = point.within.steps in let most = limits.steps in record { steps = point.has.steps; rounds = point.has.rounds; few = omega (arith, within, most) }
 
 pub all_joinable : (q : QuestionValue) (f : FrontierValue) (points : List PointValue) → points ≡ f.points → IsLimits q.limits → IsFound q f → All IsJoinable points
 all_joinable q f points is limits found =
-    subst (All IsJoinable) (sym is) (All-weaker (IsPoint q) IsJoinable (λ p point. joinable q p limits point) f.points (valid_frontier q f found).points)
+    subst (All IsJoinable) (sym is) (All-weaker (IsPrintedPoint q) IsJoinable (λ p point. joinable q p limits point) f.points (valid_frontier q f found).points)
 
 module _ (w : WordsValue) (t : NamedTopologyValue) (asked : IsAsked w t) (is : w.collective.kind ≡ kind.Allreduce) where
   abbrev nodes : ℕ
@@ -31,7 +31,7 @@ module _ (w : WordsValue) (t : NamedTopologyValue) (asked : IsAsked w t) (is : w
   chunks_alike : (k : Kind) (c : ℕ) → chunks_of k nodes c ≡ nodes * c → chunks_in (spec_of (record { kind = k; root = w.collective.root }) t.custom) nodes c ≡ nodes * c
   chunks_alike k c alike = ap (λ custom. chunks_in (spec_of (record { kind = k; root = w.collective.root }) custom) nodes c) (none_given w t asked is) ∙ alike
 
-  joined_schedule : (a b : PointValue) → IsPoint (question_of w t Reduce) a → IsPoint (question_of w t Gather) b → IsSchedule (join_of a b).schedule
+  joined_schedule : (a b : PointValue) → IsPrintedPoint (question_of w t Reduce) a → IsPrintedPoint (question_of w t Gather) b → IsSchedule (join_of a b).schedule
   joined_schedule a b first second =
       let steps = first.within.steps in
       let more = second.within.steps in
@@ -40,7 +40,7 @@ module _ (w : WordsValue) (t : NamedTopologyValue) (asked : IsAsked w t) (is : w
       let more_as_many = second.has.steps in
       subst (λ n. IsSchedule (one_after n a.schedule b.schedule)) first.has.steps (valid_sequence a.schedule b.schedule first.has.schedule second.has.schedule (omega (arith, steps, more, most, as_many, more_as_many)))
 
-  joined_in_range : (a b : PointValue) → IsPoint (question_of w t Reduce) a → IsPoint (question_of w t Gather) b → b.candidate.c ≡ a.candidate.c
+  joined_in_range : (a b : PointValue) → IsPrintedPoint (question_of w t Reduce) a → IsPrintedPoint (question_of w t Gather) b → b.candidate.c ≡ a.candidate.c
       → IsInRange (chunks_in (question_of w t Joined).spec nodes a.candidate.c) nodes (join_of a b).schedule
   joined_in_range a b first second same =
       let here : IsInRange (nodes * a.candidate.c) nodes a.schedule = subst (λ n. IsInRange n nodes a.schedule) (chunks_alike kind.Reducescatter a.candidate.c refl) first.has.in_range in
@@ -48,7 +48,7 @@ module _ (w : WordsValue) (t : NamedTopologyValue) (asked : IsAsked w t) (is : w
       subst (λ n. IsInRange n nodes (join_of a b).schedule) (sym (chunks_alike w.collective.kind a.candidate.c (ap (λ k. chunks_of k nodes a.candidate.c) is)))
       (in_range_sequence (nodes * a.candidate.c) nodes a.candidate.s a.schedule b.schedule here there)
 
-  joined_point : (a b : PointValue) → IsPoint (question_of w t Reduce) a → IsPoint (question_of w t Gather) b → b.candidate.c ≡ a.candidate.c → IsJoinedPoint (question_of w t Joined) (join_of a b)
+  joined_point : (a b : PointValue) → IsPrintedPoint (question_of w t Reduce) a → IsPrintedPoint (question_of w t Gather) b → b.candidate.c ≡ a.candidate.c → IsJoinedPoint (question_of w t Joined) (join_of a b)
   joined_point a b first second same =
       let sizes = sizes_sequence a.candidate.s a.schedule b.schedule in
       let x = first.within in
@@ -75,8 +75,8 @@ module _ (w : WordsValue) (t : NamedTopologyValue) (asked : IsAsked w t) (is : w
   module _ (f g : FrontierValue) (found : IsFound (question_of w t Reduce) f) (found_too : IsFound (question_of w t Gather) g) where
     of_pair : (pair : PointValue × PointValue) → IsPair f.points g.points pair → IsJoinedPoint (question_of w t Joined) (join_of pair.0 pair.1)
     of_pair pair two =
-        let a = All-contains (IsPoint (question_of w t Reduce)) f.points pair.0 (valid_frontier (question_of w t Reduce) f found).points (Contains-from_Among pair.0 f.points two.of_reduce) in
-        let b = All-contains (IsPoint (question_of w t Gather)) g.points pair.1 (valid_frontier (question_of w t Gather) g found_too).points (Contains-from_Among pair.1 g.points two.of_gather) in
+        let a = All-contains (IsPrintedPoint (question_of w t Reduce)) f.points pair.0 (valid_frontier (question_of w t Reduce) f found).points (Contains-from_Among pair.0 f.points two.of_reduce) in
+        let b = All-contains (IsPrintedPoint (question_of w t Gather)) g.points pair.1 (valid_frontier (question_of w t Gather) g found_too).points (Contains-from_Among pair.1 g.points two.of_gather) in
         joined_point pair.0 pair.1 a b two.same_count
 
     pub joined_points : All (IsJoinedPoint (question_of w t Joined)) (joins_of f.points g.points)

@@ -4,7 +4,7 @@ use Rattle.schedule.specs.Sends.{ScheduleValue}
 use Rattle.collective_spec.specs.Collectives.{adds_up}
 use Rattle.candidate_order.specs.declared.candidate.Candidate.{Candidate}
 use Rattle.candidate_order.specs.Frontiers.{QuestionValue, FrontierValue, PointValue, Achieves, IsPoint as IsRightPoint}
-use Rattle.report_form.specs.Reports.{IsFrontier, IsPoint}
+use Rattle.report_form.specs.Reports.{IsFrontier, IsPrintedPoint}
 use Rattle.engine_search.specs.Found.{IsFound}
 
 steps_of : (b : Bool) (q : QuestionValue) (x : Candidate) (s : ScheduleValue) → Achieves b q x s → length s.rounds ≡ x.s
@@ -15,7 +15,7 @@ rounds_of : (b : Bool) (q : QuestionValue) (x : Candidate) (s : ScheduleValue) �
 rounds_of true q x s achieves = achieves.rounds_are
 rounds_of false q x s achieves = achieves.rounds_are
 
-valid_point : (q : QuestionValue) (refuted : List Candidate) (p : PointValue) → IsRightPoint q refuted p → IsPoint q p
+valid_point : (q : QuestionValue) (refuted : List Candidate) (p : PointValue) → IsRightPoint q refuted p → IsPrintedPoint q p
 valid_point q refuted p right = record {
   has = record {
     schedule = right.solves.valid;
@@ -29,7 +29,7 @@ valid_point q refuted p right = record {
 
 pub valid_frontier : (q : QuestionValue) (f : FrontierValue) → IsFound q f → IsFrontier q f
 valid_frontier q f found = record {
-  points = All-weaker (IsRightPoint q f.refuted) (IsPoint q) (valid_point q f.refuted) f.points found.right.points;
+  points = All-weaker (IsRightPoint q f.refuted) (IsPrintedPoint q) (valid_point q f.refuted) f.points found.right.points;
   refuted = found.within;
   unknown = found.right.unknown;
   points_ascend = found.searched.points_ascend;

@@ -4,7 +4,7 @@ use Rattle.schedule.specs.{Links.{GroupValue, IsGroup}, Sends.IsStep}
 use Rattle.cnf_formula.specs.{Literals.LitValue, Formulas.{FormulaValue, IsClause, with_clauses}}
 use Rattle.cardinality.{specs.{Counting.{CounterValue, with_counter}, Totalizers.totalizer_of}, proofs.Wider.clause_more}
 use Rattle.round_encoding.{specs.{Frames.{Frame, own_variables}, Rounding.{count_of_group, output_at, with_count}, inner.Counts.said_of_group}, proofs.Counted.group_counted}
-use Rattle.send_encoding.{specs.Variables.{sent, number_of}, proofs.Grid.rows_length}
+use Rattle.send_encoding.{specs.Variables.{sent, link_number}, proofs.Grid.rows_length}
 
 mapped_length : {X Y : Type 0} (g : X → Y) (xs : List X) → length (map g xs) ≡ length xs
 mapped_length g [] = refl
@@ -15,9 +15,9 @@ module _ (f : Frame) (s : ℕ) (group : GroupValue) where
   inputs = (count_of_group f s group).inputs
 
   pub inputs_length : length inputs ≡ f.map.chunks * length group.links
-  inputs_length = rows_length (λ c. map (λ link. sent f.map c (number_of f.map link) s) group.links) (length group.links) 0 f.map.chunks (λ c. mapped_length (λ link. sent f.map c (number_of f.map link) s) group.links)
+  inputs_length = rows_length (λ c. map (λ link. sent f.map c (link_number f.map link) s) group.links) (length group.links) 0 f.map.chunks (λ c. mapped_length (λ link. sent f.map c (link_number f.map link) s) group.links)
 
-  pub inputs_about : (v : ℕ) → own_variables f ≤ v → IsStep f.map.steps s → 0 < f.map.chunks → IsGroup group → All (λ link. number_of f.map link < length f.map.links) group.links → IsClause v inputs
+  pub inputs_about : (v : ℕ) → own_variables f ≤ v → IsStep f.map.steps s → 0 < f.map.chunks → IsGroup group → All (λ link. link_number f.map link < length f.map.links) group.links → IsClause v inputs
   inputs_about v le step chunks ok places =
       clause_more (own_variables f) v inputs le (group_counted f s group (omega (arith, step.from), omega (arith, step.to)) chunks ok.some places).about
 

@@ -7,13 +7,13 @@ use Rattle.schedule.specs.{Links.{TopologyValue, GroupValue, IsTopology}, Placed
 use Rattle.schedule.specs.{Fitting.rounds_at, Solving.Solves}
 use Rattle.cnf_formula.specs.{Literals.{LitValue, negation, is_true, clause_holds, all_hold}, Formulas.{IsAbout, IsClause, Satisfies}}
 use Rattle.cardinality.{specs.Counting.true_inputs, proofs.Wider.{clauses_same, old_is_same}}
-use Rattle.send_encoding.specs.{Variables.{SendMapValue, map_of, steps_of, arrival, sent, arrivals, sends, number_of}, Sending.sending, Leading.{had, brought}}
+use Rattle.send_encoding.specs.{Variables.{SendMapValue, map_of, steps_of, arrival, sent, arrivals, sends, link_number}, Sending.sending, Leading.{had, brought}}
 use Rattle.send_encoding.specs.Assigning.{arrival_values, send_values, extra_values, has_more_rounds, assigned}
 use Rattle.send_encoding.proofs.{Everywhere.{in_map, in_flat, From, in_range}, About.IsStepOf, Mapped.links_join, Grid.{rows_at, rows_length}}
 use Rattle.send_encoding.proofs.{Assigned.{assigned_length, arrival_value, sent_value, own_length}, Scheduled.schedule_moves}
 use Rattle.send_encoding.proofs.Complete.{sending_holds, if_true, not_true, one_true, passes_flat, passes_map, count_alike}
 use Rattle.round_encoding.specs.Frames.{Frame, frame_of, extra_round, own_variables}
-use Rattle.round_encoding.specs.Rounding.{count_of_rounds, count_of_group, counts_of, counters_after, extra_in_order, formula_of}
+use Rattle.round_encoding.specs.Rounding.{count_of_rounds, count_of_group, counts_in, counters_after, extra_in_order, formula_of}
 use Rattle.round_encoding.proofs.{Extras.{sending_about, order_about, extra_about, arrival_about}, Counted.all_counts, Counting.{Allows, counters_extend}}
 use Rattle.round_encoding.proofs.{Loaded.{table_loads, cells, good_cells, Good}, Rounds.{count_rounds, count_flat, beyond, no_fewer, one_step}}
 
@@ -113,11 +113,11 @@ module _ (t : TopologyValue) (pre post : PlacementValue) (s : ScheduleValue) (st
       let group = get_or t.groups i d in
       let links = links_join t pre steps in
       let r = rounds_at s k in
-      let g : ℕ × (ℕ × ℕ) → LitValue = λ z. sent m z.0 (number_of m z.1) k in
+      let g : ℕ × (ℕ × ℕ) → LitValue = λ z. sent m z.0 (link_number m z.1) k in
       let zs = cells t pre post s steps rounds nodes links range solves ok i d low in
       let inputs : (count_of_group f k group).inputs ≡ map g zs = map_cells g group.links 0 m.chunks in
-      let same = count_alike (is_true own) (λ z. x z.0 (number_of m z.1) k) (λ z. (z.0 < m.chunks) × Good t pre post s steps rounds nodes links range solves ok i d low z.1) g zs
-      (λ z at. sent_value m a x rest z.0 (number_of m z.1) k at.0 at.1.0.number step) (good_cells t pre post s steps rounds nodes links range solves ok i d low) in
+      let same = count_alike (is_true own) (λ z. x z.0 (link_number m z.1) k) (λ z. (z.0 < m.chunks) × Good t pre post s steps rounds nodes links range solves ok i d low z.1) g zs
+      (λ z at. sent_value m a x rest z.0 (link_number m z.1) k at.0 at.1.0.number step) (good_cells t pre post s steps rounds nodes links range solves ok i d low) in
       let loads = table_loads t pre post s steps rounds nodes links range solves ok i d low k step in
       let fits = solves.fits.within k step.from (omega (arith, step.to, solves.steps_are)) i d low in
       let count : ℕ = true_inputs own (count_of_group f k group).inputs in
@@ -142,7 +142,7 @@ module _ (t : TopologyValue) (pre post : PlacementValue) (s : ScheduleValue) (st
             ∙ and_from (all_hold w (map (λ j. negation (o (group.width * j + 1)) ∷ extra_round f k j ∷ []) (range_with_len 1 f.extra))) (all_hold w ((negation (o last) ∷ []) ∷ [])) first_part last_part;
       }
 
-  counts_allowed : All (Allows own) (counts_of f t)
+  counts_allowed : All (Allows own) (counts_in f t)
   counts_allowed =
       All-append (Allows own) (if nat_lt 0 f.extra then count_of_rounds f ∷ [] else []) (flat_map (λ k. map (count_of_group f k) t.groups) (steps_of m))
       (rounds_if (nat_lt 0 f.extra))
@@ -158,21 +158,21 @@ module _ (t : TopologyValue) (pre post : PlacementValue) (s : ScheduleValue) (st
   pub complete : (values : List Bool) × Satisfies values (formula_of t pre post steps rounds) × ((c n k : ℕ) → c < pre.chunks → n < t.nodes → k ≤ steps → is_true values (arrival m c n k) ≡ had pre s c n k)
   complete =
       let links = links_join t pre steps in
-      let found = counters_extend (own_variables f) own own_is (counts_of f t) [] (all_counts t pre steps rounds ok chunks some) counts_allowed in
+      let found = counters_extend (own_variables f) own own_is (counts_in f t) [] (all_counts t pre steps rounds ok chunks some) counts_allowed in
       let later = found.0 in
       let plain : own ++ [] ≡ own = append-nil own in
       let v = own ++ later in
       let before : length (own ++ []) ≡ own_variables f = ap length plain ∙ own_is in
       let whole : own ++ [] ++ later ≡ v = ap (λ u. u ++ later) plain in
-      let many : length v ≡ (counters_after (own_variables f) (counts_of f t)).vars = ap length (sym whole) ∙ found.1 ∙ ap (λ n. (counters_after n (counts_of f t)).vars) before in
-      let counters : all_hold v (counters_after (own_variables f) (counts_of f t)).clauses ≡ true =
-      subst (λ n. all_hold v (counters_after n (counts_of f t)).clauses ≡ true) before (subst (λ u. all_hold u (counters_after (length (own ++ [])) (counts_of f t)).clauses ≡ true) whole found.2) in
+      let many : length v ≡ (counters_after (own_variables f) (counts_in f t)).vars = ap length (sym whole) ∙ found.1 ∙ ap (λ n. (counters_after n (counts_in f t)).vars) before in
+      let counters : all_hold v (counters_after (own_variables f) (counts_in f t)).clauses ≡ true =
+      subst (λ n. all_hold v (counters_after n (counts_in f t)).clauses ≡ true) before (subst (λ u. all_hold u (counters_after (length (own ++ [])) (counts_in f t)).clauses ≡ true) whole found.2) in
       let sends_own = sending_holds m pre post a x own links (arrival_value m a x rest) (sent_value m a x rest) (schedule_moves t pre post s steps rounds nodes links range solves) in
       let sends : all_hold v (sending m pre post) ≡ true = clauses_same own later (sending m pre post) (subst (λ n. All (IsClause n) (sending m pre post)) (sym own_is) (sending_about f links pre post)) ∙ sends_own in
       let order : all_hold v (extra_in_order f) ≡ true = clauses_same own later (extra_in_order f) (subst (λ n. All (IsClause n) (extra_in_order f)) (sym own_is) (order_about f)) ∙ order_holds in
       let join : (xs ys : List (List LitValue)) → all_hold v xs ≡ true → all_hold v ys ≡ true → all_hold v (xs ++ ys) ≡ true =
       λ xs ys p q. list_all-append (clause_holds v) xs ys ∙ and_from (all_hold v xs) (all_hold v ys) p q in (
         v,
-        record { values_are = many; holds = join (sending m pre post ++ extra_in_order f) (counters_after (own_variables f) (counts_of f t)).clauses (join (sending m pre post) (extra_in_order f) sends order) counters },
+        record { values_are = many; holds = join (sending m pre post ++ extra_in_order f) (counters_after (own_variables f) (counts_in f t)).clauses (join (sending m pre post) (extra_in_order f) sends order) counters },
         λ c n k cl nl kl. old_is_same own later (arrival m c n k) (subst (λ w. IsAbout w (arrival m c n k)) (sym own_is) (arrival_about f c n k cl nl kl)) ∙ arrival_value m a x rest c n k cl nl kl,
       )

@@ -6,11 +6,11 @@ use Rattle.schedule.specs.{Links.{GroupValue, TopologyValue, IsTopology, IsBelow
 use Rattle.schedule.proofs.Placing.{holds-placed, pair_itself}
 use Rattle.cnf_formula.{specs.{Literals.{LitValue, yes, negation}, Formulas.{IsAbout, IsClause, IsFormula}}, proofs.Clauses.negation_about}
 use Rattle.cardinality.{specs.{Counting.output, Totalizers.totalizer_of}, proofs.{Totals.totalizer_is_counter, Wider.{clauses_more, clause_more, about_more}}}
-use Rattle.send_encoding.specs.{Variables.{SendMapValue, map_of, steps_of, sent, number_of}, Sending.sending}
+use Rattle.send_encoding.specs.{Variables.{SendMapValue, map_of, steps_of, sent, link_number}, Sending.sending}
 use Rattle.send_encoding.proofs.{Everywhere.{in_map, in_flat, From, in_range, some_in_flat, place_below}, Mapped.links_join}
 use Rattle.send_encoding.proofs.About.{one, two, only_clause, IsStepOf}
 use Rattle.round_encoding.specs.Frames.{Frame, frame_of, extra_round, own_variables}
-use Rattle.round_encoding.specs.Rounding.{Count, count_of_rounds, count_of_group, counts_of, counters_after, formula_of, extra_in_order}
+use Rattle.round_encoding.specs.Rounding.{Count, count_of_rounds, count_of_group, counts_in, counters_after, formula_of, extra_in_order}
 use Rattle.round_encoding.proofs.Extras.{sent_about, extra_about, sending_about, order_about}
 
 -- ---- counts in a row
@@ -68,16 +68,16 @@ module _ (f : Frame) where
     says = λ w o le outs. only_clause w (negation (o (f.extra + 1)) ∷ []) (one w (negation (o (f.extra + 1))) (negation_about w (o (f.extra + 1)) (outs (f.extra + 1) (omega arith) (omega arith))));
   }
 
-  some_links : (c s : ℕ) (links : List (ℕ × ℕ)) → 0 < length links → 0 < length (map (λ link. sent m c (number_of m link) s) links)
+  some_links : (c s : ℕ) (links : List (ℕ × ℕ)) → 0 < length links → 0 < length (map (λ link. sent m c (link_number m link) s) links)
   some_links c s [] some = absurd (omega (arith, some))
   some_links c s (link ∷ links) some = omega arith
 
-  pub group_counted : (s : ℕ) (group : GroupValue) → IsStepOf m s → 0 < m.chunks → 0 < length group.links → All (λ link. number_of m link < length m.links) group.links → IsCount v (count_of_group f s group)
+  pub group_counted : (s : ℕ) (group : GroupValue) → IsStepOf m s → 0 < m.chunks → 0 < length group.links → All (λ link. link_number m link < length m.links) group.links → IsCount v (count_of_group f s group)
   group_counted s group step chunks some places = record {
-    some = some_in_flat (λ c. map (λ link. sent m c (number_of m link) s) group.links) 0 m.chunks chunks (λ c. some_links c s group.links some);
-    about = in_flat (IsAbout v) (From 0 m.chunks) (λ c. map (λ link. sent m c (number_of m link) s) group.links) (range_with_len 0 m.chunks)
-        (λ c low. in_map (IsAbout v) (λ link. number_of m link < length m.links) (λ link. sent m c (number_of m link) s) group.links
-        (λ link at. sent_about f c (number_of m link) s (omega (arith, low.1)) at step) places) (in_range 0 m.chunks);
+    some = some_in_flat (λ c. map (λ link. sent m c (link_number m link) s) group.links) 0 m.chunks chunks (λ c. some_links c s group.links some);
+    about = in_flat (IsAbout v) (From 0 m.chunks) (λ c. map (λ link. sent m c (link_number m link) s) group.links) (range_with_len 0 m.chunks)
+        (λ c low. in_map (IsAbout v) (λ link. link_number m link < length m.links) (λ link. sent m c (link_number m link) s) group.links
+        (λ link at. sent_about f c (link_number m link) s (omega (arith, low.1)) at step) places) (in_range 0 m.chunks);
     says = λ w o le outs.
         let last : ℕ = group.width * (1 + f.extra) + 1 in
         All-append (IsClause w) (map (λ j. negation (o (group.width * j + 1)) ∷ extra_round f s j ∷ []) (range_with_len 1 f.extra)) ((negation (o last) ∷ []) ∷ [])
@@ -101,21 +101,21 @@ in_group t k j d e low few =
     let link = get_or group.links j e in
     list_any_at (λ g. has_link g link) t.groups k d low (list_any_at (same_pair link) group.links j e few (pair_itself link))
 
-pub placed_links : (t : TopologyValue) (pre : PlacementValue) (steps k : ℕ) (d : GroupValue) → IsTopology t → k < length t.groups → All (λ link. number_of (map_of t pre steps) link < length (usable_links t)) (get_or t.groups k d).links
+pub placed_links : (t : TopologyValue) (pre : PlacementValue) (steps k : ℕ) (d : GroupValue) → IsTopology t → k < length t.groups → All (λ link. link_number (map_of t pre steps) link < length (usable_links t)) (get_or t.groups k d).links
 placed_links t pre steps k d ok low = λ j e few.
     let link = get_or (get_or t.groups k d).links j e in
     place_below (same_pair link) (usable_links t) (link_listed t link (ok.nodes k d low j e few) (in_group t k j d e low few))
 
 -- a group has links, and each has its number
 abbrev Carries : TopologyValue → PlacementValue → ℕ → GroupValue → Type 0
-Carries t pre steps group = (0 < length group.links) × All (λ link. number_of (map_of t pre steps) link < length (usable_links t)) group.links
+Carries t pre steps group = (0 < length group.links) × All (λ link. link_number (map_of t pre steps) link < length (usable_links t)) group.links
 
 groups_carry : (t : TopologyValue) (pre : PlacementValue) (steps : ℕ) → IsTopology t → All (Carries t pre steps) t.groups
 groups_carry t pre steps ok k d low = let group = ok.groups k d low in (group.some, placed_links t pre steps k d ok low)
 
 -- ---- the formula
 
-pub all_counts : (t : TopologyValue) (pre : PlacementValue) (steps rounds : ℕ) → IsTopology t → 0 < pre.chunks → 0 < steps → All (IsCount (own_variables (frame_of t pre steps rounds))) (counts_of (frame_of t pre steps rounds) t)
+pub all_counts : (t : TopologyValue) (pre : PlacementValue) (steps rounds : ℕ) → IsTopology t → 0 < pre.chunks → 0 < steps → All (IsCount (own_variables (frame_of t pre steps rounds))) (counts_in (frame_of t pre steps rounds) t)
 all_counts t pre steps rounds ok chunks some =
     let f = frame_of t pre steps rounds in
     All-append (IsCount (own_variables f)) (if nat_lt 0 f.extra then count_of_rounds f ∷ [] else []) (flat_map (λ s. map (count_of_group f s) t.groups) (steps_of f.map))
@@ -132,11 +132,11 @@ pub is_formula : (t : TopologyValue) (pre post : PlacementValue) (steps rounds :
 is_formula t pre post steps rounds ok chunks some =
     let f = frame_of t pre steps rounds in
     let own : ℕ = own_variables f in
-    let counters = counters_after own (counts_of f t) in
+    let counters = counters_after own (counts_in f t) in
     let v : ℕ = counters.vars in
-    let more : own ≤ v = more_variables own (counts_of f t) in
+    let more : own ≤ v = more_variables own (counts_in f t) in
     let sends = clauses_more own v (sending f.map pre post) more (sending_about f (links_join t pre steps) pre post) in
     let order = clauses_more own v (extra_in_order f) more (order_about f) in
-    let counts = counts_about own own (counts_of f t) (omega arith) (all_counts t pre steps rounds ok chunks some) in
+    let counts = counts_about own own (counts_in f t) (omega arith) (all_counts t pre steps rounds ok chunks some) in
     All-append (IsClause v) (sending f.map pre post ++ extra_in_order f) counters.clauses
     (All-append (IsClause v) (sending f.map pre post) (extra_in_order f) sends order) counts

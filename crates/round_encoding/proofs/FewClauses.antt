@@ -7,7 +7,7 @@ use Rattle.cardinality.proofs.Lengths.{flat_length}
 use Rattle.send_encoding.specs.{Variables.{steps_of, sends}, Sending.sending}
 use Rattle.send_encoding.proofs.FewClauses as base
 use Rattle.round_encoding.specs.{Candidates.{IsCandidate, size_of, size_limit}, Frames.{Frame, frame_of, own_variables, extra_round}}
-use Rattle.round_encoding.specs.Rounding.{counts_of, counters_after, extra_in_order, formula_of}
+use Rattle.round_encoding.specs.Rounding.{counts_in, counters_after, extra_in_order, formula_of}
 use Rattle.round_encoding.proofs.{FewCounters.{counts_space, counts_low}, LowCounts.{IsLow, counted_variables, counted_clauses}}
 use Rattle.round_encoding.proofs.Sizes.{cells, few_counted, few_variables, all_groups}
 
@@ -21,11 +21,11 @@ module _ (t : TopologyValue) (pre post : PlacementValue) (steps rounds : ℕ) (o
   abbrev f : Frame
   f = frame_of t pre steps rounds
 
-  low : All IsLow (counts_of f t)
+  low : All IsLow (counts_in f t)
   low = counts_low f t (omega (arith, ok.most)) ok.some ok.chunks ok.topology.groups
 
   variables : (formula_of t pre post steps rounds).vars < 2097152
-  variables = omega (arith, counted_variables (own_variables f) (counts_of f t) low, counts_space f t, few_variables t pre post steps rounds ok size)
+  variables = omega (arith, counted_variables (own_variables f) (counts_in f t) low, counts_space f t, few_variables t pre post steps rounds ok size)
 
   few_sending : length (sending f.map pre post) ≤ 256 * 16 * 4130 + sends f.map * 3
   few_sending =
@@ -41,14 +41,14 @@ module _ (t : TopologyValue) (pre post : PlacementValue) (steps rounds : ℕ) (o
 
   clauses : length (formula_of t pre post steps rounds).clauses < 1000000000
   clauses =
-      let counters = counters_after (own_variables f) (counts_of f t) in
+      let counters = counters_after (own_variables f) (counts_in f t) in
       omega (
         arith,
         length-append (sending f.map pre post ++ extra_in_order f) counters.clauses,
         length-append (sending f.map pre post) (extra_in_order f),
         few_sending,
         few_order,
-        counted_clauses (own_variables f) (counts_of f t) low,
+        counted_clauses (own_variables f) (counts_in f t) low,
         counts_space f t,
         few_counted t pre post steps rounds ok size,
         all_groups f t.groups,

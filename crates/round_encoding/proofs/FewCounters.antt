@@ -5,7 +5,7 @@ use Rattle.std.proofs.lemmas.{List.{Elements.{All-nil, All-cons, All-append}, Su
 use Rattle.schedule.specs.Links.{GroupValue, TopologyValue, IsGroup}
 use Rattle.cnf_formula.specs.Literals.{LitValue, negation}
 use Rattle.send_encoding.{specs.Variables.steps_of, proofs.{Everywhere.{in_map, in_flat, From, in_range}, Grid.rows_length}}
-use Rattle.round_encoding.specs.{inner.Counts.room, Frames.{Frame, extra_round}, Rounding.{Count, count_of_rounds, count_of_group, counts_of}}
+use Rattle.round_encoding.specs.{inner.Counts.room, Frames.{Frame, extra_round}, Rounding.{Count, count_of_rounds, count_of_group, counts_in}}
 use Rattle.round_encoding.proofs.{Carried.inputs_length, Counted.rounds_counted, LowCounts.{space, IsLow}}
 
 module _ (f : Frame) (few : f.extra ≤ 8) where
@@ -53,10 +53,10 @@ module _ (f : Frame) (t : TopologyValue) where
   space_if true = omega (arith, sum_by-cons space (count_of_rounds f) [], space_of_rounds f)
   space_if false = omega arith
 
-  pub counts_space : sum_by space (counts_of f t) ≤ f.map.steps * f.extra * (f.extra + 1) + f.map.steps * sum_by (room f) t.groups
+  pub counts_space : sum_by space (counts_in f t) ≤ f.map.steps * f.extra * (f.extra + 1) + f.map.steps * sum_by (room f) t.groups
   counts_space = omega (arith, sum_by-append space (own_rounds (nat_lt 0 f.extra)) all_groups, space_if (nat_lt 0 f.extra), space_of_steps f t.groups 1 f.map.steps)
 
-  pub counts_low : f.extra ≤ 8 → 0 < f.map.steps → 0 < f.map.chunks → All IsGroup t.groups → All IsLow (counts_of f t)
+  pub counts_low : f.extra ≤ 8 → 0 < f.map.steps → 0 < f.map.chunks → All IsGroup t.groups → All IsLow (counts_in f t)
   counts_low few steps chunks ok =
       All-append IsLow (own_rounds (nat_lt 0 f.extra)) all_groups (low_if (nat_lt 0 f.extra) refl)
       (in_flat IsLow (From 1 f.map.steps) (λ s. map (count_of_group f s) t.groups) (steps_of f.map)

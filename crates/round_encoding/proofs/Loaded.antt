@@ -4,7 +4,7 @@ use Rattle.std.{specs.List.{list_any, range_with_len}, proofs.lemmas.{Bool.{and_
 use Rattle.schedule.specs.{declared.hop.Hop.Hop, Links.{TopologyValue, GroupValue, IsTopology, has_link, is_usable, usable_links}, Fitting.load, Solving.Solves}
 use Rattle.schedule.specs.{Placed.{PlacementValue, same_pair}, Sends.{ScheduleValue, IsStep, IsInRange, link_of}}
 use Rattle.schedule.proofs.Placing.{pair_is, pair_itself, holds-placed}
-use Rattle.send_encoding.specs.{Variables.{SendMapValue, map_of, number_of}, Moving.{IsLinkOf, JoinsNodes}, Leading.{had, brought}}
+use Rattle.send_encoding.specs.{Variables.{SendMapValue, map_of, link_number}, Moving.{IsLinkOf, JoinsNodes}, Leading.{had, brought}}
 use Rattle.send_encoding.proofs.{Everywhere.{in_map, in_flat, From, in_range, place_below}, Members.{passes_at, member, count_weaker}, Scheduled.first}
 use Rattle.round_encoding.proofs.Twice.{any_count, meets_once}
 
@@ -17,14 +17,14 @@ module _ (t : TopologyValue) (pre post : PlacementValue) (s : ScheduleValue) (st
     abbrev pub group : GroupValue
     group = get_or t.groups i d
 
-    link_is : (link : ℕ × ℕ) → (link.0 < t.nodes) × (link.1 < t.nodes) × (is_usable t link ≡ true) → IsLinkOf m (number_of m link, link)
+    link_is : (link : ℕ × ℕ) → (link.0 < t.nodes) × (link.1 < t.nodes) × (is_usable t link ≡ true) → IsLinkOf m (link_number m link, link)
     link_is link at =
         let listed : list_any (same_pair link) (usable_links t) ≡ true = holds-placed t.nodes t.nodes (is_usable t) link at.0 at.1 ∙ at.2 in
-        record { number = place_below (same_pair link) (usable_links t) listed; from = at.0; to = at.1; is = pair_is link (get_or (usable_links t) (number_of m link) (0, 0)) (passes_at (same_pair link) (usable_links t) (0, 0) listed) }
+        record { number = place_below (same_pair link) (usable_links t) listed; from = at.0; to = at.1; is = pair_is link (get_or (usable_links t) (link_number m link) (0, 0)) (passes_at (same_pair link) (usable_links t) (0, 0) listed) }
 
     -- each link of the group is one of the map, and stands in the group
     abbrev pub Good : ℕ × ℕ → Type 0
-    Good link = IsLinkOf m (number_of m link, link) × (has_link group link ≡ true)
+    Good link = IsLinkOf m (link_number m link, link) × (has_link group link ≡ true)
 
     good : All Good group.links
     good = λ j e few.
@@ -40,11 +40,11 @@ module _ (t : TopologyValue) (pre post : PlacementValue) (s : ScheduleValue) (st
     good_cells = in_flat (λ z. (z.0 < m.chunks) × Good z.1) (From 0 m.chunks) (λ c. map (λ l. (c, l)) group.links) (range_with_len 0 m.chunks)
         (λ c at. in_map (λ z. (z.0 < m.chunks) × Good z.1) Good (λ l. (c, l)) group.links (λ l g. (omega (arith, at.1), g)) good) (in_range 0 m.chunks)
 
-    pub table_loads : (k : ℕ) → IsStep steps k → count_by (λ z. brought m pre s z.0 (number_of m z.1) k) cells ≤ load group k s.sends
+    pub table_loads : (k : ℕ) → IsStep steps k → count_by (λ z. brought m pre s z.0 (link_number m z.1) k) cells ≤ load group k s.sends
     table_loads k step =
         let hit = λ (z : ℕ × (ℕ × ℕ)) (h : Hop). eqb h.step k && (eqb h.chunk z.0 && same_pair (link_of h) z.1) in
-        let sent = count_weaker (λ z. brought m pre s z.0 (number_of m z.1) k) (λ z. list_any (hit z) s.sends) (λ z. (z.0 < m.chunks) × Good z.1) cells good_cells (λ z at h.
-        (and_parts (had pre s z.0 z.1.0 (k - 1)) (list_any (hit z) s.sends) (first t pre post s steps rounds nodes links range solves z.0 k (number_of m z.1, z.1) at.1.0 h).carries).1) in
+        let sent = count_weaker (λ z. brought m pre s z.0 (link_number m z.1) k) (λ z. list_any (hit z) s.sends) (λ z. (z.0 < m.chunks) × Good z.1) cells good_cells (λ z at h.
+        (and_parts (had pre s z.0 z.1.0 (k - 1)) (list_any (hit z) s.sends) (first t pre post s steps rounds nodes links range solves z.0 k (link_number m z.1, z.1) at.1.0 h).carries).1) in
         let once : (h : Hop) → count_by (λ z. hit z h) cells ≤ 1 = λ h.
         let fewer = count_weaker (λ z. hit z h) (λ z. eqb h.chunk z.0 && same_pair (link_of h) z.1) (λ z. (z.0 < m.chunks) × Good z.1) cells good_cells (λ z at u. (and_parts (eqb h.step k) (eqb h.chunk z.0 && same_pair (link_of h) z.1) u).1) in
         omega (arith, fewer, meets_once h.chunk (link_of h) group.links 0 m.chunks (ok.groups i d low).distinct) in

@@ -10,7 +10,7 @@ use Rattle.send_encoding.specs.{Variables.{SendMapValue, map_of, steps_of, arriv
 use Rattle.send_encoding.proofs.{Mapped.links_join, Grid.rows_length, Members.kept, Decoded.sends_tell, Ascending.{links_ascend, sends_ascend}}
 use Rattle.send_encoding.proofs.{Sound.{sending_says, flat_passes, map_passes, at_range, said_one, said_if, said_not}, Tightened.{is_tight, delivers}}
 use Rattle.round_encoding.specs.{Frames.{Frame, frame_of, extra_round, own_variables}, Decoding.decoded}
-use Rattle.round_encoding.specs.Rounding.{count_of_rounds, count_of_group, counts_of, counters_after, extra_in_order, formula_of}
+use Rattle.round_encoding.specs.Rounding.{count_of_rounds, count_of_group, counts_in, counters_after, extra_in_order, formula_of}
 use Rattle.round_encoding.proofs.{Counted.all_counts, ExtraRounds.{extra_said, first_unused, rounds_many, rounds_sum, rounds_each, rounds_at_least}}
 use Rattle.round_encoding.proofs.{Obeyed.{Obeys, both_hold, counters_obeyed, all_split, all_flat, all_map}, Crossing.load_counted}
 
@@ -25,16 +25,16 @@ module _ (t : TopologyValue) (pre post : PlacementValue) (steps rounds : ℕ) (v
   abbrev s : ScheduleValue
   s = decoded f values
 
-  parts : (all_hold values (sending m pre post) ≡ true) × (all_hold values (extra_in_order f) ≡ true) × (all_hold values (counters_after (own_variables f) (counts_of f t)).clauses ≡ true)
+  parts : (all_hold values (sending m pre post) ≡ true) × (all_hold values (extra_in_order f) ≡ true) × (all_hold values (counters_after (own_variables f) (counts_in f t)).clauses ≡ true)
   parts =
-      let p = both_hold values (sending m pre post ++ extra_in_order f) (counters_after (own_variables f) (counts_of f t)).clauses satisfied.holds in
+      let p = both_hold values (sending m pre post ++ extra_in_order f) (counters_after (own_variables f) (counts_in f t)).clauses satisfied.holds in
       let q = both_hold values (sending m pre post) (extra_in_order f) p.0 in
       (q.0, q.1, p.1)
 
   obeyed : All (Obeys values) (if nat_lt 0 f.extra then count_of_rounds f ∷ [] else []) × All (Obeys values) (flat_map (λ k. map (count_of_group f k) t.groups) (steps_of m))
   obeyed =
       all_split (Obeys values) (if nat_lt 0 f.extra then count_of_rounds f ∷ [] else []) (flat_map (λ k. map (count_of_group f k) t.groups) (steps_of m))
-      (counters_obeyed (own_variables f) values (own_variables f) (counts_of f t) (omega arith) (all_counts t pre steps rounds ok chunks some) parts.2)
+      (counters_obeyed (own_variables f) values (own_variables f) (counts_in f t) (omega arith) (all_counts t pre steps rounds ok chunks some) parts.2)
 
   -- ---- rounds
 

@@ -4,7 +4,7 @@ use Rattle.schedule.specs.{Links.{GroupValue, TopologyValue}, Placed.PlacementVa
 use Rattle.cnf_formula.specs.{Literals.{LitValue, yes, negation}, Formulas.FormulaValue}
 use Rattle.cardinality.specs.{Counting.output, Totalizers.totalizer_of}
 use Rattle.round_encoding.specs.{declared.encoding.Encoding.Encoding, Frames.{Frame, frame_of, extra_round, own_variables}}
-use Rattle.send_encoding.specs.{Variables.{map_of, arrivals, number_of, sends, steps_of, sent}, Sending.sending}
+use Rattle.send_encoding.specs.{Variables.{map_of, arrivals, link_number, sends, steps_of, sent}, Sending.sending}
 
 -- a step with j + 1 extra rounds has j of them
 abbrev pub extra_in_order : Frame → List (List LitValue)
@@ -31,13 +31,13 @@ output_at outputs t = slice_index_or outputs (t - 1) (yes 0)
 -- a group carries its width in a step's first round, and in each extra round that the step has
 abbrev pub count_of_group : Frame → ℕ → GroupValue → Count
 count_of_group f s group = record {
-  inputs = flat_map (λ c. map (λ link. sent f.map c (number_of f.map link) s) group.links) (range_with_len 0 f.map.chunks);
+  inputs = flat_map (λ c. map (λ link. sent f.map c (link_number f.map link) s) group.links) (range_with_len 0 f.map.chunks);
   bound = group.width * (1 + f.extra);
   says = λ o. map (λ j. negation (o (group.width * j + 1)) ∷ extra_round f s j ∷ []) (range_with_len 1 f.extra) ++ (negation (o (group.width * (1 + f.extra) + 1)) ∷ []) ∷ [];
 }
 
-abbrev pub counts_of : Frame → TopologyValue → List Count
-counts_of f t = (if nat_lt 0 f.extra then count_of_rounds f ∷ [] else []) ++ flat_map (λ s. map (count_of_group f s) t.groups) (steps_of f.map)
+abbrev pub counts_in : Frame → TopologyValue → List Count
+counts_in f t = (if nat_lt 0 f.extra then count_of_rounds f ∷ [] else []) ++ flat_map (λ s. map (count_of_group f s) t.groups) (steps_of f.map)
 
 -- the counters in their order, each with the next free variables
 abbrev pub counters_after : ℕ → List Count → FormulaValue
@@ -57,7 +57,7 @@ with_count f count =
 abbrev pub formula_of : TopologyValue → PlacementValue → PlacementValue → ℕ → ℕ → FormulaValue
 formula_of t pre post steps rounds =
     let f = frame_of t pre steps rounds in
-    let counters = counters_after (own_variables f) (counts_of f t) in
+    let counters = counters_after (own_variables f) (counts_in f t) in
     record { vars = counters.vars; clauses = sending f.map pre post ++ extra_in_order f ++ counters.clauses }
 
 -- the formula, with what its variables stand for

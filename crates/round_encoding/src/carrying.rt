@@ -3,7 +3,7 @@
 ghost use Rattle.std.specs.{Prelude.{◌≡◌, ◌+◌, ◌-◌, ◌*◌, ◌<◌, ◌≤◌, ◌∷◌, ◌++◌, [], All, length, map, OnOk, IfOk}, List.{flat_map, range_with_len}};
 ghost use Rattle.schedule.specs.Sends.{IsStep};
 ghost use Rattle.cnf_formula.specs.{Literals.negation, Formulas.{IsAbout, IsClause, with_clauses}};
-ghost use Rattle.send_encoding.specs.Variables.{sends, sent, number_of};
+ghost use Rattle.send_encoding.specs.Variables.{sends, sent, link_number};
 ghost use Rattle.round_encoding.specs.{Frames.{extra_round, own_variables}, Rounding.{count_of_group, output_at, with_count}, inner.Counts.said_of_group};
 
 use crate::OutOfMemory;
@@ -24,8 +24,8 @@ fn push_sends(
 ) -> Result<(), OutOfMemory>
     requires chunk { chunk < variables.now.chunks }
     requires step { IsStep variables.now.steps step }
-    requires links { All (λ link. number_of variables.now link < length variables.now.links) links.now }
-    ensures { OnOk result (inputs.new.items ≡ inputs.old.items ++ map (λ link. sent variables.now chunk (number_of variables.now link) step) links.now) }
+    requires links { All (λ link. link_number variables.now link < length variables.now.links) links.now }
+    ensures { OnOk result (inputs.new.items ≡ inputs.old.items ++ map (λ link. sent variables.now chunk (link_number variables.now link) step) links.now) }
 {
     for link in links {
         inputs.push(variables.sent_over(chunk, variables.number(*link), step))?;
@@ -41,8 +41,8 @@ fn sends_over_group(
     step: u8,
 ) -> Result<Vec<Lit>, OutOfMemory>
     requires step { IsStep variables.now.steps step }
-    requires links { All (λ link. number_of variables.now link < length variables.now.links) group.now.links }
-    ensures { IfOk result (λ v. v.items ≡ flat_map (λ c. map (λ link. sent variables.now c (number_of variables.now link) step) group.now.links) (range_with_len 0 variables.now.chunks)) }
+    requires links { All (λ link. link_number variables.now link < length variables.now.links) group.now.links }
+    ensures { IfOk result (λ v. v.items ≡ flat_map (λ c. map (λ link. sent variables.now c (link_number variables.now link) step) group.now.links) (range_with_len 0 variables.now.chunks)) }
 {
     let mut inputs = Vec::new(alloc);
     for chunk in 0..variables.chunks() {
@@ -109,7 +109,7 @@ pub(crate) fn count_group(
     requires small { formula.old.vars + variables.now.chunks * length group.now.links * (group.now.width * (1 + extra) + 1) < 2147483648 }
     requires chunks { 0 < variables.now.chunks }
     requires step { IsStep variables.now.steps step }
-    requires links { All (λ link. number_of variables.now link < length variables.now.links) group.now.links }
+    requires links { All (λ link. link_number variables.now link < length variables.now.links) group.now.links }
     requires few { extra ≤ 8 }
     ensures formula { OnOk result (formula.new ≡ with_count formula.old (count_of_group (record { map = variables.now; extra = extra }) step group.now)) }
     ensures few { OnOk result (formula.new.vars ≤ formula.old.vars + variables.now.chunks * length group.now.links * (group.now.width * (1 + extra) + 1)) }

@@ -3,7 +3,7 @@
 ghost use Rattle.std.specs.{Prelude.{◌≡◌, ◌+◌, ◌*◌, ◌<◌, ◌≤◌, ◌++◌, map, sum_by, OnOk}, List.flat_map};
 ghost use Rattle.schedule.specs.Sends.{IsStep};
 ghost use Rattle.send_encoding.specs.Variables.{arrivals, sends, steps_of};
-ghost use Rattle.round_encoding.specs.{Frames.own_variables, Rounding.{count_of_group, counts_of, extra_in_order}, inner.Counts.{with_counts, room, HasLinks}};
+ghost use Rattle.round_encoding.specs.{Frames.own_variables, Rounding.{count_of_group, counts_in, extra_in_order}, inner.Counts.{with_counts, room, HasLinks}};
 
 use crate::OutOfMemory;
 use crate::carrying::count_group;
@@ -73,7 +73,7 @@ pub(crate) fn encode_rounds(
     requires steps { 0 < variables.now.steps }
     requires links { HasLinks variables.now topology.now }
     requires few { extra ≤ 8 }
-    ensures { OnOk result (formula.new ≡ with_counts (record { vars = own_variables (record { map = variables.now; extra = extra }); clauses = formula.old.clauses ++ extra_in_order (record { map = variables.now; extra = extra }) }) (counts_of (record { map = variables.now; extra = extra }) topology.now)) }
+    ensures { OnOk result (formula.new ≡ with_counts (record { vars = own_variables (record { map = variables.now; extra = extra }); clauses = formula.old.clauses ++ extra_in_order (record { map = variables.now; extra = extra }) }) (counts_in (record { map = variables.now; extra = extra }) topology.now)) }
 {
     add_variables(formula, u32::from(variables.steps()) * u32::from(extra));
     extra_in_order(formula, variables, extra)?;

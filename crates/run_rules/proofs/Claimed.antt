@@ -216,12 +216,12 @@ answer_claimed part q f w Rest rest = elim (answers f part (candidates_within q)
 module _ (part : Part) (q : QuestionValue) (files : Files) (f : FrontierValue) (valid : IsFrontier q f) where
   point_follows : (p : PointValue) → Contains f.points p → Follows part (point_checked q) (λ p. Claim (IsSolvedBy q p.candidate p.schedule) (Denied ScheduleWrong part p.candidate)) p
   point_follows p at w Rest rest =
-      let point = All-contains (report.IsPoint q) f.points p valid.points at in
+      let point = All-contains (report.IsPrintedPoint q) f.points p valid.points at in
       last_claimed part (is_solution q p) (IsSolvedBy q p.candidate p.schedule) (ScheduleWrong, p.candidate) w Rest (solved_by q p point.has) (by_solution q p) (λ e. rest (not_refused (is_solution q p) (ScheduleWrong, p.candidate) e))
 
   mark_follows : All (λ p. point_checked q p ≡ Ok tt) f.points → (p : PointValue) → Contains f.points p → Follows part (mark_checked q f) (λ p. Claim (IsPoint q f.refuted p) (Denied MarkWrong part p.candidate)) p
   mark_follows solved p at w Rest rest =
-      let point = All-contains (report.IsPoint q) f.points p valid.points at in
+      let point = All-contains (report.IsPrintedPoint q) f.points p valid.points at in
       let solves = refused_not (is_solution q p) (ScheduleWrong, p.candidate) (All-contains (λ p. point_checked q p ≡ Ok tt) f.points p solved at) in
       let optimal = is_optimal q f p.candidate in
       let decides = optimal_decides q f p.candidate in

@@ -4,19 +4,19 @@ use Rattle.std.specs.List.{list_any}
 use Rattle.text_lines.specs.{Check.{◌>>=◌, refuse, need}, Text.line}
 use Rattle.collective_spec.specs.Collectives.{fits_kind}
 use Rattle.candidate_order.specs.Frontiers.{QuestionValue}
-use Rattle.topology_text.specs.{Answer.code_number as topology_number, Reading.topology_of, Spelling.spelling}
-use Rattle.report_form.specs.{Answer.code_number as report_number, Reading.report_of, Reports.ReportValue, Spelling.report_text}
+use Rattle.topology_text.specs.{Answer.topology_number, Reading.topology_of, Spelling.spelling}
+use Rattle.report_form.specs.{Answer.report_number, Reading.report_of, Reports.ReportValue, Spelling.report_text}
 use Rattle.round_encoding.specs.Candidates.{size_limit}
-use Rattle.candidate_formula.specs.{Sizes.size_of, Counts.counts_of}
+use Rattle.candidate_formula.specs.{Sizes.size_of, Counts.chunk_counts}
 use Rattle.replay_text.specs.{Showing.{shown_in, shown_text}, Points.programs_of_point}
-use Rattle.json_values.specs.{Json.printed, Answer.code_number as json_number}
+use Rattle.json_values.specs.{Json.printed, Answer.json_number}
 use Rattle.json_forms.specs.{TopologyForm.topology as topology_form, ReportForm.report as report_form, Reading.read_json}
 use Rattle.command_words.specs.declared.command.JsonWhat.TheVariants as what
 use Rattle.command_words.specs.declared.command.{RootWord.RootWord, SearchWords.SearchWords, PointWord.PointWord, Command.Command}
 use Rattle.command_words.specs.declared.fault.WordCode.TheVariants.{KeyMissing}
 use Rattle.command_words.specs.declared.command.Command.TheVariants as command
 use Rattle.run_rules.specs.declared.status.Status.{Status, TheVariants.{Done, BadWords, BadTopology, BadReport, Denied, TooLarge, NoCandidate, BadJson}}
-use Rattle.run_rules.specs.{Statuses.number_of, Refusals.{Refusal, refused_as, refused_word}, Audits.{IsAudited, audited}, Degraded.IsNewSearch}
+use Rattle.run_rules.specs.{Statuses.status_number, Refusals.{Refusal, refused_as, refused_word}, Audits.{IsAudited, audited}, Degraded.IsNewSearch}
 use Rattle.run_rules.specs.{Commands.IsOneOf, Ends.{answers_of, refusals_of}, Said.FilesValue, Answers.{IsAnswer, Says}}
 use Rattle.run_rules.specs.Tasks.{Task, Write, Synthesise, Audit, Try, Bound, Order, Degrade, fault_in, given_sets, is_allreduce, json_programs_in, point_in, programs_value, read_report, root_in, search_asked, searchable, task_of}
 use Rattle.run_rules.specs.Steps.{audit_in, degrade_in, programs_in, replay_in, whole_question, words_for}
@@ -47,7 +47,7 @@ module _ (P : Status → Type 0) where
   coded s number (Err e) h = h
 
   sized : P TooLarge → P NoCandidate → (q : QuestionValue) → With P (searchable q)
-  sized large none q = bind _ _ (refused (nat_lt size_limit (size_of q)) _ large) (λ _. refused (length (counts_of q) == 0) _ none)
+  sized large none q = bind _ _ (refused (nat_lt size_limit (size_of q)) _ large) (λ _. refused (length (chunk_counts q) == 0) _ none)
 
   rooted : P BadWords → (names : List (List ℕ)) (root : Option RootWord) → With P (root_in names root)
   rooted bad names None = tt
@@ -171,9 +171,9 @@ denied_in_row (command.Unjson what.Programs) bytes =
 -- ---- an answer
 
 one_more : (x : Status) (xs : List Status) (s : Status) → IsOneOf xs s → IsOneOf (x ∷ xs) s
-one_more x xs s there = either (number_of x == number_of s)
+one_more x xs s there = either (status_number x == status_number s)
   where
-    either : (b : Bool) → IsTrue (b || list_any (λ y. number_of y == number_of s) xs)
+    either : (b : Bool) → IsTrue (b || list_any (λ y. status_number y == status_number s) xs)
     either true = refl
     either false = there
 

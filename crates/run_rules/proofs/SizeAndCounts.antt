@@ -5,7 +5,7 @@ use Rattle.text_lines.specs.Check.{◌>>=◌, refuse}
 use Rattle.schedule.specs.Links.{TopologyValue}
 use Rattle.collective_spec.{specs.{declared.{collective.Collective.Collective, spec.Spec.Spec}, Collectives.{fits_kind, spec_of}}, proofs.Sized.fitting_kind}
 use Rattle.candidate_order.specs.{Frontiers.QuestionValue, Ranges.LimitsValue}
-use Rattle.candidate_formula.specs.{Counts.{allowed_up_to, counts_of}, Sizes.size_of}
+use Rattle.candidate_formula.specs.{Counts.{allowed_up_to, chunk_counts}, Sizes.size_of}
 use Rattle.round_encoding.specs.Candidates.{size_limit}
 use Rattle.topology_text.specs.Value.{NamedTopologyValue}
 use Rattle.report_form.specs.Reports.{WordsValue}
@@ -15,13 +15,13 @@ use Rattle.run_rules.specs.{declared.status.Status.TheVariants.{TooLarge, NoCand
 
 module _ (q : QuestionValue) where
   behind_size : Bool → Result (Unit {0}) Refusal
-  behind_size large = refuse large (refused_at TooLarge 0 (size_of q)) >>= (λ _. refuse (length (counts_of q) == 0) (refused_at NoCandidate 0 0))
+  behind_size large = refuse large (refused_at TooLarge 0 (size_of q)) >>= (λ _. refuse (length (chunk_counts q) == 0) (refused_at NoCandidate 0 0))
 
   too_large : (size : ℕ) → size ≡ size_of q → size_limit < size → searchable q ≡ Err (refused_at TooLarge 0 size)
   unfolding behind_size
   too_large size e large = ap behind_size (lt-ltb size_limit (size_of q) (subst (λ n. size_limit < n) e large)) ∙ ap (λ n. Err (refused_at TooLarge 0 n)) (sym e)
 
-  by_counts : (none : Bool) → size_of q ≤ size_limit → (length (counts_of q) == 0) ≡ none → searchable q ≡ refuse none (refused_at NoCandidate 0 0)
+  by_counts : (none : Bool) → size_of q ≤ size_limit → (length (chunk_counts q) == 0) ≡ none → searchable q ≡ refuse none (refused_at NoCandidate 0 0)
   unfolding behind_size
   by_counts none small e = ap behind_size (le-ltb size_limit (size_of q) small) ∙ ap (λ b. refuse b (refused_at NoCandidate 0 0)) e
 
@@ -52,7 +52,7 @@ module _ (w : WordsValue) (t : NamedTopologyValue) (collective : Collective) (li
 
   module _ (fits : fits_kind w.collective.kind t.custom ≡ true) (nodes : ℕ) (as_many : nodes ≡ t.topology.nodes) (counts : List ℕ) (listed : counts ≡ allowed_up_to limits.max_c collective.kind nodes) where
     -- the counts of the search are those of the kind of the words
-    counts_are : counts ≡ counts_of (whole_question w t)
+    counts_are : counts ≡ chunk_counts (whole_question w t)
     counts_are =
         listed ∙ ap (λ (x : LimitsValue). allowed_up_to x.max_c collective.kind nodes) within ∙ ap (λ (x : Collective). allowed_up_to w.limits.max_c x.kind nodes) same
         ∙ ap (allowed_up_to w.limits.max_c w.collective.kind) as_many ∙ sym (ap (λ kind. allowed_up_to w.limits.max_c kind t.topology.nodes) (fitting_kind w.collective t.custom fits))

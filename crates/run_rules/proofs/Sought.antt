@@ -3,7 +3,7 @@ use Rattle.std.proofs.Common.{◌≡◌, ◌⊎◌, inl, inr, ℕ, Bool, true, f
 use Rattle.text_lines.{specs.Check.{◌>>=◌, refuse}, proofs.Checks.{bind_ok, ok_is}}
 use Rattle.collective_spec.specs.Collectives.{fits_kind}
 use Rattle.topology_text.specs.{declared.fault.TopologyCode.{TopologyCode, TheVariants.OutOfMemory}, Value.NamedTopologyValue, Reading.topology_of}
-use Rattle.topology_text.specs.Answer.{code_number as topology_number}
+use Rattle.topology_text.specs.Answer.{topology_number}
 use Rattle.command_words.specs.declared.{command.SearchWords.SearchWords, fault.WordCode.TheVariants.CustomMismatch}
 use Rattle.report_form.specs.Reports.{WordsValue}
 use Rattle.run_rules.specs.{declared.status.Status.TheVariants.BadTopology, Refusals.{Refusal, refused_as, refused_at, refused_word}}

@@ -16,18 +16,18 @@ use Rattle.run_rules.specs.{declared.status.Status.{Status, TheVariants.Done}, S
 -- ---- the text
 
 -- the names of the nodes whose bits are set
-abbrev pub names_in : List (List ℕ) → ℕ → List (List ℕ)
-names_in names nodes = map (name_at names) (filter (has_bit nodes) (range_with_len 0 (length names)))
+abbrev pub names_of_set : List (List ℕ) → ℕ → List (List ℕ)
+names_of_set names nodes = map (name_at names) (filter (has_bit nodes) (range_with_len 0 (length names)))
 
 abbrev pub floor_words : List (List ℕ) → Floor → List (List ℕ)
-floor_words names floor = codes "floor" ∷ decimal floor.above ∷ decimal floor.below ∷ names_in names floor.nodes
+floor_words names floor = codes "floor" ∷ decimal floor.above ∷ decimal floor.below ∷ names_of_set names floor.nodes
 
 -- a candidate that is cut stands with the nodes of its first cut; the cuts and the floor are those of what is searched, by these sets of nodes: of a reduction, over the links turned round
 abbrev pub bound_lines : WordsValue → NamedTopologyValue → Sets → FrontierValue → List (List (List ℕ))
 bound_lines w t sets f =
     let q = searched_question (question_of w t Whole) in
     (codes "bound" ∷ codes "1" ∷ []) ∷ synth_words t.names w ∷ floor_words t.names (floor_of sets q.topology q.spec) ∷ part_words Whole
-    ∷ (flat_map (point_lines t.names) f.points ++ (map (λ x. codes "cut" ∷ candidate_words x.0 ++ names_in t.names x.1.nodes) (cuts_among sets q f.refuted) ++ (map refuted_words (uncut_among sets q f.refuted) ++ (map unknown_words f.unknown ++ (codes "end" ∷ []) ∷ []))))
+    ∷ (flat_map (point_lines t.names) f.points ++ (map (λ x. codes "cut" ∷ candidate_words x.0 ++ names_of_set t.names x.1.nodes) (cuts_among sets q f.refuted) ++ (map refuted_words (uncut_among sets q f.refuted) ++ (map unknown_words f.unknown ++ (codes "end" ∷ []) ∷ []))))
 
 unfoldable pub bound_text : WordsValue → NamedTopologyValue → Sets → FrontierValue → List ℕ
 bound_text w t sets f = text_of (bound_lines w t sets f)

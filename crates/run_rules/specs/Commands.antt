@@ -2,7 +2,7 @@
 use Rattle.std.specs.{Prelude.{◌==◌, ℕ, Bool, true, false, IsTrue, List, [], ◌∷◌, Result, Ok, Err}, List.list_any}
 use Rattle.command_words.specs.{declared.{command.Command.Command, fault.WordFault.WordFault}, Words.command_of}
 use Rattle.command_words.specs.declared.command.Command.TheVariants as command
-use Rattle.run_rules.specs.{declared.status.Status.Status, Statuses.number_of}
+use Rattle.run_rules.specs.{declared.status.Status.Status, Statuses.status_number}
 use Rattle.run_rules.specs.declared.status.Status.TheVariants.{BadWords, BadTopology, BadReport, TooLarge, NoCandidate, TooLong, BadJson}
 
 -- each command reads the source, but `family` and `trial`, which words alone decide
@@ -26,7 +26,7 @@ Ask such words = IsTrue (such (command_of words))
 
 -- the status is one of these
 abbrev pub IsOneOf : List Status → Status → Type 0
-IsOneOf statuses status = IsTrue (list_any (λ s. number_of s == number_of status) statuses)
+IsOneOf statuses status = IsTrue (list_any (λ s. status_number s == status_number status) statuses)
 
 -- the words, the text or the size of a search are refused, before the shelf is opened
 abbrev pub IsRefusal : Status → Type 0

@@ -3,17 +3,17 @@ use Rattle.std.specs.Prelude.{ℕ}
 use Rattle.run_rules.specs.declared.status.Status.{Status}
 use Rattle.run_rules.specs.declared.status.Status.TheVariants.{Done, OutOfMemory, BadWords, BadTopology, SourceFailed, SinkFailed, ShelfFailed, BadReport, Denied, TooLarge, NoCandidate, TooLong, BadJson}
 
-abbrev pub number_of : Status → ℕ
-number_of Done = 0
-number_of OutOfMemory = 1
-number_of BadWords = 2
-number_of BadTopology = 3
-number_of SourceFailed = 4
-number_of SinkFailed = 5
-number_of ShelfFailed = 6
-number_of BadReport = 7
-number_of Denied = 8
-number_of TooLarge = 9
-number_of NoCandidate = 10
-number_of TooLong = 11
-number_of BadJson = 12
+abbrev pub status_number : Status → ℕ
+status_number Done = 0
+status_number OutOfMemory = 1
+status_number BadWords = 2
+status_number BadTopology = 3
+status_number SourceFailed = 4
+status_number SinkFailed = 5
+status_number ShelfFailed = 6
+status_number BadReport = 7
+status_number Denied = 8
+status_number TooLarge = 9
+status_number NoCandidate = 10
+status_number TooLong = 11
+status_number BadJson = 12

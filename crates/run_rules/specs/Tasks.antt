@@ -5,15 +5,15 @@ use Rattle.text_lines.specs.Check.{◌>>=◌, refuse, need}
 use Rattle.serde_json.specs.Data.{Data}
 use Rattle.collective_spec.specs.{declared.kind.Kind.{Kind, TheVariants.Allreduce}, Collectives.fits_kind}
 use Rattle.candidate_order.specs.Frontiers.{QuestionValue, PointValue}
-use Rattle.topology_text.specs.{Value.NamedTopologyValue, Answer.code_number as topology_number, Reading.{topology_of, node_of}, Family.family_of}
+use Rattle.topology_text.specs.{Value.NamedTopologyValue, Answer.topology_number, Reading.{topology_of, node_of}, Family.family_of}
 use Rattle.topology_text.specs.Spelling.{spelling}
 use Rattle.report_form.specs.{declared.fault.ReportCode.ReportCode, Reports.{WordsValue, ReportValue, question_of}, Numbered.point_at, Reading.report_of}
-use Rattle.report_form.specs.{Answer.code_number as report_number, Spelling.report_text}
+use Rattle.report_form.specs.{Answer.report_number, Spelling.report_text}
 use Rattle.round_encoding.specs.Candidates.{size_limit}
-use Rattle.candidate_formula.specs.{Sizes.size_of, Counts.counts_of}
+use Rattle.candidate_formula.specs.{Sizes.size_of, Counts.chunk_counts}
 use Rattle.node_programs.specs.Programs.{programs_of}
 use Rattle.replay_text.specs.{Showing.{adding_of, nodes_of, shown_in, shown_text}, Points.programs_of_point}
-use Rattle.json_values.specs.{Answer.code_number as json_number, Json.printed}
+use Rattle.json_values.specs.{Answer.json_number, Json.printed}
 use Rattle.json_forms.specs.{Reading.read_json, TopologyForm.topology as topology_form, ReportForm.report as report_form}
 use Rattle.json_rules.specs.ProgramsJson.{programs_json}
 use Rattle.command_words.specs.declared.command.{JsonWhat.JsonWhat, RootWord.RootWord, SearchWords.SearchWords, PointWord.PointWord, Command.Command}
@@ -52,7 +52,7 @@ root_in names (Some root) = need (node_of names root.name) (refused_word Unknown
 abbrev pub searchable : QuestionValue → Result (Unit {0}) Refusal
 searchable q = do
   _ ← refuse (nat_lt size_limit (size_of q)) (refused_at TooLarge 0 (size_of q))
-  refuse (length (counts_of q) == 0) (refused_at NoCandidate 0 0)
+  refuse (length (chunk_counts q) == 0) (refused_at NoCandidate 0 0)
 
 -- the search of these words over the topology that the bytes spell: one with a pattern is for the kind custom, and only it
 abbrev pub search_asked : SearchWords → List ℕ → Result (WordsValue × NamedTopologyValue) Refusal

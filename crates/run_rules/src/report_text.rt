@@ -1,7 +1,7 @@
 //! The report that a text spells.
 
 ghost use Rattle.std.specs.Prelude.{◌≢◌, ◌≤◌, length, IfOk};
-ghost use Rattle.report_form.specs.Answer.{code_number as report_number};
+ghost use Rattle.report_form.specs.Answer.{report_number};
 ghost use Rattle.run_rules.specs.{Answers.Says, Read.IsReadAs, Refusals.{refusal_line, refused_at}, Tasks.{limit, read_report}};
 
 use crate::OutOfMemory;

@@ -1,7 +1,7 @@
 //! The statuses with which the program ends.
 
 ghost use Rattle.std.specs.Prelude.{◌≡◌};
-ghost use Rattle.run_rules.specs.Statuses.{number_of};
+ghost use Rattle.run_rules.specs.Statuses.{status_number};
 
 /// How a run ended. The number of a status is the program's exit status.
 #[derive(Clone, Copy, Debug, PartialEq, Eq)]
@@ -37,7 +37,7 @@ pub enum Status {
 impl Status {
     /// The exit status, from 0 to 12.
     pub fn number(self) -> u8
-        ensures { result ≡ number_of self }
+        ensures { result ≡ status_number self }
     {
         self as u8
     }

@@ -2,7 +2,7 @@
 use Rattle.std.proofs.Common.{◌≡◌, ℕ, ◌+◌, ◌≤◌, List, [], ◌∷◌, ◌++◌, length, refl, sym, ap, ◌∙◌, subst, ⊎_elim, arith, ◌↔◌, ◌<◌, IsTrue, Bool, true, false, not}
 use Rattle.std.proofs.lemmas.{Bool.{cases_lt, false≢true}, List.length-append}
 use Rattle.cnf_formula.specs.{Formulas.FormulaValue, Lines.ProofLineValue, Literals.LitValue}
-use Rattle.proof_rules.specs.{Held.{CheckerValue, start_of, is_empty}, Refuting.{is_fresh, with_line, SpentLog}, Learning.AllFresh}
+use Rattle.proof_rules.specs.{Held.{CheckerValue, start_of, has_none}, Refuting.{is_fresh, with_line, SpentLog}, Learning.AllFresh}
 use Rattle.proof_rules.proofs.InTurn.{are_learned_by}
 use Rattle.ledger_rules.specs.Logs.{learned}
 use Rattle.sat_core.specs.Ready.{AreWritten, IsOver}
@@ -12,7 +12,7 @@ pub all_learned : (lines : List ProofLineValue) (c : CheckerValue) → AllFresh 
 all_learned [] c f = refl
 all_learned (line ∷ lines) c f = rw (some line.lits f.0) (ap (λ ls. line ∷ ls) (all_learned lines (with_line c line) f.1))
   where
-    some : (clause : List LitValue) → is_fresh c clause ≡ true → not (is_empty clause) ≡ true
+    some : (clause : List LitValue) → is_fresh c clause ≡ true → not (has_none clause) ≡ true
     some [] h = absurd (false≢true h)
     some (l ∷ clause) h = refl
 

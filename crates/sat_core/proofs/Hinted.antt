@@ -4,7 +4,7 @@ use Rattle.std.proofs.lemmas.{Bool.{false≢true, cases_Bool}, List.{append_asso
 use Rattle.std.proofs.lemmas.List.Elements.{Contains-push_cases, Contains-append_right, All-nil, All-cons}
 use Rattle.list_laws.proofs.{Each.all_contained, Members.{Contains-cons, Contains-map}, Tests.few_kept}
 use Rattle.cnf_formula.specs.Literals.{LitValue, negation}
-use Rattle.proof_rules.specs.{Held.{Entry, clause_at}, Accepting.{Takes, Falsifies, Conflicts, leading, groups_from}}
+use Rattle.proof_rules.specs.{Held.{Entry, clause_at}, Accepting.{Takes, Falsifies, Conflicts, leading, hint_groups_from}}
 use Rattle.trail_core.{specs.{Assigned.{IsFalse, IsConsistent}, Trails.{StepValue, lits_of}}, proofs.Keeping.negated_twice}
 use Rattle.conflict_analysis.{specs.Learning.{number_of, hints_of, hints_to, IsOut, IsResolved, IsAnalysis}, proofs.Members.{here, cons_cases}}
 use Rattle.sat_core.{specs.inner.{Hints.{name_of, numbers_of, numbers_to}, Holding.AreNamed}, proofs.Members.{from_filter, found_by, not_found}}
@@ -104,11 +104,11 @@ leading_from names (s ∷ steps) conflict = ap (λ ids. name_of names s.reason �
 pub leading_numbers : (names : List ℕ) (resolved : StepValue → Bool) (steps : List StepValue) (conflict : ℕ) → leading (map (name names) (hints_to resolved steps conflict)) ≡ numbers_to names resolved steps conflict
 leading_numbers names resolved steps conflict = leading_from names (filter resolved steps) conflict
 
-no_groups_from : (names : List ℕ) (steps : List StepValue) (conflict place : ℕ) → groups_from place (map (name names) (map (λ s. pos (number_of s.reason)) steps ++ pos (conflict + 1) ∷ [])) ≡ []
+no_groups_from : (names : List ℕ) (steps : List StepValue) (conflict place : ℕ) → hint_groups_from place (map (name names) (map (λ s. pos (number_of s.reason)) steps ++ pos (conflict + 1) ∷ [])) ≡ []
 no_groups_from names [] conflict place = refl
 no_groups_from names (s ∷ steps) conflict place = no_groups_from names steps conflict (place + 1)
 
-pub no_groups : (names : List ℕ) (resolved : StepValue → Bool) (steps : List StepValue) (conflict place : ℕ) → groups_from place (map (name names) (hints_to resolved steps conflict)) ≡ []
+pub no_groups : (names : List ℕ) (resolved : StepValue → Bool) (steps : List StepValue) (conflict place : ℕ) → hint_groups_from place (map (name names) (hints_to resolved steps conflict)) ≡ []
 no_groups names resolved steps conflict place = no_groups_from names (filter resolved steps) conflict place
 
 -- ---- each is a name

@@ -3,8 +3,8 @@ use Rattle.std.proofs.Common.{◌≡◌, ℕ, ◌+◌, ◌<◌, ◌≤◌, true,
 use Rattle.std.proofs.lemmas.{Bool.{cases_lt, ne_eqb, or_right}, List.{get_or_append_left, get_or_push, length_push}}
 use Rattle.std.proofs.lemmas.List.Elements.{Contains-push, Contains-push_cases, Contains-append_left, All-head, All-tail, All-push}
 use Rattle.cnf_formula.specs.{Literals.LitValue, Formulas.FormulaValue, Lines.ProofLineValue, declared.line.LratLine.TheVariants.Addition}
-use Rattle.proof_rules.specs.{declared.verdict.LineVerdict.TheVariants.Accepted as AcceptedVerdict, Held.{Entry, CheckerValue, start_of, clause_at, is_empty}}
-use Rattle.proof_rules.specs.{Judging.verdict_of, Refuting.{is_fresh, with_line, after, Refutes}, Learning.AllFresh}
+use Rattle.proof_rules.specs.{declared.verdict.LineVerdict.TheVariants.Accepted as AcceptedVerdict, Held.{Entry, CheckerValue, start_of, clause_at, has_none}}
+use Rattle.proof_rules.specs.{Judging.verdict_of, Refuting.{is_fresh, with_line, after_lines, Refutes}, Learning.AllFresh}
 use Rattle.proof_rules.proofs.{InTurn.{after_more, implied_more, implied_accepted}, Kept.keeps_append}
 use Rattle.ledger_rules.specs.Logs.{checker_of}
 use Rattle.trail_core.specs.Meaning.{CoreValue}
@@ -15,7 +15,7 @@ use Rattle.list_laws.proofs.Places.{by_place_push}
 
 -- ---- one line more
 
-pub fresh_more : (lines : List ProofLineValue) (c : CheckerValue) (line : ProofLineValue) → AllFresh c lines → is_fresh (after c (map Addition lines)) line.lits ≡ true → AllFresh c (lines ++ line ∷ [])
+pub fresh_more : (lines : List ProofLineValue) (c : CheckerValue) (line : ProofLineValue) → AllFresh c lines → is_fresh (after_lines c (map Addition lines)) line.lits ≡ true → AllFresh c (lines ++ line ∷ [])
 fresh_more [] c line a f = (f, tt)
 fresh_more (l ∷ lines) c line a f = (a.0, fresh_more lines (with_line c l) line a.1 f)
 
@@ -138,7 +138,7 @@ ready_more base lines core core' awake awake' s line r l w f e g = record {
 pub refuted_by : (base : FormulaValue) (lines : List ProofLineValue) (line : ProofLineValue) → AreWritten base (lines ++ line ∷ []) → line.lits ≡ [] → Refutes (map Addition (lines ++ line ∷ [])) base
 refuted_by base lines line w e = record {
   accepted = implied_accepted (lines ++ line ∷ []) (start_of base) w.implied;
-  refuted = ap (λ c. c.refuted) (after_more lines (start_of base) line) ∙ or_right (checker_of base lines).refuted (is_empty line.lits) (ap is_empty e);
+  refuted = ap (λ c. c.refuted) (after_more lines (start_of base) line) ∙ or_right (checker_of base lines).refuted (has_none line.lits) (ap has_none e);
 }
 
 -- what is held stays so where other clauses of it sleep

@@ -6,7 +6,7 @@ use Rattle.std.proofs.lemmas.{List.Elements.{All-contains, Contains-push, Contai
 use Rattle.std.proofs.lemmas.Map.Steps.{length-le_from_distinct_below}
 use Rattle.list_laws.proofs.Members.{Contains-cons}
 use Rattle.cnf_formula.specs.{Literals.{LitValue, yes, no, has_literal, is_superset}, Formulas.{FormulaValue, IsAbout, IsClause}, Lines.ProofLineValue}
-use Rattle.proof_rules.specs.{Held.{Entry, CheckerValue, start_of, is_empty}, Refuting.{with_line, is_fresh, SpentLog}, Learning.{AllImplied, AllFresh}}
+use Rattle.proof_rules.specs.{Held.{Entry, CheckerValue, start_of, has_none}, Refuting.{with_line, is_fresh, SpentLog}, Learning.{AllImplied, AllFresh}}
 use Rattle.proof_rules.proofs.{InTurn.learned_in_turn, Verdicts.implied_by}
 use Rattle.conflict_analysis.proofs.Members.{here, cons_cases}
 use Rattle.sat_core.proofs.Members.{found_by, stands_by, not_found}
@@ -178,7 +178,7 @@ fresh_literal c (x ∷ clause) f = (x, here x clause)
 
 fresh_apart : (c : CheckerValue) (clause : List LitValue) (entry : Entry) → is_fresh c clause ≡ true → Contains c.held entry → is_superset clause entry.1 ≡ false
 fresh_apart c clause entry f i = ⊎_elim
-    (λ s. absurd (false≢true (sym (ap not (or_right (is_empty clause) (list_any (λ e. is_superset clause e.1) c.held) (any_by (λ e. is_superset clause e.1) c.held entry i s))) ∙ f)))
+    (λ s. absurd (false≢true (sym (ap not (or_right (has_none clause) (list_any (λ e. is_superset clause e.1) c.held) (any_by (λ e. is_superset clause e.1) c.held entry i s))) ∙ f)))
     (λ s. s)
     (cases_Bool (is_superset clause entry.1))
   where

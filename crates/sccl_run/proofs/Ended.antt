@@ -4,9 +4,9 @@ use Rattle.command_words.specs.declared.command.JsonWhat.TheVariants as what
 use Rattle.command_words.specs.{declared.{command.Command.Command, fault.WordFault.WordFault}, Words.command_of}
 use Rattle.command_words.specs.declared.command.Command.TheVariants as command
 use Rattle.text_lines.specs.Check.{◌>>=◌}
-use Rattle.report_form.specs.{Answer.code_number as report_number, Reports.ReportValue, Spelling.report_text, Reading.report_of}
+use Rattle.report_form.specs.{Answer.report_number, Reports.ReportValue, Spelling.report_text, Reading.report_of}
 use Rattle.report_laws.{specs.Shapes.ReadsAs, proofs.Readings.only_read_as}
-use Rattle.json_values.specs.{Answer.code_number as json_number, Json.printed}
+use Rattle.json_values.specs.{Answer.json_number, Json.printed}
 use Rattle.json_forms.{proofs.ReadJson.readers_alike, specs.ReportForm.report as report_form}
 use Rattle.run_rules.specs.{declared.status.Status.TheVariants.{BadJson, BadReport}, Commands.{Ask, reads_source}, Refusals.{Refusal, refused_as}}
 use Rattle.run_rules.specs.Tasks.{Task, Write, Reader, due, due_by, json_programs_in, report_by, task_by, words_asked}

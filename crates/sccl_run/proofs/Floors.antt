@@ -10,7 +10,7 @@ use Rattle.candidate_formula.specs.Searched.{searched_question}
 use Rattle.topology_text.specs.Value.{NamedTopologyValue}
 use Rattle.command_words.specs.declared.command.Command.TheVariants as command
 use Rattle.command_words.specs.Words.{command_of}
-use Rattle.report_form.specs.{Answer.code_number as report_number, Reports.{ReportValue, WordsValue, kind_of, question_of}, Reading.report_of}
+use Rattle.report_form.specs.{Answer.report_number, Reports.{ReportValue, WordsValue, kind_of, question_of}, Reading.report_of}
 use Rattle.report_laws.proofs.ReportAgain.{report_again}
 use Rattle.node_cuts.{specs.{declared.{floor.Floor.Floor, sets.Sets.Sets}, Floors.floor_of}, proofs.Flooring.floor_bounds}
 use Rattle.cut_bounds.proofs.{Bounded.sums_bound, Turned.floor_same}

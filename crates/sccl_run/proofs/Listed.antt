@@ -5,7 +5,7 @@ use Rattle.text_lines.specs.Check.{◌>>=◌, refuse}
 use Rattle.command_words.specs.declared.command.JsonWhat.TheVariants as what
 use Rattle.command_words.specs.{declared.{command.Command.Command, fault.WordFault.WordFault}, Words.command_of}
 use Rattle.command_words.specs.declared.command.Command.TheVariants as command
-use Rattle.run_rules.specs.{declared.status.Status.{Status, TheVariants.{OutOfMemory, BadWords, SourceFailed, SinkFailed, ShelfFailed, TooLong}}, Statuses.number_of}
+use Rattle.run_rules.specs.{declared.status.Status.{Status, TheVariants.{OutOfMemory, BadWords, SourceFailed, SinkFailed, ShelfFailed, TooLong}}, Statuses.status_number}
 use Rattle.run_rules.specs.{Commands.{IsOneOf, opens_shelf, reads_source}, Ends.{answers_of, ends_of}, Said.{FilesValue, IsSaid}, Answers.IsAnswer}
 use Rattle.run_rules.specs.{Refusals.{Refusal, refusal_line, refused_at, refused_word}, Steps.whole_text, Tasks.{due, limit, task_of}}
 use Rattle.run_rules.proofs.Ends.{With, command_ends}
@@ -17,9 +17,9 @@ use Rattle.sccl_run.proofs.{Dues.{due_command, due_refused}, Ended.same_reading}
 -- one of these, with others before it
 behind : (xs ys : List Status) (s : Status) → IsOneOf ys s → IsOneOf (xs ++ ys) s
 behind [] ys s there = there
-behind (x ∷ xs) ys s there = either (number_of x == number_of s) (behind xs ys s there)
+behind (x ∷ xs) ys s there = either (status_number x == status_number s) (behind xs ys s there)
   where
-    either : (b : Bool) → IsOneOf (xs ++ ys) s → IsTrue (b || list_any (λ y. number_of y == number_of s) (xs ++ ys))
+    either : (b : Bool) → IsOneOf (xs ++ ys) s → IsTrue (b || list_any (λ y. status_number y == status_number s) (xs ++ ys))
     either true more = refl
     either false more = more
 

@@ -5,14 +5,14 @@ use Rattle.list_laws.proofs.Each.{all_contained}
 use Rattle.outer_ports.specs.declared.part.Part.{Part}
 use Rattle.text_lines.specs.Check.{◌>>=◌, need, refuse}
 use Rattle.collective_spec.specs.Kinds.{takes_root}
-use Rattle.topology_text.specs.{Names.AreNames, Value.{NamedTopologyValue, IsNamed}, Answer.code_number as topology_number, Reading.topology_of}
+use Rattle.topology_text.specs.{Names.AreNames, Value.{NamedTopologyValue, IsNamed}, Answer.topology_number, Reading.topology_of}
 use Rattle.topology_text.specs.Spelling.{name_at, spelling}
 use Rattle.topology_text.proofs.{Laws.all_again, Links.node_again}
 use Rattle.candidate_formula.specs.Sizes.{size_of}
 use Rattle.candidate_order.{specs.Frontiers.{QuestionValue, FrontierValue, IsWithin, RightFrontier, Searched}, proofs.Frontiers.stands_alone}
 use Rattle.command_words.specs.{declared.{command.{Command.Command, SearchWords.SearchWords}, fault.WordCode.TheVariants.UnknownRoot}, Words.command_of}
 use Rattle.command_words.specs.declared.command.Command.TheVariants as command
-use Rattle.report_form.specs.{declared.fault.ReportCode.ReportCode, Answer.code_number as report_number, Spelling.report_text, Reading.report_of}
+use Rattle.report_form.specs.{declared.fault.ReportCode.ReportCode, Answer.report_number, Spelling.report_text, Reading.report_of}
 use Rattle.report_form.specs.{Reports.{ReportValue, WordsValue, IsFrontier, IsWords, IsReport, question_of}, Rows.broadcast_report}
 use Rattle.report_form.proofs.{Blamed.broadcast_valid, ReportTaken.report_take}
 use Rattle.report_laws.proofs.ReportAgain.{report_again}

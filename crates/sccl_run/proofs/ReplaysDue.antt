@@ -5,7 +5,7 @@ use Rattle.outer_ports.specs.declared.part.Part.{Part}
 use Rattle.candidate_order.specs.Frontiers.{PointValue}
 use Rattle.command_words.specs.declared.command.Command.TheVariants as command
 use Rattle.command_words.specs.declared.{command.PointWord.PointWord, fault.WordCode.TheVariants.UnknownPoint}
-use Rattle.report_form.specs.{declared.fault.ReportCode.ReportCode, Answer.code_number, Reports.{ReportValue, IsReport}, Spelling.report_text}
+use Rattle.report_form.specs.{declared.fault.ReportCode.ReportCode, Answer.report_number, Reports.{ReportValue, IsReport}, Spelling.report_text}
 use Rattle.report_form.specs.{Numbered.point_at, Reading.report_of}
 use Rattle.report_form.proofs.ReportTaken.{report_take}
 use Rattle.report_laws.proofs.{ReportAgain.report_again, FirstBlamed.first_is_blamed}
@@ -17,7 +17,7 @@ use Rattle.sccl_run.{specs.Laws.{AskReplay, IsRefusedText, IsTextOf}, proofs.Due
 
 module _ (asked : PointWord) (order : Option ℕ) (bytes : List ℕ) where
   read_as : Result ReportValue (ReportCode × ℕ) → Result Task Refusal
-  read_as x = refused_as BadReport code_number x >>= (λ r. replay_in r asked order)
+  read_as x = refused_as BadReport report_number x >>= (λ r. replay_in r asked order)
 
   -- what is due for a text that is read so
   replayed_by : (x : Result ReportValue (ReportCode × ℕ)) → report_of bytes ≡ x → replay_asked asked order bytes ≡ read_as x
@@ -28,7 +28,7 @@ module _ (asked : PointWord) (order : Option ℕ) (bytes : List ℕ) where
   unfolding read_as
   replayed_of r e = replayed_by (Ok r) e
 
-  replayed_refused : (code : ReportCode) (line : ℕ) → report_of bytes ≡ Err (code, line) → replay_asked asked order bytes ≡ Err (refused_at BadReport (code_number code) line)
+  replayed_refused : (code : ReportCode) (line : ℕ) → report_of bytes ≡ Err (code, line) → replay_asked asked order bytes ≡ Err (refused_at BadReport (report_number code) line)
   unfolding read_as
   replayed_refused code line e = replayed_by (Err (code, line)) e
 

@@ -2,8 +2,8 @@
 use Rattle.std.proofs.Common.{◌≡◌, ◌⊎◌, ◌≤◌, ◌++◌, ℕ, Bool, true, false, IsTrue, nat_lt, length, List, [], inl, inr, Result, Ok, Err, refl, sym, subst, ap, ◌∙◌}
 use Rattle.std.proofs.lemmas.List.{take_all, Elements.All-contains}
 use Rattle.text_lines.specs.Check.{◌>>=◌, need, refuse}
-use Rattle.topology_text.specs.{Answer.code_number as topology_number, Reading.topology_of, Value.NamedTopologyValue, Spelling.spelling}
-use Rattle.json_values.specs.{Answer.code_number as json_number, Json.printed}
+use Rattle.topology_text.specs.{Answer.topology_number, Reading.topology_of, Value.NamedTopologyValue, Spelling.spelling}
+use Rattle.json_values.specs.{Answer.json_number, Json.printed}
 use Rattle.json_forms.specs.{Reading.read_json, TopologyForm.topology as topology_form, ReportForm.report as report_form}
 use Rattle.outer_ports.specs.Shelf.{FilesStay}
 use Rattle.candidate_order.{specs.Frontiers.{RightFrontier, IsSolvable}, proofs.Frontiers.better_refuted}

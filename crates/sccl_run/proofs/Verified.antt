@@ -6,14 +6,14 @@ use Rattle.outer_ports.specs.{declared.part.Part.Part, Files.Files, Shelf.FilesS
 use Rattle.outer_ports.specs.declared.part.Part.TheVariants as part
 use Rattle.collective_spec.specs.declared.kind.Kind.TheVariants as kind
 use Rattle.candidate_order.specs.Frontiers.{FrontierValue}
-use Rattle.topology_text.specs.{Value.NamedTopologyValue, Answer.code_number as topology_number, Reading.topology_of}
+use Rattle.topology_text.specs.{Value.NamedTopologyValue, Answer.topology_number, Reading.topology_of}
 use Rattle.allreduce_join.specs.Joins.{Joins}
 use Rattle.command_words.specs.{declared.command.{SearchWords.SearchWords, Command.Command}, Words.command_of}
-use Rattle.json_values.specs.Answer.{code_number as json_number}
+use Rattle.json_values.specs.Answer.{json_number}
 use Rattle.json_forms.specs.{Reading.read_json, TopologyForm.topology as topology_form, ReportForm.report as report_form}
 use Rattle.command_words.specs.declared.command.JsonWhat.TheVariants as what
 use Rattle.command_words.specs.declared.command.Command.TheVariants as command
-use Rattle.report_form.specs.{Answer.code_number as report_number, Reports.{ReportValue, WordsValue, parts_of}, Reading.report_of, Spelling.report_text}
+use Rattle.report_form.specs.{Answer.report_number, Reports.{ReportValue, WordsValue, parts_of}, Reading.report_of, Spelling.report_text}
 use Rattle.report_laws.proofs.ReportAgain.{report_again}
 use Rattle.frontier_audit.specs.{Shelves.ShelfRight, Rights.{AreJoined, IsRight}, Parts.{IsRightPart, is_reduce, is_gather, points_of}, OwedFiles.Proves}
 use Rattle.frontier_audit.proofs.{Proved.proves_right, Right.right_verified}

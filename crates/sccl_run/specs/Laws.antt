@@ -5,7 +5,7 @@ use Rattle.candidate_order.specs.{declared.{candidate.Candidate.Candidate, mark.
 use Rattle.candidate_order.specs.Frontiers.{PointValue, FrontierValue, IsSolvable, IsWithin}
 use Rattle.command_words.specs.declared.command.Command.TheVariants as command
 use Rattle.command_words.specs.Words.{command_of}
-use Rattle.report_form.specs.{declared.fault.ReportCode.ReportCode, Answer.code_number, Reports.{ReportValue, IsReport, question_of}, Spelling.report_text}
+use Rattle.report_form.specs.{declared.fault.ReportCode.ReportCode, Answer.report_number, Reports.{ReportValue, IsReport, question_of}, Spelling.report_text}
 use Rattle.report_form.specs.First.{FailsFirstAt}
 use Rattle.run_rules.specs.{declared.status.Status.TheVariants.BadReport, Refusals.refused_at, Tasks.{due, limit}}
 use Rattle.sccl_run.specs.{TopCall.{CountValue, IsRun, RunValue}, Rows.all_tell}
@@ -42,5 +42,5 @@ pub record IsTextOf (r : ReportValue) (bytes : List ℕ) : Type 0 where
 pub record IsRefusedText (words : List (List ℕ)) (bytes : List ℕ) : Type 0 where
   pub code : ReportCode
   pub line : ℕ
-  pub due : due words bytes ≡ Err (refused_at BadReport (code_number code) line)
+  pub due : due words bytes ≡ Err (refused_at BadReport (report_number code) line)
   pub first : FailsFirstAt bytes line

@@ -7,7 +7,7 @@ ghost use Rattle.report_form.specs.Reports.{question_of};
 ghost use Rattle.topology_text.specs.Spelling.{name_at};
 ghost use Rattle.node_cuts.specs.Sides.{has_bit};
 ghost use Rattle.search_commands.specs.Bounded.{AreBounds};
-ghost use Rattle.run_rules.specs.{Bounds.{bound_text, floor_words, names_in}, Lines.cut_words};
+ghost use Rattle.run_rules.specs.{Bounds.{bound_text, floor_words, names_of_set}, Lines.cut_words};
 
 use crate::bounds::Bounds;
 use candidate_order::Candidate;
@@ -34,7 +34,7 @@ fn push_member(out: &mut Vec<u8>, names: &[Name], nodes: u16, node: u8) -> Resul
 /// Appends the names of the nodes whose bits are set, each behind a space.
 fn push_names(out: &mut Vec<u8>, names: &[Name], nodes: u16) -> Result<(), AllocError>
     requires few { length names.now ≤ 16 }
-    ensures { OnOk result (out.new.items ≡ out.old.items ++ fields (names_in names.now nodes)) }
+    ensures { OnOk result (out.new.items ≡ out.old.items ++ fields (names_of_set names.now nodes)) }
 {
     for node in 0..names.len() as u8 {
         push_member(out, names, nodes, node)?;

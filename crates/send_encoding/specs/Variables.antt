@@ -44,8 +44,8 @@ pub record IsSendMap (m : SendMapValue) : Type 0 where
   pub short : m.steps ≤ 255
 
 -- the number of a link, or that of all where it is not usable
-abbrev pub number_of : SendMapValue → ℕ × ℕ → ℕ
-number_of m link = position_or_len (same_pair link) m.links
+abbrev pub link_number : SendMapValue → ℕ × ℕ → ℕ
+link_number m link = position_or_len (same_pair link) m.links
 
 -- the number of each link between nodes below 16, among these
 abbrev pub numbers_among : List (ℕ × ℕ) → List ℕ

@@ -1,6 +1,6 @@
 ghost use Rattle.std.specs.{Prelude.{◌≡◌, ◌↔◌, ◌+◌, ◌<◌, ◌≤◌, true, length, IsSome, IfSome, IfOk}, List.list_any};
 ghost use Rattle.schedule.specs.{Links.usable_links, Placed.same_pair, Sends.IsStep};
-ghost use Rattle.send_encoding.specs.Variables.{SendMapValue, IsSendMap, arrival, arrivals, sent, sends, number_of};
+ghost use Rattle.send_encoding.specs.Variables.{SendMapValue, IsSendMap, arrival, arrivals, sent, sends, link_number};
 
 use crate::OutOfMemory;
 use crate::link_numbers::LinkNumbers;
@@ -87,7 +87,7 @@ impl SendMap {
         requires chunk { chunk < self.now.chunks }
         requires step { IsStep self.now.steps step }
         ensures usable { IsSome result ↔ (list_any (same_pair link) self.now.links ≡ true) }
-        ensures literal { IfSome result (λ lit. lit ≡ sent self.now chunk (number_of self.now link) step) }
+        ensures literal { IfSome result (λ lit. lit ≡ sent self.now chunk (link_number self.now link) step) }
     {
         let number = self.number(link);
         if number < self.links.len() {
@@ -131,7 +131,7 @@ impl SendMap {
 
     /// The number of a link, or that of all where it is not usable.
     pub fn number(&self, link: (u8, u8)) -> usize
-        ensures { result ≡ number_of self.now link }
+        ensures { result ≡ link_number self.now link }
     {
         self.links.number(link)
     }

@@ -9,7 +9,7 @@ use Rattle.text_lines.proofs.{Checks.{bind_ok, refuse_ok, need_ok, ok_is}, Disti
 use Rattle.text_lines.proofs.Numbers.{up_to_found, up_to_some}
 use Rattle.schedule.{specs.{Links.{IsLink, IsBelow, IsGroup}, Placed.same_pair}, proofs.Placing.{pair_is, pair_itself}}
 use Rattle.topology_text.specs.{declared.fault.TopologyCode.{TopologyCode, TheVariants.{UnknownNode, SelfLink, LinkTwice, WidthRange}}, Names.is_name}
-use Rattle.topology_text.specs.{Spelling.{name_at, link_word}, Reading.{both_sides, node_of, link_of, links_from, one_to_16}}
+use Rattle.topology_text.specs.{Spelling.{name_at, link_word}, Reading.{both_sides, node_of, link_read, links_from, one_to_16}}
 use Rattle.topology_text.proofs.{Front.{Names, name_free}, Sides.{pieces, sides}}
 
 -- ---- nodes
@@ -41,7 +41,7 @@ pub record Taken (names : List (List ℕ)) (word : List ℕ) (link : ℕ × ℕ)
   pub below : IsBelow (length names) link
   pub spelled : word ≡ link_word names link
 
-pub link_take : (names : List (List ℕ)) (word : List ℕ) (link : ℕ × ℕ) → link_of names word ≡ Ok link → Taken names word link
+pub link_take : (names : List (List ℕ)) (word : List ℕ) (link : ℕ × ℕ) → link_read names word ≡ Ok link → Taken names word link
 link_take names word link e =
     let (x, cut, e1) = bind_ok (sides word) _ link e in
     let (from, first, e2) = need_ok (node_of names x.0) UnknownNode _ link e1 in
@@ -54,7 +54,7 @@ link_take names word link e =
     let words : x.0 ++ 62 ∷ x.1 ≡ link_word names (from, to) = ap (λ a. a ++ 62 ∷ x.1) (sym spelled) ∙ ap (λ b. name_at names from ++ 62 ∷ b) (sym spelled_too) in
     subst (Taken names word) same (record { apart = record { apart = eqb-false from to differ }; below = record { from = low; to = high }; spelled = parts ∙ words })
 
-pub link_again : (names : List (List ℕ)) (link : ℕ × ℕ) → Names names → IsLink link → IsBelow (length names) link → link_of names (link_word names link) ≡ Ok link
+pub link_again : (names : List (List ℕ)) (link : ℕ × ℕ) → Names names → IsLink link → IsBelow (length names) link → link_read names (link_word names link) ≡ Ok link
 link_again names link ok apart below =
     let from_name : List ℕ = name_at names link.0 in
     let to_name : List ℕ = name_at names link.1 in
@@ -90,7 +90,7 @@ links_take names before [] links e ok =
     let same : before ≡ links = ok_is {C = TopologyCode} before links e in
     (ap (map (link_word names)) (sym same) ∙ sym (append-nil (map (link_word names) before)), subst (Links (length names)) same ok)
 links_take names before (word ∷ words) links e ok =
-    let (link, read, e1) = bind_ok (link_of names word) _ links e in
+    let (link, read, e1) = bind_ok (link_read names word) _ links e in
     let (fresh, e2) = refuse_ok (list_any (same_pair link) before) LinkTwice _ links e1 in
     let taken = link_take names word link read in
     let (all, valid) = links_take names (before ++ link ∷ []) words links e2 (push_link (length names) before link taken.apart taken.below fresh ok) in (

@@ -60,8 +60,8 @@ abbrev pub node_of : List (List ℕ) → List ℕ → Option ℕ
 node_of names name = position (bytes_eq name) names
 
 -- a name, `>` and a name, of two different nodes
-abbrev pub link_of : List (List ℕ) → List ℕ → Result (ℕ × ℕ) TopologyCode
-link_of names word = do
+abbrev pub link_read : List (List ℕ) → List ℕ → Result (ℕ × ℕ) TopologyCode
+link_read names word = do
   sides ← both_sides (slice_split (λ b. b == 62) word)
   from ← need (node_of names sides.0) UnknownNode
   to ← need (node_of names sides.1) UnknownNode
@@ -72,7 +72,7 @@ link_of names word = do
 abbrev pub links_from : List (List ℕ) → List (ℕ × ℕ) → List (List ℕ) → Result (List (ℕ × ℕ)) TopologyCode
 links_from names before [] = Ok before
 links_from names before (word ∷ words) = do
-  link ← link_of names word
+  link ← link_read names word
   _ ← refuse (list_any (same_pair link) before) LinkTwice
   links_from names (before ++ link ∷ []) words
 

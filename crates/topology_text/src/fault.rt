@@ -1,7 +1,7 @@
 //! Why a text is refused, and where.
 
 ghost use Rattle.std.specs.Prelude.{◌≡◌};
-ghost use Rattle.topology_text.specs.Answer.{code_number};
+ghost use Rattle.topology_text.specs.Answer.{topology_number};
 
 /// Why a text is no topology's, or was not read.
 #[derive(Clone, Copy, Debug, PartialEq, Eq)]
@@ -39,7 +39,7 @@ pub enum TopologyCode {
 impl TopologyCode {
     /// The number by which reports name the code, from 1 to 14 in the order of the variants.
     pub fn number(self) -> u32
-        ensures { result ≡ code_number self }
+        ensures { result ≡ topology_number self }
     {
         match self {
             TopologyCode::BadHeader => 1,

@@ -1,7 +1,7 @@
 //! The word of one link.
 
 ghost use Rattle.std.specs.{Prelude.{◌≡◌, ◌≤◌, ◌==◌, length}, List.slice_split};
-ghost use Rattle.topology_text.specs.Reading.{both_sides, node_of, link_of};
+ghost use Rattle.topology_text.specs.Reading.{both_sides, node_of, link_read};
 ghost use Rattle.text_lines.specs.Check.{Tells};
 
 use crate::fault::TopologyCode;
@@ -34,7 +34,7 @@ pub(crate) fn node_of(names: &IndexSet<Name>, name: &[u8]) -> Option<u8>
 
 pub(crate) fn link_of(names: &IndexSet<Name>, word: &[u8]) -> Result<(u8, u8), TopologyCode>
     requires { length names.now.keys ≤ 16 }
-    ensures { result ≡ link_of names.now.keys word.now }
+    ensures { result ≡ link_read names.now.keys word.now }
 {
     let (from, to) = sides_of(word)?;
     let Some(from) = node_of(names, from) else {

@@ -10,7 +10,7 @@ use Rattle.candidate_order.specs.{declared.{candidate.Candidate.Candidate, mark.
 use Rattle.candidate_order.specs.Frontiers.{QuestionValue, PointValue, UnknownValue, FrontierValue, given_up}
 use Rattle.candidate_order.specs.declared.mark.Mark.TheVariants as mark
 use Rattle.allreduce_join.specs.{Joins.{join_of, pairs_of}, Judging.joined_verdict_of}
-use Rattle.candidate_formula.specs.{Counts.counts_of, Pruned.is_cut_away}
+use Rattle.candidate_formula.specs.{Counts.chunk_counts, Pruned.is_cut_away}
 use Rattle.report_form.specs.{Tests.{is_better, is_no_worse}, Reports.{ReportValue, question_of}}
 use Rattle.proof_audit.specs.declared.verdict.FileVerdict.{FileVerdict, TheVariants.{Missing, Refused, Stands}}
 use Rattle.frontier_audit.specs.declared.verdict.Reason.{Reason, TheVariants.{CandidateMissing, JoinWrong, MarkWrong, ProofMissing, ScheduleWrong}}
@@ -43,7 +43,7 @@ mark_checked q f p = refuse (not (is_mark (is_optimal q f p.candidate) p.mark)) 
 
 -- the candidates of a step, by rounds and then by chunk count
 abbrev pub candidates_of_step : QuestionValue → ℕ → List Candidate
-candidates_of_step q s = flat_map (λ r. map (λ c. candidate_at s (r, c)) (counts_of q)) (range_with_len s (q.limits.k + 1))
+candidates_of_step q s = flat_map (λ r. map (λ c. candidate_at s (r, c)) (chunk_counts q)) (range_with_len s (q.limits.k + 1))
 
 -- ---- files
 

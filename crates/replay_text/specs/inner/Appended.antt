@@ -7,7 +7,7 @@ use Rattle.inversion.specs.{declared.verdict.SumVerdict.SumVerdict, Saying.{says
 use Rattle.bag_runs.specs.Stores.{StoreValue, bag_in, stored}
 use Rattle.node_programs.specs.{Machines.State, Runs.{operations, chosen}, Ended.machine_of}
 use Rattle.topology_text.specs.Spelling.{name_at}
-use Rattle.replay_text.specs.{Replay.{node_lines, numbered_steps, verdict_words}, Showing.{Shown, chunks_at, instance_at, is_copied, nodes_of, sum_words}}
+use Rattle.replay_text.specs.{Replay.{held_lines, numbered_steps, verdict_words}, Showing.{Shown, chunks_at, instance_at, is_copied, nodes_of, sum_words}}
 
 -- ---- parts of the lines of a step
 
@@ -73,7 +73,7 @@ more_lines names m steps (Some seed) = ordered_lines names m steps seed
 
 -- of a schedule that copies, from a placement
 abbrev pub placed_steps : List (List ℕ) → PlacementValue → ScheduleValue → List (List (List (List ℕ)))
-placed_steps names pre s = map (node_lines names) (run_of pre s)
+placed_steps names pre s = map (held_lines names) (run_of pre s)
 
 abbrev pub placed_lines : List (List ℕ) → PlacementValue → ScheduleValue → Verdict → Option ℕ → List (List (List ℕ))
 placed_lines names pre s v order =

@@ -2,7 +2,7 @@
 use Rattle.std.specs.{Prelude.{ℕ, ◌+◌, ◌*◌, ◌<◌, List, [], ◌∷◌, ◌++◌, length, map, All}, List.range_with_len}
 use Rattle.schedule.specs.Links.{GroupValue, TopologyValue}
 use Rattle.cnf_formula.specs.{Literals.{LitValue, negation}, Formulas.FormulaValue}
-use Rattle.send_encoding.specs.Variables.{SendMapValue, number_of}
+use Rattle.send_encoding.specs.Variables.{SendMapValue, link_number}
 use Rattle.round_encoding.specs.{Frames.{Frame, extra_round}, Rounding.{Count, with_count}}
 
 -- the formula with these counters, and what is said of them
@@ -20,4 +20,4 @@ room f group = f.map.chunks * length group.links * (group.width * (1 + f.extra) 
 
 -- each link of each group is one of the map
 abbrev pub HasLinks : SendMapValue → TopologyValue → Type 0
-HasLinks m t = All (λ group. All (λ link. number_of m link < length m.links) group.links) t.groups
+HasLinks m t = All (λ group. All (λ link. link_number m link < length m.links) group.links) t.groups

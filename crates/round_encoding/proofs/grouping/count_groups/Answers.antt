@@ -1,7 +1,7 @@
 use Rattle.std.proofs.{Common.{◌≡◌, ℕ, ◌<◌, [], All, length, get_or, arith, sym, ap, ◌∙◌, subst}, lemmas.List.{get_or_read, Sums.sum_by_more}}
 use Rattle.schedule.specs.Links.{GroupValue}
 use Rattle.round_encoding.{specs.{Frames.Frame, Rounding.{count_of_group, with_count}, inner.Counts.room}, proofs.Countings.counts_more}
-use Rattle.send_encoding.specs.Variables.{number_of}
+use Rattle.send_encoding.specs.Variables.{link_number}
 use Rattle.round_encoding.proofs.grouping.count_groups.Goals as goal
 
 pub count_group-requires-clause-links : goal.count_group-requires-clause-links
@@ -14,7 +14,7 @@ count_group-requires-clause-links c =
     let same : xs ≡ t.groups = c.groups-group-items.ensures.groups in
     let low : i < length t.groups = omega (arith, c.loop-group-test.true, ap length same) in
     let item : c.group-item.result ≡ get_or t.groups i d = get_or_read xs i c.group-item.result c.loop-group-test.true c.group-item.is d ∙ ap (λ ys. get_or ys i d) same in
-    subst (λ (g : GroupValue). All (λ link. number_of m link < length m.links) g.links) (sym item) (c.requires.links i d low)
+    subst (λ (g : GroupValue). All (λ link. link_number m link < length m.links) g.links) (sym item) (c.requires.links i d low)
 
 pub loop-group-preserved : goal.loop-group-preserved
 loop-group-preserved c =

@@ -1,13 +1,13 @@
 use Rattle.std.proofs.Common.{List, ℕ, [], ◌∷◌, ◌++◌, ◌∙◌, ap, codes, decimal}
 use Rattle.text_lines.specs.Text.{fields}
 use Rattle.report_printing.proofs.Pieces.{before}
-use Rattle.run_rules.specs.Bounds.{names_in}
+use Rattle.run_rules.specs.Bounds.{names_of_set}
 use Rattle.search_commands.proofs.Pieces.{pieces_are}
 use Rattle.search_commands.proofs.bound_printing.push_floor.Goals as goal
 
 pub returns : goal.returns
 returns c =
-    let names = names_in c.args.names.now c.args.floor.nodes in
+    let names = names_of_set c.args.names.now c.args.floor.nodes in
     let fraction : List (List ℕ) = decimal c.args.floor.above ∷ decimal c.args.floor.below ∷ [] in
     let a = c.args.out.now.items in
     let b1 = c.push_word.new.out.items in
