@@ -141,11 +141,9 @@ pub sends_of_their_own : (sets : Sets) (u : NodeSet) (t : TopologyValue) (s : Sc
     → count_by p (range_with_len 0 chunks) ≤ width_by sets u t * rounds
 sends_of_their_own sets u t s rounds chunks p fits rounds_are enter =
     let all : ℕ = length s.rounds in
-    let own : count_by p (range_with_len 0 chunks) ≤ count_by (λ h. nat_le 0 h.chunk && comes_in u s all h) s.sends = by_sends_of_their_own u s all p enter 0 chunks in
     let fewer : count_by (λ h. nat_le 0 h.chunk && comes_in u s all h) s.sends ≤ count_by (comes_in u s all) s.sends = no_fewer (λ h. nat_le 0 h.chunk && comes_in u s all h) (comes_in u s all) (λ h it. (and_parts (nat_le 0 h.chunk) (comes_in u s all h) it).1) s.sends in
-    let most : count_by (comes_in u s all) s.sends ≤ width_by sets u t * sum (take all s.rounds) = in_first_steps u s sets t fits all (omega arith) in
     let whole : width_by sets u t * sum (take all s.rounds) ≡ width_by sets u t * rounds = ap (λ k. width_by sets u t * k) (ap sum (take_all all s.rounds (omega arith)) ∙ rounds_are) in
-    omega (arith, own, fewer, most, whole)
+    omega (arith, by_sends_of_their_own u s all p enter 0 chunks, fewer, in_first_steps u s sets t fits all (omega arith), whole)
 
 -- what has to come in is no more than what can in the rounds of a schedule that solves
 pub needed_comes_in : (sets : Sets) (u : NodeSet) (t : TopologyValue) (pre post : PlacementValue) (s : ScheduleValue) (steps rounds : ℕ) → Solves t pre post s steps rounds → need_of u pre post ≤ width_by sets u t * rounds

@@ -2,28 +2,17 @@
 use Rattle.std.proofs.{Common.{◌≡◌, ℕ, ◌%◌, ◌<◌, ◌≤◌, Bool, true, refl, ⊎_elim, arith, ◌==◌, ◌&&◌, nat_le}, Math.Nat.{mod_self, mod-eq_of_lt}}
 use Rattle.std.proofs.lemmas.Bool.{and_from, and_parts, le-leb, leb-true, eq-eqb, eqb-true, cases_lt}
 use Rattle.collective_spec.specs.{declared.kind.Kind.Kind, Kinds.allows}
-use Rattle.collective_spec.specs.declared.kind.Kind.TheVariants.{Broadcast, Gather, Allgather, Scatter, Alltoall, Reduce, Reducescatter, Allreduce, Custom}
+use Rattle.collective_spec.specs.declared.kind.Kind.TheVariants.{Alltoall}
 use Rattle.node_cuts.specs.Floors.{least_count}
 
 pub least_allowed : (kind : Kind) (nodes : ℕ) → 0 < nodes → allows kind nodes (least_count kind nodes) ≡ true
-least_allowed Broadcast nodes some = refl
-least_allowed Gather nodes some = refl
-least_allowed Allgather nodes some = refl
-least_allowed Scatter nodes some = refl
 least_allowed Alltoall nodes some = and_from (nat_le 1 nodes) (nodes % nodes == 0) (le-leb 1 nodes (omega (arith, some))) (eq-eqb (nodes % nodes) 0 (mod_self nodes))
-least_allowed Reduce nodes some = refl
-least_allowed Reducescatter nodes some = refl
-least_allowed Allreduce nodes some = refl
-least_allowed Custom nodes some = refl
+least_allowed kind nodes some = refl
 
 positive : (c : ℕ) (b : Bool) → (nat_le 1 c && b) ≡ true → 1 ≤ c
 positive c b allowed = leb-true 1 c (and_parts (nat_le 1 c) b allowed).0
 
 pub least_least : (kind : Kind) (nodes c : ℕ) → allows kind nodes c ≡ true → least_count kind nodes ≤ c
-least_least Broadcast nodes c allowed = positive c true allowed
-least_least Gather nodes c allowed = positive c true allowed
-least_least Allgather nodes c allowed = positive c true allowed
-least_least Scatter nodes c allowed = positive c true allowed
 least_least Alltoall nodes c allowed =
     let parts = and_parts (nat_le 1 c) (c % nodes == 0) allowed in
     let even : c % nodes ≡ 0 = eqb-true (c % nodes) 0 parts.1 in
@@ -32,12 +21,7 @@ least_least Alltoall nodes c allowed =
     (λ (less : c < nodes). let itself : c % nodes ≡ c = mod-eq_of_lt less in absurd (omega (arith, even, itself, some)))
     (λ (no_less : nodes ≤ c). no_less)
     (cases_lt c nodes)
-least_least Reduce nodes c allowed = positive c true allowed
-least_least Reducescatter nodes c allowed = positive c true allowed
-least_least Allreduce nodes c allowed = positive c true allowed
-least_least Custom nodes c allowed = positive c true allowed
+least_least kind nodes c allowed = positive c true allowed
 
 pub least_positive : (kind : Kind) (nodes : ℕ) → 0 < nodes → 0 < least_count kind nodes
-least_positive kind nodes some =
-    let one : 1 ≤ least_count kind nodes = positive (least_count kind nodes) _ (least_allowed kind nodes some) in
-    omega (arith, one)
+least_positive kind nodes some = omega (arith, positive (least_count kind nodes) _ (least_allowed kind nodes some))

@@ -27,10 +27,6 @@ map_flat : {X Y Z : Type 0} (f : Y → Z) (g : X → List Y) (xs : List X) → m
 map_flat f g [] = refl
 map_flat f g (x ∷ xs) = map-append f (g x) (flat_map g xs) ∙ ap (λ ys. map f (g x) ++ ys) (map_flat f g xs)
 
-map_alike : {X Y : Type 0} (f g : X → Y) → ((x : X) → f x ≡ g x) → (xs : List X) → map f xs ≡ map g xs
-map_alike f g same [] = refl
-map_alike f g same (x ∷ xs) = ap (λ y. y ∷ map f xs) (same x) ∙ ap (λ ys. g x ∷ ys) (map_alike f g same xs)
-
 small_are : (nodes : ℕ) → map set_of (small_sides nodes) ≡ small_sets nodes
 small_are nodes =
     let rows : map set_of (two_sides nodes) ≡ flat_map (λ a. map (λ b n. n == a || n == b) (range_with_len (a + 1) (nodes - (a + 1)))) (range_with_len 0 nodes) =
@@ -50,9 +46,8 @@ complement_is (AllButTwo a b) = λ i. λ n. sym (not-not (n == a || n == b)) i
 pub listed_are : (nodes : ℕ) → map set_of (listed_sides nodes) ≡ node_sets Listed nodes
 listed_are nodes =
     let opposite : NodeSet → NodeSet = λ u. λ n. not (u n) in
-    let of_side : Side → NodeSet = λ side. opposite (set_of side) in
     let others : map set_of (map complement (small_sides nodes)) ≡ map opposite (small_sets nodes) =
-    map-map set_of complement (small_sides nodes) ∙ map_alike (λ (side : Side). set_of (complement side)) of_side complement_is (small_sides nodes)
+    map-map set_of complement (small_sides nodes) ∙ (λ i. map (λ side. complement_is side i) (small_sides nodes))
     ∙ sym (map-map opposite set_of (small_sides nodes)) ∙ ap (map opposite) (small_are nodes) in
     map-append set_of (small_sides nodes) (map complement (small_sides nodes))
     ∙ ap (λ us. us ++ map set_of (map complement (small_sides nodes))) (small_are nodes)

@@ -3,9 +3,6 @@ use Rattle.node_cuts.proofs.Filling.{kept_no, kept_yes}
 use Rattle.node_cuts.proofs.greedy.ascending.Goals as goal
 use Rattle.node_cuts.proofs.greedy.ascending.Goals.{then-cells-number+in_ok-push, else-cells-number}
 
-pub cells_of-cells-requires : goal.cells_of-cells-requires
-cells_of-cells-requires c k d inside = omega (arith, c.requires k d inside, c.groups.ensures.limits.limit)
-
 pub loop-number-preserved : goal.loop-number-preserved
 loop-number-preserved c =
     let p : ℕ → Bool = λ group. list_any (λ other. other == group) c.args.numbers.now in

@@ -69,9 +69,6 @@ returns-in-None c =
     ∙ ap (λ o. option_map_or (λ best. best_taken u t (length t.groups - (turn + 1)) (taken ++ best ∷ [])) o (ascending t taken)) (sym none)
     ∙ ap (λ n. best_taken u t n taken) (sym left) ∙ prior.2) c.ascending.ensures
 
-pub group_at-requires : goal.group_at-requires
-group_at-requires c = c.best_of.ensures.within c.in-Some.best c.in-Some.is
-
 pub loop-turn-preserved : goal.loop-turn-preserved
 loop-turn-preserved c =
     let t = c.args.topology.now in

@@ -1,4 +1,4 @@
-use Rattle.std.proofs.{Common.{◌≡◌, ◌/◌, ◌<◌, ℕ, Bool, true, List, Some, get_or, length, sym, ap, ◌∙◌, ⊎_elim, arith}, lemmas.Bool.cases_eq}
+use Rattle.std.proofs.{Common.{◌≡◌, ◌/◌, ◌<◌, ℕ, Bool, true, false, List, Some, below_more, get_or, length, sym, ap, ◌∙◌, arith}}
 use Rattle.std.proofs.lemmas.List.{get_or_default}
 use Rattle.node_cuts.{specs.{declared.measure.Measure.Measure, Tables.{TableValue, cut_at, no_measure}}, proofs.Tabled.{first_in, is_over, none_in}}
 use Rattle.node_cuts.proofs.table.CutTable.first_cut.Goals as goal
@@ -9,16 +9,11 @@ read_over v w place times r measure told same inside read is =
     ap (λ ms. is_over times r (get_or ms place no_measure)) (sym same) ∙ ap (is_over times r) (get_or_default v place no_measure measure inside ∙ sym read) ∙ sym is
 
 pub loop-place-preserved : goal.loop-place-preserved
-loop-place-preserved c k below =
+loop-place-preserved c =
     let times : ℕ = c.args.c / c.self.inside.least in
-    let place : ℕ = c.loop-place.place in
-    ⊎_elim
-    (λ (here : k ≡ place).
-    ap (λ j. is_over times c.args.r (get_or c.args.self.now.measures j no_measure)) here
-    ∙ read_over c.self.inside.measures.items c.args.self.now.measures place times c.args.r c.index.result.now c.refutes.result (ap (λ (v : TableValue). v.measures) c.self.view_is) (omega (arith, c.loop-place-test.true, c.len-place-end.ensures, c.self.inside.measures.ok)) c.index.ensures c.refutes.ensures
+    below_more (λ k. is_over times c.args.r (get_or c.args.self.now.measures k no_measure) ≡ false) c.loop-place.place c.loop-place.invariant
+    (read_over c.self.inside.measures.items c.args.self.now.measures c.loop-place.place times c.args.r c.index.result.now c.refutes.result (ap (λ (v : TableValue). v.measures) c.self.view_is) (omega (arith, c.loop-place-test.true, c.len-place-end.ensures, c.self.inside.measures.ok)) c.index.ensures c.refutes.ensures
     ∙ c.if-refutes.false)
-    (λ (other : k ≡ place → ⊥). c.loop-place.invariant k (omega (arith, below, other)))
-    (cases_eq k place)
 
 pub returns-then-refutes : goal.returns-then-refutes
 returns-then-refutes c sets t spec is some allowed =
