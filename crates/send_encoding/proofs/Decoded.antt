@@ -8,7 +8,7 @@ use Rattle.schedule.{specs.{declared.hop.Hop.Hop, Placed.same_pair, Sends.{IsSte
 use Rattle.cnf_formula.specs.Literals.{is_true}
 use Rattle.send_encoding.specs.{Variables.{SendMapValue, steps_of, sent}, Sent.{hop_over, sends_of}, Moving.{IsLinkOf, JoinsNodes}}
 use Rattle.send_encoding.specs.Telling.{IsTold, Tells}
-use Rattle.send_encoding.proofs.{Everywhere.{From, in_range, in_flat}, Complete.{numbered_are, link_listed}}
+use Rattle.send_encoding.proofs.{Everywhere.{From, in_range, in_flat}, Clauses.{numbered_are, link_listed}}
 
 flat_any : {X A : Type 0} (p : A → Bool) (g : X → List A) (xs : List X) → list_any p (flat_map g xs) ≡ list_any (λ x. list_any p (g x)) xs
 flat_any p g [] = refl

@@ -1,4 +1,5 @@
 pub mod Everywhere
+pub mod Clauses
 pub mod About
 pub mod Within
 pub mod Picking

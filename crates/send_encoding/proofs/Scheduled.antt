@@ -8,7 +8,7 @@ use Rattle.schedule.proofs.{Placing.{pair_is, holds-placed}, Stepping.{chunks-af
 use Rattle.send_encoding.specs.{Variables.{SendMapValue, map_of, links_into}, Moving.{IsLinkOf, JoinsNodes, Moves}}
 use Rattle.send_encoding.specs.Leading.{leads, had, carried, brought}
 use Rattle.send_encoding.proofs.{First.{some_leads, leader, one_leads, passes_once}, Members.{member, any_weaker, numbered_any, filter_any, kept, count_weaker}}
-use Rattle.send_encoding.proofs.Complete.{numbered_are}
+use Rattle.send_encoding.proofs.Clauses.{numbered_are}
 
 module _ (t : TopologyValue) (pre post : PlacementValue) (s : ScheduleValue) (steps rounds : ℕ) (nodes : pre.nodes ≡ t.nodes) (links : All (JoinsNodes (map_of t pre steps)) (usable_links t))
     (range : IsInRange pre.chunks pre.nodes s) (solves : Solves t pre post s steps rounds) where

@@ -10,7 +10,7 @@ use Rattle.cardinality.{specs.Counting.at_most_one_of, proofs.Pairs.pairs_decide
 use Rattle.send_encoding.specs.{Variables.{SendMapValue, steps_of, links_into, arrival, sent}, Moving.{IsLinkOf, Moves}}
 use Rattle.send_encoding.specs.inner.Parts.{node_arrives}
 use Rattle.send_encoding.specs.Sending.{at_start, keeps, at_end, send_over, sends_arrive, sends_into, arrives_by_sends, arrives_once, sending}
-use Rattle.send_encoding.proofs.{Members.{member, filter_any}, Complete.{any_alike, count_alike, link_listed}}
+use Rattle.send_encoding.proofs.{Members.{member, filter_any}, Complete.{any_alike, count_alike}, Clauses.link_listed}
 
 -- ---- what holds everywhere holds at each
 

@@ -7,7 +7,7 @@ use Rattle.schedule.specs.{declared.hop.Hop.Hop, Placed.{PlacementValue, IsPlace
 use Rattle.schedule.specs.{Running.after, Solving.Tight}
 use Rattle.schedule.proofs.{Placing.{IsBelow, pair_is, pair_itself, all_below}, Steps.steps_ordered, First.{Among, Contains-from_Among, among_kept}}
 use Rattle.send_encoding.specs.{Variables.{SendMapValue, links_into}, Moving.{IsLinkOf, JoinsNodes, Moves}, Telling.Tells}
-use Rattle.send_encoding.proofs.{Everywhere.by_recursion, Complete.link_listed, Running.run_is, Ascending.never_twice}
+use Rattle.send_encoding.proofs.{Everywhere.by_recursion, Clauses.link_listed, Running.run_is, Ascending.never_twice}
 
 some_counted : {X : Type 0} (p : X → Bool) (x : X) (xs : List X) → Among x xs → p x ≡ true → 1 ≤ count_by p xs
 some_counted p x xs among t =
