@@ -18,3 +18,4 @@ pub mod SteadyParts
 pub mod Cuts
 pub mod Filled
 pub mod FirstFault
+mod Words
