@@ -1,4 +1,4 @@
--- With which statuses the answer to what is due ends: those of the command's row.
+-- With which statuses the answer to what is due ends: done, or a refusal that is listed for the command.
 use Rattle.std.proofs.Common.{◌≡◌, ◌==◌, ◌||◌, ℕ, Bool, true, false, not, IsTrue, nat_lt, slice_get, length, List, [], ◌∷◌, Option, None, Some, Result, Ok, Err, refl, sym, subst, ◌∙◌, codes}
 use Rattle.std.specs.List.{list_any}
 use Rattle.text_lines.specs.{Check.{◌>>=◌, refuse, need}, Text.line}
@@ -72,52 +72,52 @@ module _ (P : Status → Type 0) where
 
 -- ---- command by command
 
-refused_in_row : (c : Command) (bytes : List ℕ) → With (IsOneOf (refusals_of c)) (task_of c bytes)
-refused_in_row (command.Synth kind word limits root kept) bytes =
+refused_as_listed : (c : Command) (bytes : List ℕ) → With (IsOneOf (refusals_of c)) (task_of c bytes)
+refused_as_listed (command.Synth kind word limits root kept) bytes =
     let P : Status → Type 0 = IsOneOf (refusals_of (command.Synth kind word limits root kept)) in
     bind P _ _ (sought P refl refl refl refl (record { kind = kind; kind_word = word; limits = limits; root = root }) bytes) (λ _. tt)
-refused_in_row command.Check bytes =
+refused_as_listed command.Check bytes =
     let P : Status → Type 0 = IsOneOf (refusals_of command.Check) in
     bind P _ _ (reported P refl bytes) (λ r. bind P _ _ (sized P refl refl (whole_question r.words r.topology)) (λ _. tt))
-refused_in_row (command.Replay number word order) bytes =
+refused_as_listed (command.Replay number word order) bytes =
     let P : Status → Type 0 = IsOneOf (refusals_of (command.Replay number word order)) in
     bind P _ _ (reported P refl bytes) (λ r. bind P _ _ (pointed P refl r (record { point = number; word = word })) (λ _. tt))
-refused_in_row (command.Programs number word) bytes =
+refused_as_listed (command.Programs number word) bytes =
     let P : Status → Type 0 = IsOneOf (refusals_of (command.Programs number word)) in
     bind P _ _ (reported P refl bytes) (λ r. bind P _ _ (pointed P refl r (record { point = number; word = word })) (λ _. tt))
-refused_in_row (command.Family kind size) bytes = tt
-refused_in_row (command.Trial n) bytes = tt
-refused_in_row (command.Bound kind word limits root all_sets) bytes =
+refused_as_listed (command.Family kind size) bytes = tt
+refused_as_listed (command.Trial n) bytes = tt
+refused_as_listed (command.Bound kind word limits root all_sets) bytes =
     let P : Status → Type 0 = IsOneOf (refusals_of (command.Bound kind word limits root all_sets)) in
     bind P _ _ (sought P refl refl refl refl (record { kind = kind; kind_word = word; limits = limits; root = root }) bytes) (λ _. tt)
-refused_in_row (command.Ordered kind word limits root) bytes =
+refused_as_listed (command.Ordered kind word limits root) bytes =
     let P : Status → Type 0 = IsOneOf (refusals_of (command.Ordered kind word limits root)) in
     bind P _ _ (sought P refl refl refl refl (record { kind = kind; kind_word = word; limits = limits; root = root }) bytes) (λ _. tt)
-refused_in_row (command.Degrade group group_word width width_word) bytes =
+refused_as_listed (command.Degrade group group_word width width_word) bytes =
     let P : Status → Type 0 = IsOneOf (refusals_of (command.Degrade group group_word width width_word)) in
     bind P _ _ (reported P refl bytes) (λ r. bind P _ _ (faulted P refl r group group_word width width_word) (λ _. bind P _ _ (sized P refl refl (whole_question r.words r.topology)) (λ _. tt)))
-refused_in_row (command.Json what.Topology point) bytes =
+refused_as_listed (command.Json what.Topology point) bytes =
     let P : Status → Type 0 = IsOneOf (refusals_of (command.Json what.Topology point)) in
     bind P _ _ (coded P BadTopology topology_number (topology_of bytes) refl) (λ _. tt)
-refused_in_row (command.Json what.Report point) bytes =
+refused_as_listed (command.Json what.Report point) bytes =
     let P : Status → Type 0 = IsOneOf (refusals_of (command.Json what.Report point)) in
     bind P _ _ (reported P refl bytes) (λ _. tt)
-refused_in_row (command.Json what.Programs point) bytes =
+refused_as_listed (command.Json what.Programs point) bytes =
     let P : Status → Type 0 = IsOneOf (refusals_of (command.Json what.Programs point)) in
     bind P _ _ (reported P refl bytes) (λ r. bind P _ _ (needed P point _ refl) (λ asked. bind P _ _ (pointed P refl r asked) (λ _. tt)))
-refused_in_row (command.Unjson what.Topology) bytes =
+refused_as_listed (command.Unjson what.Topology) bytes =
     let P : Status → Type 0 = IsOneOf (refusals_of (command.Unjson what.Topology)) in
     bind P _ _ (coded P BadJson json_number (read_json (topology_form []) topology_of bytes) refl) (λ _. tt)
-refused_in_row (command.Unjson what.Report) bytes =
+refused_as_listed (command.Unjson what.Report) bytes =
     let P : Status → Type 0 = IsOneOf (refusals_of (command.Unjson what.Report)) in
     bind P _ _ (coded P BadJson json_number (read_json (report_form []) report_of bytes) refl) (λ _. tt)
-refused_in_row (command.Unjson what.Programs) bytes =
+refused_as_listed (command.Unjson what.Programs) bytes =
     let P : Status → Type 0 = IsOneOf (refusals_of (command.Unjson what.Programs)) in
     bind P _ _ (coded P BadJson json_number (read_json (topology_form []) topology_of bytes) refl) (λ _. tt)
 
 -- and so is each refusal of a command
 pub refused_with : (c : Command) (bytes : List ℕ) (r : Refusal) → task_of c bytes ≡ Err r → IsOneOf (refusals_of c) r.status
-refused_with c bytes r e = subst (With (IsOneOf (refusals_of c))) e (refused_in_row c bytes)
+refused_with c bytes r e = subst (With (IsOneOf (refusals_of c))) e (refused_as_listed c bytes)
 
 -- only a report that is checked may be denied
 abbrev MayDeny : (Status → Type 0) → Result Task Refusal → Type 0
@@ -129,43 +129,43 @@ behind : {A : Type 0} (P : Status → Type 0) (x : Result A Refusal) (f : A → 
 behind P (Ok a) f g = g a
 behind P (Err r) f g = tt
 
-denied_in_row : (c : Command) (bytes : List ℕ) → MayDeny (IsOneOf (refusals_of c)) (task_of c bytes)
-denied_in_row (command.Synth kind word limits root kept) bytes =
+denied_as_listed : (c : Command) (bytes : List ℕ) → MayDeny (IsOneOf (refusals_of c)) (task_of c bytes)
+denied_as_listed (command.Synth kind word limits root kept) bytes =
     behind (IsOneOf (refusals_of (command.Synth kind word limits root kept))) (search_asked (record { kind = kind; kind_word = word; limits = limits; root = root }) bytes) (λ s. Ok (Synthesise s.0 s.1 kept)) (λ _. tt)
-denied_in_row command.Check bytes =
+denied_as_listed command.Check bytes =
     let P : Status → Type 0 = IsOneOf (refusals_of command.Check) in
     behind P (read_report bytes) audit_in (λ r. behind P (searchable (whole_question r.words r.topology)) (λ _. Ok (Audit r)) (λ _. refl))
-denied_in_row (command.Replay number word order) bytes =
+denied_as_listed (command.Replay number word order) bytes =
     let P : Status → Type 0 = IsOneOf (refusals_of (command.Replay number word order)) in
     let asked : PointWord = record { point = number; word = word } in
     behind P (read_report bytes) (λ r. replay_in r asked order) (λ r. behind P (point_in r asked) (λ p. Ok (Write (shown_text number (shown_in r p) order))) (λ _. tt))
-denied_in_row (command.Programs number word) bytes =
+denied_as_listed (command.Programs number word) bytes =
     let P : Status → Type 0 = IsOneOf (refusals_of (command.Programs number word)) in
     let asked : PointWord = record { point = number; word = word } in
     behind P (read_report bytes) (λ r. programs_in r asked) (λ r. behind P (point_in r asked) (λ p. Ok (Write (programs_of_point r number p))) (λ _. tt))
-denied_in_row (command.Family kind size) bytes = tt
-denied_in_row (command.Trial n) bytes = tt
-denied_in_row (command.Bound kind word limits root all_sets) bytes =
+denied_as_listed (command.Family kind size) bytes = tt
+denied_as_listed (command.Trial n) bytes = tt
+denied_as_listed (command.Bound kind word limits root all_sets) bytes =
     behind (IsOneOf (refusals_of (command.Bound kind word limits root all_sets))) (search_asked (record { kind = kind; kind_word = word; limits = limits; root = root }) bytes) (λ s. Ok (Bound s.0 s.1 (given_sets all_sets))) (λ _. tt)
-denied_in_row (command.Ordered kind word limits root) bytes =
+denied_as_listed (command.Ordered kind word limits root) bytes =
     behind (IsOneOf (refusals_of (command.Ordered kind word limits root))) (search_asked (record { kind = kind; kind_word = word; limits = limits; root = root }) bytes) (λ s. Ok (Order s.0 s.1)) (λ _. tt)
-denied_in_row (command.Degrade group group_word width width_word) bytes =
+denied_as_listed (command.Degrade group group_word width width_word) bytes =
     let P : Status → Type 0 = IsOneOf (refusals_of (command.Degrade group group_word width width_word)) in
     behind P (read_report bytes) (λ r. degrade_in r group group_word width width_word) (λ r. behind P (fault_in r group group_word width width_word) (λ _. searchable (whole_question r.words r.topology) >>= (λ _. Ok (Degrade r group width)))
     (λ _. behind P (searchable (whole_question r.words r.topology)) (λ _. Ok (Degrade r group width)) (λ _. refl)))
-denied_in_row (command.Json what.Topology point) bytes =
+denied_as_listed (command.Json what.Topology point) bytes =
     behind (IsOneOf (refusals_of (command.Json what.Topology point))) (refused_as BadTopology topology_number (topology_of bytes)) (λ t. Ok (Write (printed ((topology_form t.names).json t)))) (λ _. tt)
-denied_in_row (command.Json what.Report point) bytes =
+denied_as_listed (command.Json what.Report point) bytes =
     behind (IsOneOf (refusals_of (command.Json what.Report point))) (read_report bytes) (λ r. Ok (Write (printed ((report_form r.topology.names).json r)))) (λ _. tt)
-denied_in_row (command.Json what.Programs point) bytes =
+denied_as_listed (command.Json what.Programs point) bytes =
     let P : Status → Type 0 = IsOneOf (refusals_of (command.Json what.Programs point)) in
     behind P (read_report bytes) (λ r. json_programs_in r point) (λ r. behind P (need point (refused_word KeyMissing 0)) (λ asked. point_in r asked >>= (λ p. Ok (Write (printed (programs_value r asked.point p)))))
     (λ asked. behind P (point_in r asked) (λ p. Ok (Write (printed (programs_value r asked.point p)))) (λ _. tt)))
-denied_in_row (command.Unjson what.Topology) bytes =
+denied_as_listed (command.Unjson what.Topology) bytes =
     behind (IsOneOf (refusals_of (command.Unjson what.Topology))) (refused_as BadJson json_number (read_json (topology_form []) topology_of bytes)) (λ t. Ok (Write (spelling t))) (λ _. tt)
-denied_in_row (command.Unjson what.Report) bytes =
+denied_as_listed (command.Unjson what.Report) bytes =
     behind (IsOneOf (refusals_of (command.Unjson what.Report))) (refused_as BadJson json_number (read_json (report_form []) report_of bytes)) (λ r. Ok (Write (report_text r))) (λ _. tt)
-denied_in_row (command.Unjson what.Programs) bytes =
+denied_as_listed (command.Unjson what.Programs) bytes =
     behind (IsOneOf (refusals_of (command.Unjson what.Programs))) (refused_as BadJson json_number (read_json (topology_form []) topology_of bytes)) (λ t. Ok (Write (spelling t))) (λ _. tt)
 
 -- ---- an answer
@@ -199,4 +199,4 @@ answer_ends refusals (Ok (Degrade r group width)) files status text listed deny 
     audited_ends refusals r files status text (IsNewSearch r group width) (λ said. said.says.status) deny answer
 
 pub command_ends : (c : Command) (bytes : List ℕ) (files : FilesValue) (status : Status) (text : List ℕ) → IsAnswer (task_of c bytes) files status text → IsOneOf (answers_of c) status
-command_ends c bytes files status text = answer_ends (refusals_of c) (task_of c bytes) files status text (refused_in_row c bytes) (denied_in_row c bytes)
+command_ends c bytes files status text = answer_ends (refusals_of c) (task_of c bytes) files status text (refused_as_listed c bytes) (denied_as_listed c bytes)

@@ -1,4 +1,4 @@
--- With which statuses each command can end, and which commands change files: what follows for a run that is right. This project's own.
+-- With which statuses each command can end, and which commands change files: both follow for a run (laws of this crate and of the top call). This project's own.
 use Rattle.std.specs.Prelude.{Bool, true, false, if◌then◌else◌, List, [], ◌∷◌, ◌++◌, Result, Ok, Err}
 use Rattle.command_words.specs.declared.{command.Command.Command, fault.WordFault.WordFault}
 use Rattle.command_words.specs.declared.command.JsonWhat.TheVariants as what

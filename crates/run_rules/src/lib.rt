@@ -5,8 +5,8 @@
 mod answer;
 mod halt;
 mod laws;
+mod reading;
 mod report_text;
-mod row;
 mod search_text;
 mod searchable;
 mod status;
@@ -19,8 +19,8 @@ pub use laws::{
     answers_end_as_listed, audits_say_their_verdict, claims_and_checks_agree,
     faults_are_answered_by_the_checks, trials_are_proved,
 };
+pub use reading::reads_source;
 pub use report_text::{ReportText, report_of_text};
-pub use row::reads_source;
 pub use search_text::{Search, SearchText, bad_topology, search_of_text};
 pub use searchable::search_refusal;
 pub use status::Status;
