@@ -142,10 +142,9 @@ unmet_by core w l var read t s v h e r less = ⊎_elim
     low = let z = get_or_default w.marks l.var 0 read room in omega (arith, z, r, ap (λ x. get_or w.marks x read) e, less)
 
 -- it is known where it stands
-pub unmet_at : (core : CoreValue) (w : WalkValue) (l this : LitValue) (k place : ℕ) (read : List LitValue) → IsUnmet core w l k → this ≡ negation l → read ≡ trues core → place < length read → get_or read place this ≡ this → IsUnmet core w l place
-unmet_at core w l this k place read u e r lt is =
-    let within : place < length core.trail = omega (arith, lt, ap length r, lits_length core.trail) in
-    let at : lit_at core place ≡ negation l = sym (lit_read core place this within) ∙ ap (λ xs. get_or xs place this) (sym r) ∙ is ∙ e in
+pub unmet_at : (core : CoreValue) (w : WalkValue) (l this : LitValue) (k place : ℕ) → IsUnmet core w l k → this ≡ negation l → place < length core.trail → get_or (trues core) place this ≡ this → IsUnmet core w l place
+unmet_at core w l this k place u e within is =
+    let at : lit_at core place ≡ negation l = sym (lit_read core place this within) ∙ is ∙ e in
     record { formed = u.formed; sorted = u.sorted; low = u.low; at = record { within = within; is = at; var = ap (λ x. x.var) at }; room = u.room }
 
 module _ (core : CoreValue) (w : WalkValue) (l : LitValue) (k : ℕ) (places : List ℕ) (u : IsUnmet core w l k) (added : (j : ℕ) → HasPlace places j ↔ (HasPlace w.met_places j ⊎ (j ≡ k))) where

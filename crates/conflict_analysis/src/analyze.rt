@@ -124,11 +124,9 @@ pub fn line_at(
 {
     let id = u64::from(core.count()) + 1;
     walk.begin();
-    walk.places.note(core.trail());
     meet_all(core, walk, conflict)?;
     let point = walk_all(core, walk, implied)?;
     let mut lits = kept_lits(alloc, walk)?;
-    walk.places.settle(core.trail(), &lits);
     if let Some(point) = point {
         lits.push(point.negated())?;
     }

@@ -10,7 +10,6 @@ mod implied;
 mod level_point;
 mod meeting;
 mod place_set;
-mod places;
 mod seen;
 mod shrinking;
 mod sought;

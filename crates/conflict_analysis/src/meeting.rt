@@ -32,7 +32,7 @@ pub fn meet(core: &Core, walk: &mut Walk, lit: Lit) -> Result<(), OutOfMemory>
         return Ok(());
     }
     let this = lit.negated();
-    let place = walk.places.of(core.trail(), this);
+    let place = core.place(this);
     walk.met_places.insert(place)?;
     let level = core.level(this);
     if level == 0 {
@@ -87,7 +87,7 @@ pub fn met_below(walk: &Walk, place: usize) -> usize
     ensures met { HasPlace walk.now.met_places result }
     ensures highest { (k : ℕ) → result < k → k < place → HasPlace walk.now.met_places k → ⊥ }
 {
-    walk.met_places.below(place).unwrap()
+    walk.met_places.between(0, place).unwrap()
 }
 
 /// The highest place below another whose step waits with such a mark; there is one.
@@ -113,8 +113,7 @@ pub fn waiting_below(core: &Core, walk: &Walk, from: usize, mark: u8) -> usize
 pub fn met_between(walk: &Walk, from: usize, place: usize) -> Option<usize>
     ensures { IfSome result (λ next. (from ≤ next) × (next < place)) }
 {
-    let next = walk.met_places.below(place)?;
-    if next < from { None } else { Some(next) }
+    walk.met_places.between(from, place)
 }
 
 /// Takes a step for its reason.

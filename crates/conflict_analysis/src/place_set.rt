@@ -1,6 +1,6 @@
 //! Sets of places of a trail, whose highest place below another is found many places at a time.
 
-ghost use Rattle.std.specs.Prelude.{◌≡◌, ◌≢◌, ◌⊎◌, ◌↔◌, ℕ, ◌^◌, ◌<◌, IsBitSet, IsTrue, IfOk, OnOk, MatchOption, length, get_or};
+ghost use Rattle.std.specs.Prelude.{◌≡◌, ◌≢◌, ◌⊎◌, ◌↔◌, ℕ, ◌^◌, ◌<◌, ◌≤◌, IsBitSet, IsTrue, IfOk, OnOk, MatchOption, length, get_or, slice_set};
 ghost use Rattle.conflict_analysis.specs.PlaceSets.{HasPlace};
 
 use cnf_formula::OutOfMemory;
@@ -114,21 +114,49 @@ impl PlaceSet {
         Ok(word & bit == 0)
     }
 
-    /// The highest place of the set below another.
-    pub fn below(&self, place: usize) -> Option<usize>
-        ensures { MatchOption result
-            ((k : ℕ) → k < place → HasPlace self.now k → ⊥)
-            (λ p. (p < place) × HasPlace self.now p × ((k : ℕ) → p < k → k < place → HasPlace self.now k → ⊥)) }
+    /// Puts a word in the place of one that has no place.
+    fn set_word(&mut self, index: usize, word: u64) -> Result<(), OutOfMemory>
+        requires { index < length self.old }
+        ensures { OnOk result (self.new ≡ slice_set self.old index word) }
     {
-        let mut index = place / PLACES;
-        let mut word = bits_below(self.word(index), place % PLACES);
+        if word != 0 {
+            self.used.push(index)?;
+        }
+        self.words[index] = word;
+        Ok(())
+    }
+
+    /// Takes the places of another set from one place to another in the place of those that were
+    /// in; some beside these come too.
+    pub fn copy(&mut self, other: &PlaceSet, from: usize, to: usize) -> Result<(), OutOfMemory>
+        ensures { OnOk result ((k : ℕ) → from ≤ k → k ≤ to → HasPlace self.new k ↔ HasPlace other.now k) }
+    {
+        self.clear();
+        let last = to / PLACES;
+        self.reach(last)?;
+        for index in from / PLACES..last + 1 {
+            self.set_word(index, other.word(index))?;
+        }
+        Ok(())
+    }
+
+    /// The highest place of the set below another, if it is no lower than a third.
+    pub fn between(&self, from: usize, to: usize) -> Option<usize>
+        ensures { MatchOption result
+            ((k : ℕ) → from ≤ k → k < to → HasPlace self.now k → ⊥)
+            (λ p. (from ≤ p) × (p < to) × HasPlace self.now p × ((k : ℕ) → p < k → k < to → HasPlace self.now k → ⊥)) }
+    {
+        let lowest = from / PLACES;
+        let mut index = to / PLACES;
+        let mut word = bits_below(self.word(index), to % PLACES);
         while word == 0 {
-            if index == 0 {
+            if index <= lowest {
                 return None;
             }
             index -= 1;
             word = self.word(index);
         }
-        Some(PLACES * index + highest_bit(word))
+        let place = PLACES * index + highest_bit(word);
+        if place < from { None } else { Some(place) }
     }
 }

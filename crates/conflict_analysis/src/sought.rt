@@ -14,7 +14,7 @@ use trail_core::Core;
 /// which places of a level wait. Nothing but the length of a clause hangs on it.
 #[derive(Drop)]
 pub(crate) struct Sought {
-    /// The places of a level whose literals wait to be taken for their reasons, and are not kept.
+    /// The places of a level whose literals wait to be taken for their reasons.
     pub waiting: PlaceSet,
     /// By level how many of its literals that are kept were counted and not passed. Behind a walk
     /// all are 0, unless memory ran out on it.

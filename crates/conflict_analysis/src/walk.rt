@@ -4,7 +4,6 @@ ghost use Rattle.std.specs.Prelude.{◌≡◌, ℕ, ◌+◌, ◌<◌, ◌≤◌,
 ghost use Rattle.conflict_analysis.specs.{Met.IsRested, PlaceSets.HasPlace};
 
 use crate::place_set::PlaceSet;
-use crate::places::Places;
 use cnf_formula::{Lit, OutOfMemory};
 use std::alloc::Global;
 
@@ -39,8 +38,6 @@ pub struct Walk {
     pub met: Vec<Lit>,
     /// The places of the literals that were met, by which a walk finds the next one.
     pub(crate) met_places: PlaceSet,
-    /// Where the literals of the trail stand.
-    pub(crate) places: Places,
 }
 
 impl Walk {
@@ -57,7 +54,6 @@ impl Walk {
             zeros: 0,
             met: Vec::new(alloc),
             met_places: PlaceSet::new(alloc),
-            places: Places::new(alloc, vars)?,
         })
     }
 

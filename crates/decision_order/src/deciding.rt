@@ -1,6 +1,6 @@
 //! Which variable is decided next (VSIDS, VMTF), and as what (phase saving).
 
-ghost use Rattle.std.specs.Prelude.{◌≡◌, ℕ, ◌+◌, ◌<◌, ◌≤◌, length, IfOk, IfSome, MatchOption};
+ghost use Rattle.std.specs.Prelude.{◌≡◌, ℕ, ◌+◌, ◌<◌, ◌≤◌, All, length, IfOk, IfSome, MatchOption};
 ghost use Rattle.cnf_formula.specs.Literals.{no};
 ghost use Rattle.trail_core.specs.{Assigned.IsOpen, Meaning.trues};
 ghost use Rattle.decision_order.specs.inner.Orders.{IsVar};
@@ -196,21 +196,44 @@ impl Decider {
         an_open(core, self.vars)
     }
 
-    /// Gives the variable of a literal that is to be open again to the decisions that come, and
-    /// keeps its value. `Err` comes only where memory runs out.
-    pub fn release(&mut self, lit: Lit) -> Result<(), OutOfMemory>
-        requires { lit.var ≤ self.old }
+    /// Keeps the values that literals give their variables.
+    fn keep_values(&mut self, lits: &[Lit])
+        requires { All (λ lit. lit.var ≤ self.old) lits.now }
         ensures { self.new ≡ self.old }
     {
-        let var = lit.var();
-        self.phases[var as usize] = lit.positive();
+        for lit in lits {
+            self.phases[lit.var() as usize] = lit.positive();
+        }
+    }
+
+    /// Puts the inputs of some literals into the order. `Err` comes only where memory runs out.
+    fn insert_inputs(&mut self, lits: &[Lit]) -> Result<(), OutOfMemory>
+        requires { All (λ lit. lit.var ≤ self.old) lits.now }
+        ensures { self.new ≡ self.old }
+    {
+        for lit in lits {
+            if self.is_input(lit.var()) {
+                self.order.insert(lit.var())?;
+            }
+        }
+        Ok(())
+    }
+
+    /// Gives the variables of literals that are to be open again to the decisions that come, and
+    /// keeps their values. `Err` comes only where memory runs out.
+    pub fn release(&mut self, lits: &[Lit]) -> Result<(), OutOfMemory>
+        requires { All (λ lit. lit.var ≤ self.old) lits.now }
+        ensures { self.new ≡ self.old }
+    {
+        self.keep_values(lits);
         if let Some(queue) = &mut self.queue {
-            queue.insert(var);
+            queue.insert_all(lits);
         }
-        if self.mode == Mode::Focused || self.mode == Mode::Stable && !self.is_input(var) {
-            return Ok(());
+        match self.mode {
+            Mode::Opening => self.order.insert_all(lits),
+            Mode::Stable => self.insert_inputs(lits),
+            Mode::Focused => Ok(()),
         }
-        self.order.insert(var)
     }
 
     /// Gives all variables to the decisions that come. `Err` comes only where memory runs out.

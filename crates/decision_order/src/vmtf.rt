@@ -1,6 +1,6 @@
 //! Variables in the order of their last bump (VMTF).
 
-ghost use Rattle.std.specs.Prelude.{◌≡◌, ℕ, ◌+◌, ◌<◌, All, length, IfOk, IfSome};
+ghost use Rattle.std.specs.Prelude.{◌≡◌, ℕ, ◌+◌, ◌<◌, ◌≤◌, All, length, IfOk, IfSome};
 ghost use Rattle.decision_order.specs.inner.Orders.{IsVar};
 
 use cnf_formula::{Lit, OutOfMemory};
@@ -90,14 +90,21 @@ impl Queue {
         Some(var)
     }
 
-    /// Goes back to a variable, where it was passed.
-    pub fn insert(&mut self, var: u32)
-        requires { IsVar (self.old + 1) var }
+    /// Goes back to the latest variable of some literals, where it was passed.
+    pub fn insert_all(&mut self, lits: &[Lit])
+        requires { All (λ lit. lit.var ≤ self.old) lits.now }
         ensures { self.new ≡ self.old }
     {
-        if self.stamps[var as usize] > self.stamps[self.next as usize] {
-            self.next = var;
+        let mut next = self.next;
+        let mut latest = self.stamps[next as usize];
+        for lit in lits {
+            let stamp = self.stamps[lit.var() as usize];
+            if stamp > latest {
+                next = lit.var();
+                latest = stamp;
+            }
         }
+        self.next = next;
     }
 
     /// Notes variables that are to be bumped; those past the last are passed over. `Err` comes only
@@ -128,7 +135,7 @@ impl Queue {
     pub fn bump_met(&mut self)
         ensures { self.new ≡ self.old }
     {
-        self.met.sort_unstable();
+        self.met.sort_unstable_by_key(|met| met.0);
         for _ in 0..self.met.len() {
             let Some((_, var)) = self.met.pop() else {
                 break;

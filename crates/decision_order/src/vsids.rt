@@ -1,9 +1,9 @@
 //! Variables in the order of their activity (VSIDS).
 
-ghost use Rattle.std.specs.Prelude.{◌≡◌, ℕ, ◌+◌, ◌*◌, ◌<◌, All, length, IfOk, IfSome};
+ghost use Rattle.std.specs.Prelude.{◌≡◌, ℕ, ◌+◌, ◌*◌, ◌<◌, ◌≤◌, All, length, IfOk, IfSome};
 ghost use Rattle.decision_order.specs.inner.Orders.{IsVar};
 
-use cnf_formula::OutOfMemory;
+use cnf_formula::{Lit, OutOfMemory};
 use std::alloc::Global;
 use std::marker::Model;
 
@@ -162,6 +162,17 @@ impl Order {
             let place = self.heap.len();
             self.heap.push(var)?;
             rise(&mut self.heap, &mut self.places, &self.activity, var, place);
+        }
+        Ok(())
+    }
+
+    /// Puts the variables of literals in that are out. `Err` comes only where memory runs out.
+    pub fn insert_all(&mut self, lits: &[Lit]) -> Result<(), OutOfMemory>
+        requires { All (λ lit. lit.var ≤ self.old) lits.now }
+        ensures { self.new ≡ self.old }
+    {
+        for lit in lits {
+            self.insert(lit.var())?;
         }
         Ok(())
     }

@@ -31,10 +31,7 @@ pub fn release_from(core: &Core, decider: &mut Decider, from: usize) -> Result<(
     ensures { decider.new ≡ decider.old }
 {
     let trail = core.trail();
-    for place in from..trail.len() {
-        decider.release(trail[place])?;
-    }
-    Ok(())
+    decider.release(&trail[trail.len().min(from)..])
 }
 
 /// Gives the literals above a level to the decisions that come.

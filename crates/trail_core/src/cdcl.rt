@@ -162,6 +162,16 @@ impl Core {
         self.trail.level(lit)
     }
 
+    /// Where a true literal stands on the trail.
+    pub fn place(&self, lit: Lit) -> usize
+        requires { Contains (trues self.now) lit }
+        ensures within { result < length self.now.trail }
+        ensures is { get_or (trues self.now) result lit ≡ lit }
+        ensures only { (k : ℕ) → k < length self.now.trail → get_or (trues self.now) k lit ≡ lit → k ≡ result }
+    {
+        self.trail.place(lit)
+    }
+
     /// The clause that made a true literal so (its reason, or antecedent in the implication graph);
     /// none for a decision.
     pub fn reason(&self, lit: Lit) -> Option<ClauseId>

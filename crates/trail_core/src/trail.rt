@@ -20,12 +20,13 @@ const NEITHER: u8 = 3;
 /// The reason of a decision. No clause has this number.
 const NO_CLAUSE: u32 = u32::MAX;
 
-/// The decision level on which a variable got its value, and the number of the clause that gave
-/// it.
+/// The decision level on which a variable got its value, the number of the clause that gave it, and
+/// where its literal stands on the trail.
 #[derive(Clone, Copy)]
 pub(crate) struct Assignment {
     pub level: u32,
     pub reason: u32,
+    pub place: u32,
 }
 
 /// Variables with their values, and the literals that are true, level by level.
@@ -43,13 +44,13 @@ pub(crate) struct Trail {
 
 impl Model for Trail {
     ghost use Rattle.std.specs.Prelude.{◌≡◌, ◌+◌, ◌<◌, ◌≤◌, map, length, vec_capacity};
-    ghost use Rattle.trail_core.specs.{Trails.{TrailValue, step_of, IsAssigned, IsLeveled}, inner.Packed.{levels_of, reasons_of}};
+    ghost use Rattle.trail_core.specs.{Trails.{TrailValue, step_of, IsAssigned, IsLeveled, IsPlaced}, inner.Packed.{levels_of, reasons_of, places_of}};
 
     ghost Value = { TrailValue };
 
     ghost view = { λ a. record { vars = a.vars; steps = map (step_of (reasons_of a.assignments.items)) a.lits.items; limits = a.limits.items } };
 
-    ghost invariant = { λ a. IsAssigned a.vars a.values.items a.lits.items × IsLeveled a.vars (levels_of a.assignments.items) a.lits.items a.limits.items × (length a.assignments.items ≡ a.vars + 1) × (a.vars ≤ vec_capacity a.lits) × (a.vars ≤ vec_capacity a.limits) × (a.vars < 4294967296) };
+    ghost invariant = { λ a. IsAssigned a.vars a.values.items a.lits.items × IsLeveled a.vars (levels_of a.assignments.items) a.lits.items a.limits.items × (length a.assignments.items ≡ a.vars + 1) × (a.vars ≤ vec_capacity a.lits) × (a.vars ≤ vec_capacity a.limits) × (a.vars < 4294967296) × IsPlaced (places_of a.assignments.items) a.lits.items };
 }
 
 /// Gives a literal and its negation their values.
@@ -74,6 +75,7 @@ impl Trail {
         let decided = Assignment {
             level: 0,
             reason: NO_CLAUSE,
+            place: 0,
         };
         Ok(Trail {
             vars,
@@ -192,6 +194,16 @@ impl Trail {
         self.assignments[lit.var() as usize].level
     }
 
+    /// Where a true literal stands on the trail.
+    pub(crate) fn place(&self, lit: Lit) -> usize
+        requires { Contains (lits_of self.now.steps) lit }
+        ensures within { result < length self.now.steps }
+        ensures is { get_or (lits_of self.now.steps) result lit ≡ lit }
+        ensures only { (k : ℕ) → k < length self.now.steps → get_or (lits_of self.now.steps) k lit ≡ lit → k ≡ result }
+    {
+        self.assignments[lit.var() as usize].place as usize
+    }
+
     /// The clause that made a true literal so, its reason; none for a decision.
     pub(crate) fn reason(&self, lit: Lit) -> Option<u32>
         requires { Contains (lits_of self.now.steps) lit }
@@ -217,6 +229,7 @@ impl Trail {
         self.assignments[var] = Assignment {
             level: self.limits.len() as u32,
             reason,
+            place: self.lits.len() as u32,
         };
         self.lits.push_reserved(lit);
     }
@@ -229,11 +242,13 @@ impl Trail {
         ensures { self.new ≡ record self.old { steps = self.old.steps ++ record { lit = lit; reason = None } ∷ []; limits = self.old.limits ++ length self.old.steps ∷ [] } }
     {
         let var = lit.var() as usize;
-        self.limits.push_reserved(self.lits.len() as u32);
+        let place = self.lits.len() as u32;
+        self.limits.push_reserved(place);
         set_values(&mut self.values, lit, TRUE, FALSE);
         self.assignments[var] = Assignment {
             level: self.limits.len() as u32,
             reason: NO_CLAUSE,
+            place,
         };
         self.lits.push_reserved(lit);
     }

@@ -1,4 +1,4 @@
--- The decision level and the reason of each variable, in one table.
+-- The decision level, the reason and the place of each variable, in one table.
 use Rattle.std.specs.Prelude.{ℕ, ◌==◌, List, Option, None, Some, map, if◌then◌else◌}
 use Rattle.trail_core.specs.declared.trail.Assignment.{Assignment}
 
@@ -11,3 +11,6 @@ reasons_of assignments = map reason_of assignments
 
 abbrev pub levels_of : List Assignment → List ℕ
 levels_of assignments = map (λ a. a.level) assignments
+
+abbrev pub places_of : List Assignment → List ℕ
+places_of assignments = map (λ a. a.place) assignments

@@ -1,6 +1,6 @@
-use Rattle.std.proofs.Common.{of_z, to_z, rules, w64, Option, ◌≡◌, ◌+◌, [], ◌∷◌, ◌++◌, sym, ap, ◌∙◌, subst, arith, pos, reverse, Contains}
+use Rattle.std.proofs.Common.{of_z, to_z, rules, w64, Option, ◌≡◌, ◌+◌, [], ◌∷◌, ◌++◌, sym, ap, ◌∙◌, arith, pos, reverse}
 use Rattle.std.proofs.lemmas.{Int.to_z-of_z, List.append-nil}
-use Rattle.cnf_formula.specs.Literals.{LitValue, negation}
+use Rattle.cnf_formula.specs.Literals.{LitValue}
 use Rattle.conflict_analysis.specs.Met.{value_of, WalkValue}
 use Rattle.conflict_analysis.proofs.{Pointed.{IsBegun, begun_sorted, conflict_within, met_passed, met_open_some}, Learned.{IsEnded, point_lits, learned_by}}
 use Rattle.conflict_analysis.proofs.Left.{left_kept, left_in, left_sorted, left_passed, left_point, kept_room}
@@ -51,9 +51,3 @@ returns-clause-learned c =
           let lits = ap (λ v. v.items) b.lits-is ∙ c.in_ok-lits.ensures ∙ sym (append-nil w.lits) ∙ ap (λ q. w.lits ++ point_lits q) (sym b.in_default.is) in
           learned_by core c.args.conflict w point _ ended (omega (arith, c.from-id.ensures, c.count.ensures)) lits hints
     ]
-
-pub settle-requires : goal.settle-requires
-settle-requires c = λ o h.
-    let old : WalkValue = value_of c.walk_all.new.walk in
-    let kept = left_kept old.stamp old.marks old.lits o (subst (λ xs. Contains xs o) (c.deref.ensures.value ∙ c.in_ok-lits.ensures) h) in
-    subst (λ xs. Contains xs (negation o)) (sym c.trail-2.ensures.value) (c.in_ok-point.ensures.walked.sorted.kept.of o kept.0).1

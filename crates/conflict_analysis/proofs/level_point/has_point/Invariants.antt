@@ -1,12 +1,8 @@
-use Rattle.std.proofs.Common.{◌≡◌, ◌≤◌}
-use Rattle.conflict_analysis.specs.Met.{value_of}
+use Rattle.std.proofs.Common.{◌≤◌}
 use Rattle.conflict_analysis.proofs.level_point.has_point.Given as goal
 
 abbrev pub invariant-loop-open : goal.invariant-loop-open
-invariant-loop-open l = record {
-  within : l.place ≤ l.to;
-  same : value_of l.walk ≡ value_of l.initial.walk;
-}
+invariant-loop-open l = l.place ≤ l.to
 
 abbrev pub decreases-loop-open : goal.decreases-loop-open
 decreases-loop-open l = l.place

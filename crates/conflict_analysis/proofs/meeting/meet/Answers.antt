@@ -3,26 +3,32 @@ use Rattle.trail_core.specs.{Assigned.level_at, Meaning.trues}
 use Rattle.conflict_analysis.specs.Met.{value_of, WalkValue, HasMet}
 use Rattle.conflict_analysis.proofs.Marked.{IsUnmet, met_bottom, met_open, met_kept, unmet_by, unmet_at, level_read, level_within, at_false}
 use Rattle.conflict_analysis.proofs.meeting.meet.Goals as goal
-use Rattle.conflict_analysis.proofs.meeting.meet.Goals.{After-level-level}
+use Rattle.conflict_analysis.proofs.meeting.meet.Goals.{After-negated-this, After-level-level}
 
-pub of-place-requires : goal.of-place-requires
-of-place-requires c =
+-- the literal's negation stands on the trail
+stands : (c : After-negated-this) → Contains (trues c.args.core.now) c.negated-this.result
+stands c =
     let core = c.args.core.now in
-    let l = c.args.lit in
-    let was = unmet_by core (value_of c.args.walk.now) l c.var-var.result c.index.result.now c.requires.formed c.requires.sorted c.requires.within c.requires.met c.var-var.ensures.var c.index.ensures (omega (arith, c.if-index-walk.false)) in
-    subst (λ xs. Contains xs c.negated-this.result) (sym c.trail.ensures.value) (subst (Contains (trues core)) (sym c.negated-this.ensures) (at_false core l was.0 was.1.at))
+    let was = unmet_by core (value_of c.args.walk.now) c.args.lit c.var-var.result c.index.result.now c.requires.formed c.requires.sorted c.requires.within c.requires.met c.var-var.ensures.var c.index.ensures (omega (arith, c.if-index-walk.false)) in
+    subst (Contains (trues core)) (sym c.negated-this.ensures) (at_false core c.args.lit was.0 was.1.at)
+
+pub place-place-requires : goal.place-place-requires
+place-place-requires c = stands (goal.at.place-place-requires c).After-negated-this
+
+pub level-level-requires : goal.level-level-requires
+level-level-requires c = stands (goal.at.level-level-requires c).After-negated-this
 
 -- the literal was not met, and became false at this place
-unmet : (c : After-level-level) → IsUnmet c.args.core.now (value_of c.args.walk.now) c.args.lit c.of-place.result
+unmet : (c : After-level-level) → IsUnmet c.args.core.now (value_of c.args.walk.now) c.args.lit c.place-place.result
 unmet c =
     let core = c.args.core.now in
     let w : WalkValue = value_of c.args.walk.now in
     let was = unmet_by core w c.args.lit c.var-var.result c.index.result.now c.requires.formed c.requires.sorted c.requires.within c.requires.met c.var-var.ensures.var c.index.ensures (omega (arith, c.if-index-walk.false)) in
-    unmet_at core w c.args.lit c.negated-this.result was.0 c.of-place.result c.trail.result.now was.1 c.negated-this.ensures c.trail.ensures.value c.of-place.ensures.within c.of-place.ensures.is
+    unmet_at core w c.args.lit c.negated-this.result was.0 c.place-place.result was.1 c.negated-this.ensures c.place-place.ensures.within c.place-place.ensures.is
 
 -- on this level
-level : (c : After-level-level) → c.level-level.result ≡ level_at c.args.core.now.limits c.of-place.result
-level c = level_read c.args.core.now c.args.lit c.negated-this.result c.of-place.result c.level-level.result (unmet c).at c.negated-this.ensures c.level-level.ensures
+level : (c : After-level-level) → c.level-level.result ≡ level_at c.args.core.now.limits c.place-place.result
+level c = level_read c.args.core.now c.args.lit c.negated-this.result c.place-place.result c.level-level.result (unmet c).at c.negated-this.ensures c.level-level.ensures
 
 pub returns-then-level-eq0 : goal.returns-then-level-eq0
 returns-then-level-eq0 c =
@@ -31,7 +37,7 @@ returns-then-level-eq0 c =
     let w : WalkValue = value_of c.args.walk.now in
     let places = c.insert.new.self in
     let zero = level b in
-    subst (λ v. HasMet c.args.core.now (l ∷ []) w (record w { marks = set w.marks v (w.stamp + 3); zeros = w.zeros + 1; met_places = places })) (sym c.var-var.ensures.var) (met_bottom c.args.core.now w l c.of-place.result places (unmet b) c.in_ok-insert.ensures.place (omega (arith, zero, c.if-level-eq0.true)))
+    subst (λ v. HasMet c.args.core.now (l ∷ []) w (record w { marks = set w.marks v (w.stamp + 3); zeros = w.zeros + 1; met_places = places })) (sym c.var-var.ensures.var) (met_bottom c.args.core.now w l c.place-place.result places (unmet b) c.in_ok-insert.ensures.place (omega (arith, zero, c.if-level-eq0.true)))
 
 pub returns-then-level-depth : goal.returns-then-level-depth
 returns-then-level-depth c =
@@ -40,7 +46,7 @@ returns-then-level-depth c =
     let w : WalkValue = value_of c.args.walk.now in
     let places = c.insert.new.self in
     let top = level b in
-    subst (λ v. HasMet c.args.core.now (l ∷ []) w (record w { marks = set w.marks v (w.stamp + 1); open_ = w.open_ + 1; met_places = places })) (sym c.var-var.ensures.var) (met_open c.args.core.now w l c.of-place.result places (unmet b) c.in_ok-insert.ensures.place (omega (arith, top, c.if-level-depth.true, c.depth.ensures)) (omega (arith, top, c.if-level-depth.true, c.depth.ensures, c.if-level-eq0.false)))
+    subst (λ v. HasMet c.args.core.now (l ∷ []) w (record w { marks = set w.marks v (w.stamp + 1); open_ = w.open_ + 1; met_places = places })) (sym c.var-var.ensures.var) (met_open c.args.core.now w l c.place-place.result places (unmet b) c.in_ok-insert.ensures.place (omega (arith, top, c.if-level-depth.true, c.depth.ensures)) (omega (arith, top, c.if-level-depth.true, c.depth.ensures, c.if-level-eq0.false)))
 
 pub returns : goal.returns
 returns c =
@@ -49,4 +55,4 @@ returns c =
     let w : WalkValue = value_of c.args.walk.now in
     let places = c.insert.new.self in
     let low = level b in
-    subst (λ xs. HasMet c.args.core.now (l ∷ []) w (record w { marks = set w.marks c.var-var.result (w.stamp + 0); lits = xs; met_places = places })) (sym c.in_ok-push-2.ensures.items) (subst (λ v. HasMet c.args.core.now (l ∷ []) w (record w { marks = set w.marks v (w.stamp + 0); lits = w.lits ++ l ∷ []; met_places = places })) (sym c.var-var.ensures.var) (met_kept c.args.core.now w l c.of-place.result places (unmet b) c.in_ok-insert.ensures.place (omega (arith, low, c.if-level-depth.false, c.depth.ensures, level_within c.args.core.now c.of-place.result))))
+    subst (λ xs. HasMet c.args.core.now (l ∷ []) w (record w { marks = set w.marks c.var-var.result (w.stamp + 0); lits = xs; met_places = places })) (sym c.in_ok-push-2.ensures.items) (subst (λ v. HasMet c.args.core.now (l ∷ []) w (record w { marks = set w.marks v (w.stamp + 0); lits = w.lits ++ l ∷ []; met_places = places })) (sym c.var-var.ensures.var) (met_kept c.args.core.now w l c.place-place.result places (unmet b) c.in_ok-insert.ensures.place (omega (arith, low, c.if-level-depth.false, c.depth.ensures, level_within c.args.core.now c.place-place.result))))

@@ -1,5 +1,5 @@
 use Rattle.std.proofs.Common.{◌+◌, ◌-◌, length, get_or, sym, subst, arith, Contains}
-use Rattle.conflict_analysis.specs.{Met.{value_of, WalkValue, IsPassed}, inner.Walks.{HasWalked, HasSameOpen}}
+use Rattle.conflict_analysis.specs.Met.{value_of, WalkValue, IsPassed}
 use Rattle.conflict_analysis.proofs.{Levels.limits_rise, Middle.{middle_at, passed_lower, walked_lower}, Resolved.{walked_on, open_on}}
 use Rattle.conflict_analysis.proofs.Waiting.{walked_none, same_open}
 use Rattle.conflict_analysis.proofs.shrinking.walk_level.Goals as goal
@@ -26,8 +26,8 @@ loop-walk-init c =
     record {
       under = omega (arith, to);
       above = omega (arith, rise, to);
-      walked = subst (λ w. HasWalked core 3 old w c.height-to.result) (sym c.has_point.ensures.same) begun;
-      same = subst (λ w. HasSameOpen core old w) (sym c.has_point.ensures.same) (same_open core old);
+      walked = begun;
+      same = same_open core old;
     }
 
 pub is_spare-requires : goal.is_spare-requires

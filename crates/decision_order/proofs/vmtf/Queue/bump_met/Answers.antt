@@ -6,4 +6,4 @@ pub invariant_of-self : goal.invariant_of-self
 invariant_of-self c =
     let queue = c.self.inside in
     let i = c.self.invariant in
-    (i.0, i.1, i.2, i.3, i.4, i.5, All-permutation (λ m. IsVar (queue.vars + 1) m.1) queue.met.items c.sort_unstable.new.self.items c.sort_unstable.ensures.permutation i.6)
+    (i.0, i.1, i.2, i.3, i.4, i.5, All-permutation (λ m. IsVar (queue.vars + 1) m.1) queue.met.items c.sort_unstable_by_key.new.self.items c.sort_unstable_by_key.ensures.permutation i.6)

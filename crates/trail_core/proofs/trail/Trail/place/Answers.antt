@@ -1,0 +1,18 @@
+use Rattle.std.proofs.lemmas.Grind.{common_steps}
+use Rattle.std.proofs.Common.{arith}
+use Rattle.list_laws.proofs.Fronts.{at_map}
+use Rattle.trail_core.proofs.Fields.{seen, stands_within}
+use Rattle.trail_core.proofs.trail.Trail.place.Goals as goal
+
+pub index-requires : goal.index-requires
+index-requires c =
+    let i = c.self.inside in
+    let s = seen i.vars i.assignments.items i.lits.items i.limits.items c.args.self.now c.self.view_is in
+    omega (arith, (stands_within i.vars i.values.items i.lits.items i.limits.items c.args.self.now c.args.lit c.self.invariant.0 s c.requires).1, c.self.invariant.2, c.var.ensures.var)
+
+pub returns : goal.returns
+returns c =
+    let i = c.self.inside in
+    let s = seen i.vars i.assignments.items i.lits.items i.limits.items c.args.self.now c.self.view_is in
+    let h = stands_within i.vars i.values.items i.lits.items i.limits.items c.args.self.now c.args.lit c.self.invariant.0 s c.requires in
+    grind (arith, common_steps, s, h, c.self.invariant.6, at_map)
