@@ -65,11 +65,7 @@ impl Lit {
         ensures { result ≡ negation self }
     {
         Lit {
-            code: if self.code % 2 == 0 {
-                self.code + 1
-            } else {
-                self.code - 1
-            },
+            code: self.code ^ 1,
         }
     }
 
