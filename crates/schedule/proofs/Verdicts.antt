@@ -1,7 +1,7 @@
 -- What the verdict says, from the first send, the first turn and the first pair that fail.
-use Rattle.std.proofs.Common.{◌≡◌, ℕ, ◌*◌, ◌<◌, ◌≤◌, Bool, true, false, not, ◌&&◌, ◌||◌, eqb, ltb, List, length, get_or, Option, Some, None, ⊎_elim, refl, sym, ap, ◌∙◌, arith, ◌↔◌}
+use Rattle.std.proofs.Common.{◌≡◌, ℕ, ◌*◌, ◌<◌, ◌≤◌, Bool, true, false, not, ◌&&◌, ◌||◌, eqb, ltb, List, length, get_or, Option, Some, None, refl, sym, ap, ◌∙◌, arith, ◌↔◌}
 use Rattle.std.{specs.List.{find, All}, proofs.lemmas.List.{get_or_default, Elements.{All-from_recursion, recursion_from_All}}}
-use Rattle.std.proofs.lemmas.Bool.{and_parts, or_cases, ltb-true, ltb-false, lt-ltb, le-ltb, eqb-true, not-true, not-false, not_from_true, not_from_false}
+use Rattle.std.proofs.lemmas.Bool.{Decides.nat_tests, ltb-true, ltb-false, lt-ltb, le-ltb, not-true, not-false, not_from_true, not_from_false}
 use Rattle.schedule.specs.{declared.{hop.Hop.Hop, verdict.Verdict.Verdict}, Links.{GroupValue, TopologyValue, is_usable}, Running.after}
 use Rattle.schedule.specs.{Sends.{ScheduleValue, IsSchedule, IsStep, hop_before, link_of}, Placed.{PlacementValue, IsPlacement, holds}}
 use Rattle.schedule.specs.Fitting.{Fits, load, rounds_at}
@@ -13,19 +13,7 @@ use Rattle.schedule.specs.declared.verdict.Verdict.TheVariants as verdict
 
 -- of two orders by a number first, both ways round, the number decides neither
 tied : (a b : ℕ) (there back : Bool) → (ltb a b || (eqb a b && there)) ≡ true → (ltb b a || (eqb b a && back)) ≡ true → (there ≡ true) × (back ≡ true)
-tied a b there back first second =
-    ⊎_elim
-    (λ (less : ltb a b ≡ true).
-    ⊎_elim
-    (λ (more : ltb b a ≡ true). absurd (omega (arith, ltb-true a b less, ltb-true b a more)))
-    (λ (same : (eqb b a && back) ≡ true). absurd (omega (arith, ltb-true a b less, eqb-true b a (and_parts _ _ same).0)))
-    (or_cases _ _ second))
-    (λ (same : (eqb a b && there) ≡ true).
-    ⊎_elim
-    (λ (more : ltb b a ≡ true). absurd (omega (arith, eqb-true a b (and_parts _ _ same).0, ltb-true b a more)))
-    (λ (also : (eqb b a && back) ≡ true). ((and_parts _ _ same).1, (and_parts _ _ also).1))
-    (or_cases _ _ second))
-    (or_cases _ _ first)
+tied a b there back first second = grind (arith, nat_tests)
 
 pub sends_one_way : OneWay hop_before
 sends_one_way a b there back =
@@ -145,21 +133,14 @@ judged_no_link t s None None None hop is = absurd cc
 
 judged_overfull : (t : TopologyValue) (s : ScheduleValue) (h : Option Hop) (turn pair : Option (ℕ × ℕ)) (step group count : ℕ) → judged t s h turn pair ≡ verdict.Overfull step group count → (h ≡ None) × (turn ≡ Some (step, group)) × (count ≡ load (group_at t group) step s.sends)
 judged_overfull t s (Some h) turn pair step group count is = absurd cc
-judged_overfull t s None (Some (i, g)) pair step group count is =
-    let step_is : i ≡ step = cc in
-    let group_is : g ≡ group = cc in
-    let count_is : load (group_at t g) i s.sends ≡ count = cc in
-    (refl, ap (λ a. Some (a, g)) step_is ∙ ap (λ b. Some (step, b)) group_is, sym count_is ∙ (ap (λ a. load (group_at t g) a s.sends) step_is ∙ ap (λ b. load (group_at t b) step s.sends) group_is))
+judged_overfull t s None (Some (i, g)) pair step group count is = (refl, cc, cc)
 judged_overfull t s None None (Some pair) step group count is = absurd cc
 judged_overfull t s None None None step group count is = absurd cc
 
 judged_lacking : (t : TopologyValue) (s : ScheduleValue) (h : Option Hop) (turn pair : Option (ℕ × ℕ)) (chunk node : ℕ) → judged t s h turn pair ≡ verdict.Lacking chunk node → (h ≡ None) × (turn ≡ None) × (pair ≡ Some (chunk, node))
 judged_lacking t s (Some h) turn pair chunk node is = absurd cc
 judged_lacking t s None (Some turn) pair chunk node is = absurd cc
-judged_lacking t s None None (Some (c, n)) chunk node is =
-    let chunk_is : c ≡ chunk = cc in
-    let node_is : n ≡ node = cc in
-    (refl, refl, ap (λ a. Some (a, n)) chunk_is ∙ ap (λ b. Some (chunk, b)) node_is)
+judged_lacking t s None None (Some (c, n)) chunk node is = (refl, refl, cc)
 judged_lacking t s None None None chunk node is = absurd cc
 
 fits_is : (t : TopologyValue) (s : ScheduleValue) → first_unlinked t s ≡ None → first_overfull t s ≡ None → Fits t s
