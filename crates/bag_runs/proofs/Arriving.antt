@@ -86,10 +86,7 @@ module _ (how : Mode) (before : StoreValue) where
           ]
 
 same_store : (a b : StoreValue) → a.chunks ≡ b.chunks → a.nodes ≡ b.nodes → a.bags ≡ b.bags → a ≡ b
-same_store a b chunks nodes bags =
-    ap (λ c. record { chunks = c; nodes = a.nodes; bags = a.bags }) chunks
-    ∙ (ap (λ n. record { chunks = b.chunks; nodes = n; bags = a.bags }) nodes
-    ∙ ap (λ x. record { chunks = b.chunks; nodes = b.nodes; bags = x }) bags)
+same_store a b chunks nodes bags = λ i. record { chunks = chunks i; nodes = nodes i; bags = bags i }
 
 module _ (chunks nodes : ℕ) (bags : Bags) (s : ScheduleValue) (adding step : ℕ) (valid : IsSchedule s) (range : IsInRange chunks nodes s) where
   abbrev first : StoreValue
@@ -134,9 +131,7 @@ pub arrived_next : (how mode_is : Mode) (before now next : StoreValue) (hops : L
     → next ≡ arrived how before before (take (i + 1) hops)
 arrived_next how mode_is before now next hops i d inside so_far same more =
     let h : Hop = get_or hops i d in
-    more
-    ∙ ap (λ m. arrive m before now h) same
-    ∙ ap (λ s. arrive how before s h) so_far
+    more ∙ (λ j. arrive (same j) before (so_far j) h)
     ∙ sym (ap (arrived how before before) (take_more hops i d inside) ∙ arrived_more how before (take i hops) before h)
 
 -- each is in range
@@ -151,6 +146,5 @@ arrived_all before now s adding step hops i valid range is past so_far bags from
     let chunks : ℕ = before.chunks in
     let nodes : ℕ = before.nodes in
     so_far
-    ∙ ap (arrived (mode_at adding step) before before) (take_all i hops past ∙ is)
-    ∙ ap (λ b. arrived (mode_at adding step) b b (filter (λ h. eqb h.step step) s.sends)) from
+    ∙ (λ j. arrived (mode_at adding step) (from j) (from j) ((take_all i hops past ∙ is) j))
     ∙ step_arrived chunks nodes bags s adding step valid range

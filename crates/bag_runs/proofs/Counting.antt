@@ -7,8 +7,7 @@ use Rattle.bag_runs.{specs.Kept.{IsHeld, counted}, proofs.Cells.{differ, same_or
 
 -- functions that agree give the same list
 pub map_alike : {X : Type 0} (f g : ℕ → X) → ((k : ℕ) → f k ≡ g k) → (ks : List ℕ) → map f ks ≡ map g ks
-map_alike f g same [] = refl
-map_alike f g same (k ∷ ks) = ap (λ x. x ∷ map f ks) (same k) ∙ ap (λ xs. g k ∷ xs) (map_alike f g same ks)
+map_alike f g same ks = λ i. map (λ k. same k i) ks
 
 -- each of them is counted
 pub counted_at : (nodes : ℕ) (counts : List ℕ) (node : ℕ) → node < nodes → get_or (counted nodes counts) node 0 ≡ get_or counts node 0

@@ -21,11 +21,7 @@ untied a b there back first second = (same, rest there first same, rest_back bac
 
 -- sends of the same numbers are the same
 pub same_hop : (a b : Hop) → a.chunk ≡ b.chunk → a.from ≡ b.from → a.to ≡ b.to → a.step ≡ b.step → a ≡ b
-same_hop a b chunks froms tos steps =
-    ap (λ c. record { chunk = c; from = a.from; to = a.to; step = a.step }) chunks
-    ∙ (ap (λ f. record { chunk = b.chunk; from = f; to = a.to; step = a.step }) froms
-    ∙ (ap (λ t. record { chunk = b.chunk; from = b.from; to = t; step = a.step }) tos
-    ∙ ap (λ i. record { chunk = b.chunk; from = b.from; to = b.to; step = i }) steps))
+same_hop a b chunks froms tos steps = λ i. record { chunk = chunks i; from = froms i; to = tos i; step = steps i }
 
 pub neither_before : (a b : Hop) → hop_before a b ≡ false → hop_before b a ≡ false → a ≡ b
 neither_before a b there back =
