@@ -1,5 +1,5 @@
 -- The run of a join: after the first part the demanded bags are whole, and the second carries whole bags to all that it reaches.
-use Rattle.std.proofs.Common.{◌≡◌, ℕ, zero, suc, ◌+◌, ◌-◌, ◌<◌, ◌≤◌, ⊎_elim, Bool, true, false, ◌&&◌, eqb, List, [], ◌∷◌, length, map, refl, sym, ap, ◌∙◌, subst, arith, filter, fold, not}
+use Rattle.std.proofs.Common.{◌≡◌, ℕ, zero, suc, ◌+◌, ◌-◌, ◌<◌, ◌≤◌, ⊎_elim, Bool, true, false, ◌&&◌, eqb, List, [], length, map, refl, sym, ap, ◌∙◌, subst, arith, filter, fold, not}
 use Rattle.std.{specs.List.{AllByRecursion, list_any}, proofs.lemmas.{Bool.{and_parts, and_from, eqb-true, eq-eqb, or_cases}, List.Elements.recursion_from_All}}
 use Rattle.schedule.specs.{declared.hop.Hop.Hop, Sends.{ScheduleValue, IsSchedule, IsInRange, IsStep}, Placed.{PlacementValue, holds, same_pair}, Solving.Tight}
 use Rattle.schedule.specs.{Running.{after, brings}, Bags.{Bag, Bags, added, contributions, is_empty, one_of_each}, Summing.{bags_after, goes_to}}
@@ -13,9 +13,7 @@ use Rattle.allreduce_join.proofs.Later.{later}
 -- ---- the steps that add
 
 fold_alike : (a b : Bags) (hops : List Hop) (x y : Bag) → ((pair : ℕ × ℕ) → a pair ≡ b pair) → x ≡ y → fold added x (map (λ h. a (h.chunk, h.from)) hops) ≡ fold added y (map (λ h. b (h.chunk, h.from)) hops)
-fold_alike a b [] x y same is = is
-fold_alike a b (h ∷ hops) x y same is =
-    fold_alike a b hops (added x (a (h.chunk, h.from))) (added y (b (h.chunk, h.from))) same (ap (λ z. added z (a (h.chunk, h.from))) is ∙ ap (added y) (same (h.chunk, h.from)))
+fold_alike a b hops x y same is = λ i. fold added (is i) (map (λ h. same (h.chunk, h.from) i) hops)
 
 -- in its first part a join runs as the first schedule
 pub first_part : (start : Bags) (p q : ScheduleValue) → IsSchedule q → (n : ℕ) → n ≤ length p.rounds → (pair : ℕ × ℕ) → joined_after start (one_after (length p.rounds) p q) (length p.rounds) n pair ≡ bags_after start p.sends n pair

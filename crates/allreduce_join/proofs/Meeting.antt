@@ -1,7 +1,7 @@
 -- Chunks that come to a node twice, send by send.
-use Rattle.std.proofs.Common.{◌≡◌, ℕ, suc, ◌+◌, ◌<◌, ◌≤◌, Bool, true, false, ◌&&◌, ◌||◌, cond, eqb, leb, List, [], ◌∷◌, ◌++◌, length, get_or, take, refl, sym, ap, ◌∙◌, ⊎_elim, subst, arith, count_by}
-use Rattle.std.{specs.List.filter, proofs.lemmas.{Bool.{and_parts, cases_Bool, eq-eqb, both_ways, Decides.nat_tests}, List.{take_more, take_all}}}
-use Rattle.std.proofs.{lemmas.List.Sums.{sum_by-append, sum_by-cons}, Math.Bool.or-true}
+use Rattle.std.proofs.Common.{◌≡◌, ℕ, suc, ◌+◌, ◌<◌, ◌≤◌, Bool, true, false, ◌&&◌, ◌||◌, cond, eqb, leb, List, [], ◌∷◌, ◌++◌, length, get_or, take, refl, sym, ap, ◌∙◌, subst, arith, count_by}
+use Rattle.std.{specs.List.filter, proofs.lemmas.{Bool.{and_parts, eq-eqb, both_ways, Decides.nat_tests}, List.{take_more, take_all}}}
+use Rattle.std.proofs.{lemmas.List.Sums.{sum_by-append, sum_by-cons}}
 use Rattle.schedule.specs.{declared.hop.Hop.Hop, Placed.{PlacementValue, empty_placement, holds, placed, same_pair, with_pair}, Summing.goes_to}
 use Rattle.schedule.proofs.{Joining.step_alone, Placing.{holds-placed, pair_is, placed-alike, placed-none}}
 
@@ -29,11 +29,9 @@ arrivals_more step pair hops h now =
     let mine : cond {A = ℕ} (goes_to step pair h) 1 0 ≡ cond (comes_to h pair) 1 0 = ap (λ b. cond {A = ℕ} (b && comes_to h pair) 1 0) (eq-eqb h.step step now) in
     omega (arith, one, mine, sum_by-append (λ o. cond (goes_to step pair o) 1 0) hops (h ∷ []))
 
-leb_one : (least n m : ℕ) → m ≡ n + 1 → leb (suc least) m ≡ (leb (suc least) n || leb least n)
-leb_one least n m is = grind (arith, nat_tests)
-
-leb_same : (least n m : ℕ) → m ≡ n + 0 → leb (suc least) m ≡ leb (suc least) n
-leb_same least n m is = ap (leb (suc least)) (omega (arith, is))
+once_more : (comes : Bool) (least n m : ℕ) → m ≡ n + cond comes 1 0 → (comes ≡ true → leb least n ≡ true) → (comes || leb (suc least) n) ≡ leb (suc least) m
+once_more true least n m is often = let mine = often refl in grind (arith, nat_tests)
+once_more false least n m is often = grind (arith, nat_tests)
 
 -- where the send's pair is met so often, it is met once more
 pub met_added : (least chunks nodes step : ℕ) (hops : List Hop) (h : Hop) → h.step ≡ step → leb least (arrivals step (h.chunk, h.to) hops) ≡ true → with_pair (met_by (suc least) chunks nodes step hops) (h.chunk, h.to) ≡ met_by (suc least) chunks nodes step (hops ++ h ∷ [])
@@ -43,23 +41,12 @@ met_added least chunks nodes step hops h now met =
   where
     at : (pair : ℕ × ℕ) → (comes_to h pair || leb (suc least) (arrivals step pair hops)) ≡ leb (suc least) (arrivals step pair (hops ++ h ∷ []))
     at pair =
-        ⊎_elim
-        (λ (same : comes_to h pair ≡ true).
-        let aim : (h.chunk, h.to) ≡ pair = pair_is (h.chunk, h.to) pair same in
-        let often : leb least (arrivals step pair hops) ≡ true = subst (λ (p : ℕ × ℕ). leb least (arrivals step p hops) ≡ true) aim met in
-        let more : arrivals step pair (hops ++ h ∷ []) ≡ arrivals step pair hops + 1 = arrivals_more step pair hops h now ∙ ap (λ b. arrivals step pair hops + cond {A = ℕ} b 1 0) same in
-        ap (λ b. b || leb (suc least) (arrivals step pair hops)) same
-        ∙ (sym (or-true (leb (suc least) (arrivals step pair hops)))
-        ∙ (ap (λ b. leb (suc least) (arrivals step pair hops) || b) (sym often) ∙ sym (leb_one least (arrivals step pair hops) (arrivals step pair (hops ++ h ∷ [])) more))))
-        (λ (other : comes_to h pair ≡ false).
-        let stays : arrivals step pair (hops ++ h ∷ []) ≡ arrivals step pair hops + 0 = arrivals_more step pair hops h now ∙ ap (λ b. arrivals step pair hops + cond {A = ℕ} b 1 0) other in
-        ap (λ b. b || leb (suc least) (arrivals step pair hops)) other ∙ sym (leb_same least (arrivals step pair hops) (arrivals step pair (hops ++ h ∷ [])) stays))
-        (cases_Bool (comes_to h pair))
+        once_more (comes_to h pair) least (arrivals step pair hops) (arrivals step pair (hops ++ h ∷ [])) (arrivals_more step pair hops h now)
+        (λ same. subst (λ (p : ℕ × ℕ). leb least (arrivals step p hops) ≡ true) (pair_is (h.chunk, h.to) pair same) met)
 
-or_settled : (a b : Bool) → (b ≡ true → a ≡ true) → a ≡ (a || b)
-or_settled true b settled = refl
-or_settled false true settled = settled refl
-or_settled false false settled = refl
+unchanged : (comes : Bool) (least n m : ℕ) → m ≡ n + cond comes 1 0 → (comes ≡ true → leb least n ≡ true → leb (suc least) n ≡ true) → leb (suc least) n ≡ leb (suc least) m
+unchanged true least n m is already = let mine = already refl in grind (arith, nat_tests)
+unchanged false least n m is already = grind (arith, nat_tests)
 
 -- where the send's pair is met that often already, or not nearly, nothing changes
 pub met_kept : (least chunks nodes step : ℕ) (hops : List Hop) (h : Hop) → h.step ≡ step → (leb least (arrivals step (h.chunk, h.to) hops) ≡ true → leb (suc least) (arrivals step (h.chunk, h.to) hops) ≡ true) → met_by (suc least) chunks nodes step hops ≡ met_by (suc least) chunks nodes step (hops ++ h ∷ [])
@@ -67,16 +54,8 @@ met_kept least chunks nodes step hops h now settled = placed-alike chunks nodes 
   where
     at : (pair : ℕ × ℕ) → leb (suc least) (arrivals step pair hops) ≡ leb (suc least) (arrivals step pair (hops ++ h ∷ []))
     at pair =
-        ⊎_elim
-        (λ (same : comes_to h pair ≡ true).
-        let aim : (h.chunk, h.to) ≡ pair = pair_is (h.chunk, h.to) pair same in
-        let more : arrivals step pair (hops ++ h ∷ []) ≡ arrivals step pair hops + 1 = arrivals_more step pair hops h now ∙ ap (λ b. arrivals step pair hops + cond {A = ℕ} b 1 0) same in
-        or_settled (leb (suc least) (arrivals step pair hops)) (leb least (arrivals step pair hops)) (subst (λ (p : ℕ × ℕ). leb least (arrivals step p hops) ≡ true → leb (suc least) (arrivals step p hops) ≡ true) aim settled)
-        ∙ sym (leb_one least (arrivals step pair hops) (arrivals step pair (hops ++ h ∷ [])) more))
-        (λ (other : comes_to h pair ≡ false).
-        let stays : arrivals step pair (hops ++ h ∷ []) ≡ arrivals step pair hops + 0 = arrivals_more step pair hops h now ∙ ap (λ b. arrivals step pair hops + cond {A = ℕ} b 1 0) other in
-        sym (leb_same least (arrivals step pair hops) (arrivals step pair (hops ++ h ∷ [])) stays))
-        (cases_Bool (comes_to h pair))
+        unchanged (comes_to h pair) least (arrivals step pair hops) (arrivals step pair (hops ++ h ∷ [])) (arrivals_more step pair hops h now)
+        (λ same. subst (λ (p : ℕ × ℕ). leb least (arrivals step p hops) ≡ true → leb (suc least) (arrivals step p hops) ≡ true) (pair_is (h.chunk, h.to) pair same) settled)
 
 -- ---- the loop over the sends of a step
 
@@ -122,16 +101,7 @@ first_time chunks nodes step all sends i d met twice more mine inside c n so_far
 count_within : (p q : Hop → Bool) → ((h : Hop) → p h ≡ true → q h ≡ true) → (hops : List Hop) → count_by p (filter q hops) ≡ count_by p hops
 count_within p q weaker [] = refl
 count_within p q weaker (h ∷ hops) =
-    let whole : count_by p (h ∷ hops) ≡ cond {A = ℕ} (p h) 1 0 + count_by p hops = sum_by-cons (λ x. cond (p x) 1 0) h hops in
-    ⊎_elim
-    (λ (kept : q h ≡ true).
-    let front : count_by p (h ∷ filter q hops) ≡ cond {A = ℕ} (p h) 1 0 + count_by p (filter q hops) = sum_by-cons (λ x. cond (p x) 1 0) h (filter q hops) in
-    ap (λ b. count_by p (cond b (h ∷ filter q hops) (filter q hops))) kept ∙ omega (arith, whole, front, count_within p q weaker hops))
-    (λ (dropped : q h ≡ false).
-    let fails : p h ≡ false = ⊎_elim (λ (passes : p h ≡ true). absurd (both_ways _ dropped (weaker h passes))) (λ (not_so : p h ≡ false). not_so) (cases_Bool (p h)) in
-    let none : cond {A = ℕ} (p h) 1 0 ≡ 0 = ap (λ b. cond {A = ℕ} b 1 0) fails in
-    ap (λ b. count_by p (cond b (h ∷ filter q hops) (filter q hops))) dropped ∙ omega (arith, whole, none, count_within p q weaker hops))
-    (cases_Bool (q h))
+    grind (arith, weaker h, count_within p q weaker hops, sum_by-cons (λ x. cond (p x) 1 0) h hops, sum_by-cons (λ x. cond (p x) 1 0) h (filter q hops))
 
 pub met_all : (chunks nodes step : ℕ) (all sends : List Hop) (i : ℕ) (met twice : PlacementValue) → sends ≡ filter (λ h. eqb h.step step) all → length sends ≤ i → IsMet chunks nodes step (take i sends) met twice → twice ≡ met_by 2 chunks nodes step all
 met_all chunks nodes step all sends i met twice mine past so_far =

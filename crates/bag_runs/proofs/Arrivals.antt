@@ -1,6 +1,6 @@
 -- What the sends of one step bring to a chunk of a node, and in which order.
-use Rattle.std.proofs.Common.{◌≡◌, ℕ, ◌≤◌, Bool, true, false, ◌&&◌, cond, ltb, max, List, [], ◌∷◌, map, ⊎_elim, refl, sym, ap, ◌∙◌, arith, filter, fold, not, nat_le}
-use Rattle.std.{specs.List.{AllByRecursion, reduce}, proofs.lemmas.Bool.{and_parts, eqb-true, ltb-true, or_cases}}
+use Rattle.std.proofs.Common.{◌≡◌, ℕ, ◌≤◌, Bool, true, false, ◌&&◌, cond, max, List, [], ◌∷◌, map, inl, inr, refl, sym, ap, ◌∙◌, arith, filter, fold, not, nat_le}
+use Rattle.std.{specs.List.{AllByRecursion, reduce}, proofs.lemmas.Bool.{Decides.nat_tests, and_parts, cases_Bool, eqb-true}}
 use Rattle.schedule.specs.{declared.hop.Hop.Hop, Sends.hop_before, Bags.{Bag, Bags, held_at_2, is_empty}, Summing.{goes_to, summed_step}}
 use Rattle.schedule.specs.JoinedRuns.{copied_step, joined_step, replaced}
 use Rattle.schedule.proofs.First.{InOrder, InOrder-filter, each_filter, each_passes}
@@ -10,27 +10,18 @@ use Rattle.bag_runs.{specs.Stores.{received, mode_at}, proofs.Merging.{Rises, ad
 -- two tests, one after the other
 pub filter_both : {X : Type 0} (p q r : X → Bool) → ((x : X) → (p x && q x) ≡ r x) → (xs : List X) → filter q (filter p xs) ≡ filter r xs
 filter_both p q r both [] = refl
-filter_both p q r both (x ∷ xs) = go (p x) (both x) (filter_both p q r both xs)
-  where
-    go : (first : Bool) → (first && q x) ≡ r x → filter q (filter p xs) ≡ filter r xs → filter q (cond first (x ∷ filter p xs) (filter p xs)) ≡ cond (r x) (x ∷ filter r xs) (filter r xs)
-    go true is rest = ap (λ t. cond t (x ∷ filter q (filter p xs)) (filter q (filter p xs))) is ∙ ap (λ ys. cond (r x) (x ∷ ys) ys) rest
-    go false is rest = rest ∙ ap (λ t. cond t (x ∷ filter r xs) (filter r xs)) is
+filter_both p q r both (x ∷ xs) =
+    rw (← both x) (elim (p x) as (λ first. filter q (cond first (x ∷ filter p xs) (filter p xs)) ≡ cond (first && q x) (x ∷ filter r xs) (filter r xs))
+    [ true ↦ ap (λ ys. cond (q x) (x ∷ ys) ys) (filter_both p q r both xs) | false ↦ filter_both p q r both xs ])
+
+-- folds that take each element alike
+pub fold_alike : {X : Type 0} (P : X → Type 0) (f g : Bag → X → Bag) → ((bag : Bag) (x : X) → P x → f bag x ≡ g bag x) → (xs : List X) → AllByRecursion P xs → (bag : Bag) → fold f bag xs ≡ fold g bag xs
+fold_alike P f g same [] each bag = refl
+fold_alike P f g same (x ∷ xs) each bag = fold_alike P f g same xs each.1 (f bag x) ∙ ap (λ b. fold g b xs) (same bag x each.0)
 
 -- sends of one step and chunk come by their senders
 before_from : (a b : Hop) → a.step ≡ b.step → a.chunk ≡ b.chunk → hop_before a b ≡ true → a.from ≤ b.from
-before_from a b steps chunks is =
-    ⊎_elim
-    (λ (less : ltb a.step b.step ≡ true). absurd (omega (arith, steps, ltb-true a.step b.step less)))
-    (λ (tied : _).
-    ⊎_elim
-    (λ (less : ltb a.chunk b.chunk ≡ true). absurd (omega (arith, chunks, ltb-true a.chunk b.chunk less)))
-    (λ (tied_too : _).
-    ⊎_elim
-    (λ (less : ltb a.from b.from ≡ true). omega (arith, ltb-true a.from b.from less))
-    (λ (same : _). omega (arith, eqb-true a.from b.from (and_parts _ _ same).0))
-    (or_cases _ _ (and_parts _ _ tied_too).1))
-    (or_cases _ _ (and_parts _ _ tied).1))
-    (or_cases _ _ is)
+before_from a b steps chunks is = grind (arith, nat_tests)
 
 module _ (step chunk node : ℕ) where
   goes_parts : (h : Hop) → goes_to step (chunk, node) h ≡ true → (h.step ≡ step) × (h.chunk ≡ chunk)
@@ -53,17 +44,14 @@ module _ (step chunk node : ℕ) where
 
     same_copies : (hops : List Hop) → AllByRecursion (λ h. goes_to step (chunk, node) h ≡ true) hops → (own : Bag)
         → fold (λ bag h. received mode.Copy bag (held_at_2 (bags (h.chunk, h.from)))) own hops ≡ fold (λ bag h. copied bag (held_at_2 (bags (chunk, h.from)))) own hops
-    same_copies [] each own = refl
-    same_copies (h ∷ hops) each own =
-        same_copies hops each.1 (received mode.Copy own (held_at_2 (bags (h.chunk, h.from))))
-        ∙ ap (λ c. fold (λ bag h. copied bag (held_at_2 (bags (chunk, h.from)))) (copied own (held_at_2 (bags (c, h.from)))) hops) (goes_parts h each.0).1
+    same_copies hops each own =
+        fold_alike (λ h. goes_to step (chunk, node) h ≡ true) (λ bag h. received mode.Copy bag (held_at_2 (bags (h.chunk, h.from)))) (λ bag h. copied bag (held_at_2 (bags (chunk, h.from))))
+        (λ bag h goes. ap (λ c. copied bag (held_at_2 (bags (c, h.from)))) (goes_parts h goes).1) hops each own
 
     full_here : (h : Hop) → (goes_to step (chunk, node) h && full h) ≡ (goes_to step (chunk, node) h && not (is_empty (bags (h.chunk, h.from))))
-    full_here h = go (goes_to step (chunk, node) h) refl
-      where
-        go : (goes : Bool) → goes_to step (chunk, node) h ≡ goes → (goes && full h) ≡ (goes && not (is_empty (bags (h.chunk, h.from))))
-        go true is = ap (λ c. not (is_empty (bags (c, h.from)))) (sym (goes_parts h is).1)
-        go false is = refl
+    full_here h =
+        elim (cases_Bool (goes_to step (chunk, node) h))
+        [ inl is ↦ ap (λ c. goes_to step (chunk, node) h && not (is_empty (bags (c, h.from)))) (sym (goes_parts h is).1) | inr is ↦ rw is refl ]
 
     -- takes of what goes to a chunk of a node in a step, in the order of the sends, leave the bag of the joined run after the step
     pub merges : (sends : List Hop) (adding : ℕ) → InOrder hop_before sends

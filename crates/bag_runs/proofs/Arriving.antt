@@ -1,12 +1,13 @@
 -- A step of a store: its sends arrive one after the other.
-use Rattle.std.proofs.Common.{◌≡◌, ℕ, ◌+◌, ◌*◌, ◌<◌, ◌≤◌, Bool, true, false, ◌&&◌, cond, eqb, List, [], ◌∷◌, ◌++◌, length, get_or, take, ⊎_elim, refl, sym, ap, ◌∙◌, arith, filter, fold}
+use Rattle.std.proofs.Common.{◌≡◌, ℕ, ◌+◌, ◌*◌, ◌<◌, ◌≤◌, Bool, true, false, ◌&&◌, cond, eqb, List, [], ◌∷◌, ◌++◌, length, get_or, take, inl, inr, refl, sym, ap, ◌∙◌, arith, filter, fold}
 use Rattle.std.{specs.List.AllByRecursion, proofs.lemmas.{Bool.{and_from, eq-eqb}, List.{length-set, take_all, take_more}}}
 use Rattle.std.proofs.lemmas.List.Elements.{All-filter, All-same, recursion_from_All}
+use Rattle.std.proofs.Math.Bool.{and-false}
 use Rattle.schedule.specs.{declared.hop.Hop.Hop, Sends.{IsInRange, IsSchedule, ScheduleValue, hop_before, is_hop_below}, Placed.same_pair, Summing.goes_to}
 use Rattle.schedule.specs.{Bags.{Bag, Bags, held_at_2}, JoinedRuns.joined_step}
 use Rattle.schedule.proofs.{First.{InOrder-from_pairs, each_filter, each_weaker}, Joining.{IsHopBelow, hop_below}}
 use Rattle.bag_runs.specs.{declared.mode.Mode.Mode, Stores.{mode_at, StoreValue, bag_in, received, stored, with_bag}}
-use Rattle.bag_runs.proofs.{Arrivals.{filter_both, merges}, Cells.{cell_below, cell_beside, cell_here, differ, same_or_not}}
+use Rattle.bag_runs.proofs.{Arrivals.{filter_both, fold_alike, merges}, Cells.{cell_below, cell_beside, cell_here, differ, same_or_not}}
 use Rattle.bag_runs.proofs.Tables.{same_table, table_cell, table_length}
 
 module _ (how : Mode) (before : StoreValue) where
@@ -63,10 +64,6 @@ module _ (how : Mode) (before : StoreValue) where
       node_low : node < s.nodes
       node_low = omega (arith, inside, width)
 
-      and_false : (b : Bool) → (b && false) ≡ false
-      and_false true = refl
-      and_false false = refl
-
       here : h.chunk ≡ chunk → h.to ≡ node → fold step (bag_in (arrive s h) chunk node) rest ≡ fold step (bag_in s chunk node) (cond (goes chunk node h) (h ∷ rest) rest)
       here same same_too =
           let at : bag_in (arrive s h) chunk node ≡ step (bag_in s chunk node) h =
@@ -80,24 +77,16 @@ module _ (how : Mode) (before : StoreValue) where
 
       by_chunk : fold step (bag_in (arrive s h) chunk node) rest ≡ fold step (bag_in s chunk node) (cond (goes chunk node h) (h ∷ rest) rest)
       by_chunk =
-          ⊎_elim
-          (λ (same : h.chunk ≡ chunk).
-          ⊎_elim
-          (λ (same_too : h.to ≡ node). here same same_too)
-          (λ (apart : eqb h.to node ≡ false). other (cell_beside s.bags chunks s.nodes [] h.chunk h.to chunk node new to_low node_low (λ e. differ h.to node apart (sym e))) (ap (λ b. eqb h.chunk chunk && b) apart ∙ and_false (eqb h.chunk chunk)))
-          (same_or_not h.to node))
-          (λ (apart : eqb h.chunk chunk ≡ false). other (cell_below s.bags chunks s.nodes [] h.chunk h.to chunk node new to_low node_low (λ e. differ h.chunk chunk apart (sym e))) (ap (λ b. b && eqb h.to node) apart))
-          (same_or_not h.chunk chunk)
-
-fold_alike : {X : Type 0} (P : X → Type 0) (f g : Bag → X → Bag) → ((bag : Bag) (x : X) → P x → f bag x ≡ g bag x) → (xs : List X) → AllByRecursion P xs → (bag : Bag) → fold f bag xs ≡ fold g bag xs
-fold_alike P f g same [] each bag = refl
-fold_alike P f g same (x ∷ xs) each bag = fold_alike P f g same xs each.1 (f bag x) ∙ ap (λ b. fold g b xs) (same bag x each.0)
+          elim (same_or_not h.chunk chunk) [
+            | inl same ↦ elim (same_or_not h.to node) [
+              | inl same_too ↦ here same same_too
+              | inr apart ↦ other (cell_beside s.bags chunks s.nodes [] h.chunk h.to chunk node new to_low node_low (λ e. differ h.to node apart (sym e))) (ap (λ b. eqb h.chunk chunk && b) apart ∙ and-false (eqb h.chunk chunk))
+            ]
+            | inr apart ↦ other (cell_below s.bags chunks s.nodes [] h.chunk h.to chunk node new to_low node_low (λ e. differ h.chunk chunk apart (sym e))) (ap (λ b. b && eqb h.to node) apart)
+          ]
 
 same_store : (a b : StoreValue) → a.chunks ≡ b.chunks → a.nodes ≡ b.nodes → a.bags ≡ b.bags → a ≡ b
-same_store a b chunks nodes bags =
-    ap (λ c. record { chunks = c; nodes = a.nodes; bags = a.bags }) chunks
-    ∙ (ap (λ n. record { chunks = b.chunks; nodes = n; bags = a.bags }) nodes
-    ∙ ap (λ x. record { chunks = b.chunks; nodes = b.nodes; bags = x }) bags)
+same_store a b chunks nodes bags = λ i. record { chunks = chunks i; nodes = nodes i; bags = bags i }
 
 module _ (chunks nodes : ℕ) (bags : Bags) (s : ScheduleValue) (adding step : ℕ) (valid : IsSchedule s) (range : IsInRange chunks nodes s) where
   abbrev first : StoreValue
@@ -142,9 +131,7 @@ pub arrived_next : (how mode_is : Mode) (before now next : StoreValue) (hops : L
     → next ≡ arrived how before before (take (i + 1) hops)
 arrived_next how mode_is before now next hops i d inside so_far same more =
     let h : Hop = get_or hops i d in
-    more
-    ∙ ap (λ m. arrive m before now h) same
-    ∙ ap (λ s. arrive how before s h) so_far
+    more ∙ (λ j. arrive (same j) before (so_far j) h)
     ∙ sym (ap (arrived how before before) (take_more hops i d inside) ∙ arrived_more how before (take i hops) before h)
 
 -- each is in range
@@ -159,6 +146,5 @@ arrived_all before now s adding step hops i valid range is past so_far bags from
     let chunks : ℕ = before.chunks in
     let nodes : ℕ = before.nodes in
     so_far
-    ∙ ap (arrived (mode_at adding step) before before) (take_all i hops past ∙ is)
-    ∙ ap (λ b. arrived (mode_at adding step) b b (filter (λ h. eqb h.step step) s.sends)) from
+    ∙ (λ j. arrived (mode_at adding step) (from j) (from j) ((take_all i hops past ∙ is) j))
     ∙ step_arrived chunks nodes bags s adding step valid range

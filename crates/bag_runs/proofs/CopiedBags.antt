@@ -1,5 +1,5 @@
 -- Where every step copies, the bags of a placement stay those of what is held.
-use Rattle.std.proofs.Common.{◌≡◌, ℕ, zero, suc, ◌+◌, ◌<◌, ⊎_elim, Bool, true, false, not, ◌&&◌, ◌||◌, cond, eqb, List, [], ◌∷◌, map, refl, sym, ap, ◌∙◌, subst, arith, filter, max}
+use Rattle.std.proofs.Common.{◌≡◌, ℕ, zero, suc, ◌+◌, ◌<◌, inl, inr, Bool, true, false, not, ◌&&◌, ◌||◌, cond, eqb, List, [], ◌∷◌, map, refl, sym, ap, ◌∙◌, arith, filter, max}
 use Rattle.std.{specs.List.{AllByRecursion, list_any, range_with_len, reduce}, proofs.{lemmas.Bool.{and_parts, eqb-true, cases_Bool}, Math.Bool.and_assoc}}
 use Rattle.std.proofs.lemmas.List.Elements.{recursion_from_All}
 use Rattle.schedule.specs.{declared.hop.Hop.Hop, Sends.{ScheduleValue, IsInRange, is_hop_below}, Placed.{PlacementValue, holds, same_pair}, Summing.goes_to}
@@ -14,16 +14,13 @@ zeros_are_empty : (from len : ℕ) → is_empty (map (λ _. 0) (range_with_len f
 zeros_are_empty from zero = refl
 zeros_are_empty from (suc len) = zeros_are_empty (from + 1) len
 
-empty_is_empty : (nodes : ℕ) → is_empty (empty_bag nodes) ≡ true
-empty_is_empty nodes = zeros_are_empty 0 nodes
-
 one_is_not_empty : (nodes : ℕ) → 0 < nodes → is_empty (one_of nodes 0) ≡ false
 one_is_not_empty zero some = absurd (omega arith)
 one_is_not_empty (suc nodes) some = refl
 
 filled_or_not : (nodes : ℕ) → 0 < nodes → (held : Bool) → not (is_empty (cond held (one_of nodes 0) (empty_bag nodes))) ≡ held
 filled_or_not nodes some true = ap not (one_is_not_empty nodes some)
-filled_or_not nodes some false = ap not (empty_is_empty nodes)
+filled_or_not nodes some false = ap not (zeros_are_empty 0 nodes)
 
 -- a bag of a placement is not empty exactly where the chunk is held
 filled_where_held : (held : PlacementValue) (pair : ℕ × ℕ) → 0 < held.nodes → not (is_empty (of_placement held pair)) ≡ holds held pair
@@ -37,12 +34,7 @@ module _ (R : Hop → Type 0) (passes : Hop → Bool) (before : Bags) (pair : �
   senders_have [] each = tt
   senders_have (h ∷ sends) each =
       let rest = senders_have sends each.1 in
-      ⊎_elim
-      (λ (kept : passes h ≡ true).
-      subst (λ b. AllByRecursion (λ u. before (pair.0, u) ≡ bag) (map (λ (x : Hop). x.from) (cond b (h ∷ filter passes sends) (filter passes sends)))) (sym kept) (same h each.0 kept, rest))
-      (λ (dropped : passes h ≡ false).
-      subst (λ b. AllByRecursion (λ u. before (pair.0, u) ≡ bag) (map (λ (x : Hop). x.from) (cond b (h ∷ filter passes sends) (filter passes sends)))) (sym dropped) rest)
-      (cases_Bool (passes h))
+      elim (cases_Bool (passes h)) [ inl kept ↦ rw kept (same h each.0 kept, rest) | inr dropped ↦ rw dropped rest ]
 
   abbrev copied : List Hop → Bag
   copied hops = replaced before pair (reduce max (map (λ (x : Hop). x.from) hops))
@@ -50,24 +42,15 @@ module _ (R : Hop → Type 0) (passes : Hop → Bool) (before : Bags) (pair : �
   copied_from_greatest : (sends : List Hop) → AllByRecursion R sends → copied (filter passes sends) ≡ cond (list_any passes sends) bag (before pair)
   copied_from_greatest [] each = refl
   copied_from_greatest (h ∷ sends) each =
-      ⊎_elim
-      (λ (kept : passes h ≡ true).
-      ap (λ b. copied (cond b (h ∷ filter passes sends) (filter passes sends))) kept
-      ∙ (greatest_has (λ u. before (pair.0, u) ≡ bag) h.from (map (λ (x : Hop). x.from) (filter passes sends)) (same h each.0 kept) (senders_have sends each.1)
-      ∙ sym (ap (λ b. cond (b || list_any passes sends) bag (before pair)) kept)))
-      (λ (dropped : passes h ≡ false).
-      ap (λ b. copied (cond b (h ∷ filter passes sends) (filter passes sends))) dropped
-      ∙ (copied_from_greatest sends each.1
-      ∙ sym (ap (λ b. cond (b || list_any passes sends) bag (before pair)) dropped)))
-      (cases_Bool (passes h))
+      elim (cases_Bool (passes h)) [
+        | inl kept ↦ rw kept (greatest_has (λ u. before (pair.0, u) ≡ bag) h.from (map (λ (x : Hop). x.from) (filter passes sends)) (same h each.0 kept) (senders_have sends each.1))
+        | inr dropped ↦ rw dropped (copied_from_greatest sends each.1)
+      ]
 
 -- ---- one step
 
 kept_or_brought : (kept brought : Bool) (one none : Bag) → cond brought one (cond kept one none) ≡ cond (kept || brought) one none
-kept_or_brought true true one none = refl
-kept_or_brought true false one none = refl
-kept_or_brought false true one none = refl
-kept_or_brought false false one none = refl
+kept_or_brought kept brought one none = grind arith
 
 -- the bags are those of what is held
 abbrev Follows : Bags → PlacementValue → Type 0

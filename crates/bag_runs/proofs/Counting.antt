@@ -1,5 +1,5 @@
 -- Bags with places for 16 counts, and the counts of so many nodes that they stand for.
-use Rattle.std.proofs.Common.{◌≡◌, ℕ, zero, suc, ◌+◌, ◌<◌, ◌≤◌, Bool, true, false, ◌&&◌, cond, eqb, min, List, [], ◌∷◌, length, map, get_or, set, replicate, take, refl, sym, ap, ◌∙◌, arith, ⊎_elim, get_or-set_same, get_or-set_other}
+use Rattle.std.proofs.Common.{◌≡◌, ℕ, zero, suc, ◌+◌, ◌<◌, ◌≤◌, Bool, true, ◌&&◌, cond, eqb, min, List, [], ◌∷◌, length, map, get_or, set, replicate, take, refl, sym, ap, ◌∙◌, arith, inl, inr, get_or-set_same, get_or-set_other}
 use Rattle.std.{specs.List.{list_all, range_with_len}, proofs.lemmas.{Bool.{cases_lt, eq-eqb}, List.{get_or_past, get_or-replicate, take_all}}}
 use Rattle.std.proofs.lemmas.List.FromFn.{get_or-map-range_with_len}
 use Rattle.schedule.specs.Bags.{added, held_at_2, is_empty, one_of}
@@ -7,8 +7,7 @@ use Rattle.bag_runs.{specs.Kept.{IsHeld, counted}, proofs.Cells.{differ, same_or
 
 -- functions that agree give the same list
 pub map_alike : {X : Type 0} (f g : ℕ → X) → ((k : ℕ) → f k ≡ g k) → (ks : List ℕ) → map f ks ≡ map g ks
-map_alike f g same [] = refl
-map_alike f g same (k ∷ ks) = ap (λ x. x ∷ map f ks) (same k) ∙ ap (λ xs. g k ∷ xs) (map_alike f g same ks)
+map_alike f g same ks = λ i. map (λ k. same k i) ks
 
 -- each of them is counted
 pub counted_at : (nodes : ℕ) (counts : List ℕ) (node : ℕ) → node < nodes → get_or (counted nodes counts) node 0 ≡ get_or counts node 0
@@ -23,25 +22,20 @@ zeros_length : length zeros ≡ 16
 zeros_length = refl
 
 none_at : (k : ℕ) → get_or zeros k 0 ≡ zero
-none_at k =
-    ⊎_elim
-    (λ (low : k < 16). get_or-replicate 16 k 0 0 low)
-    (λ (high : 16 ≤ k). get_or_past zeros k 0 (omega (arith, zeros_length)))
-    (cases_lt k 16)
+none_at k = elim (cases_lt k 16) [ inl low ↦ get_or-replicate 16 k 0 0 low | inr high ↦ get_or_past zeros k 0 (omega (arith, high, zeros_length)) ]
 
 one_at : (node k : ℕ) → node < 16 → get_or (set zeros node 1) k 0 ≡ cond (eqb k node) 1 0
 one_at node k low =
-    ⊎_elim
-    (λ (here : k ≡ node). ap (λ i. get_or (set zeros node 1) i 0) here ∙ get_or-set_same zeros node 1 0 (omega (arith, zeros_length)) ∙ sym (ap (λ b. cond b 1 0) (eq-eqb k node here)))
-    (λ (apart : eqb k node ≡ false). get_or-set_other zeros node k 1 0 (differ k node apart) ∙ none_at k ∙ sym (ap (λ b. cond b 1 0) apart))
-    (same_or_not k node)
+    elim (same_or_not k node) [
+      | inl here ↦ ap (λ i. get_or (set zeros node 1) i 0) here ∙ get_or-set_same zeros node 1 0 (omega (arith, zeros_length)) ∙ sym (ap (λ b. cond b 1 0) (eq-eqb k node here))
+      | inr apart ↦ get_or-set_other zeros node k 1 0 (differ k node apart) ∙ none_at k ∙ sym (ap (λ b. cond b 1 0) apart)
+    ]
 
 pub counted_one : (node nodes : ℕ) → node < 16 → counted nodes (set zeros node 1) ≡ one_of nodes node
 counted_one node nodes low = map_alike (λ k. get_or (set zeros node 1) k 0) (λ k. cond (eqb k node) 1 0) (λ k. one_at node k low) (range_with_len 0 nodes)
 
 pub few : (b : Bool) → cond b 1 0 ≤ 2
-few true = omega arith
-few false = omega arith
+few b = grind arith
 
 pub held_one : (node : ℕ) → node < 16 → IsHeld (set zeros node 1)
 held_one node low k = omega (arith, one_at node k low, few (eqb k node))
@@ -55,12 +49,10 @@ IsSum counts a b = (k : ℕ) → get_or counts k 0 ≡ min (get_or a k 0 + get_o
 -- counts that were filled in order, from none
 pub sum_filled : (counts a b : List ℕ) → length counts ≡ 16 → length a ≡ 16 → length b ≡ 16 → ((k : ℕ) → k < 16 → get_or counts k 0 ≡ min (get_or a k 0 + get_or b k 0) 2) → IsSum counts a b
 sum_filled counts a b n m l filled k =
-    ⊎_elim
-    (λ (low : k < 16). filled k low)
-    (λ (high : 16 ≤ k).
-    get_or_past counts k 0 (omega (arith, n))
-    ∙ sym (ap (λ x. min (x + get_or b k 0) 2) (get_or_past a k 0 (omega (arith, m))) ∙ ap (λ x. min (0 + x) 2) (get_or_past b k 0 (omega (arith, l)))))
-    (cases_lt k 16)
+    elim (cases_lt k 16) [
+      | inl low ↦ filled k low
+      | inr high ↦ omega (arith, get_or_past counts k 0 (omega (arith, high, n)), get_or_past a k 0 (omega (arith, high, m)), get_or_past b k 0 (omega (arith, high, l)))
+    ]
 
 summed : (f g : ℕ → ℕ) (ks : List ℕ) → map (λ k. min (f k + g k) 2) ks ≡ held_at_2 (added (map f ks) (map g ks))
 summed f g [] = refl
@@ -98,11 +90,8 @@ empty_counts counts nodes = go counts nodes 0
 -- so it is where at most 16 are looked at
 pub empty_front : (counts : List ℕ) (nodes places : ℕ) → length counts ≡ 16 → places ≡ min nodes 16 → is_empty (take places counts) ≡ is_empty (counted nodes counts)
 empty_front counts nodes places size is =
-    ⊎_elim
-    (λ (low : nodes < 16). let all : places ≡ nodes = omega arith in ap (λ n. is_empty (take n counts)) all ∙ empty_counts counts nodes)
-    (λ (high : 16 ≤ nodes).
-    let all : places ≡ 16 = omega arith in
-    ap (λ n. is_empty (take n counts)) all
-    ∙ ap is_empty (take_all 16 counts (omega (arith, size)) ∙ sym (take_all nodes counts (omega (arith, size, high))))
-    ∙ empty_counts counts nodes)
-    (cases_lt nodes 16)
+    elim (cases_lt nodes 16) [
+      | inl low ↦ (let all : places ≡ nodes = omega (arith, is, low) in ap (λ n. is_empty (take n counts)) all ∙ empty_counts counts nodes)
+      | inr high ↦ (let all : places ≡ 16 = omega (arith, is, high) in
+          ap (λ n. is_empty (take n counts)) all ∙ ap is_empty (take_all 16 counts (omega (arith, size)) ∙ sym (take_all nodes counts (omega (arith, size, high)))) ∙ empty_counts counts nodes)
+    ]

@@ -1,5 +1,5 @@
 -- Steps of joined runs: one that adds, one that copies, and what the greatest of its senders has.
-use Rattle.std.proofs.Common.{◌≡◌, ℕ, zero, suc, ◌+◌, ◌<◌, ◌≤◌, ◌⊎◌, ⊎_elim, cond, List, [], ◌∷◌, refl, sym, ap, ◌∙◌, subst, arith, fold, max}
+use Rattle.std.proofs.Common.{◌≡◌, ℕ, zero, suc, ◌+◌, ◌<◌, ◌≤◌, ◌⊎◌, inl, inr, cond, List, [], ◌∷◌, refl, sym, ap, ◌∙◌, subst, arith, fold, max}
 use Rattle.std.{specs.List.{AllByRecursion, reduce}, proofs.lemmas.Bool.{le-leb, lt-leb}}
 use Rattle.schedule.specs.{Sends.ScheduleValue, Bags.{Bag, Bags}, Summing.summed_step, JoinedRuns.{copied_step, joined_after, replaced}}
 use Rattle.bag_runs.specs.Throughout.{AddsThroughout}
@@ -33,12 +33,7 @@ one_of_two a b = grind arith
 pub greatest_has : (P : ℕ → Type 0) (x : ℕ) (xs : List ℕ) → P x → AllByRecursion P xs → P (fold max x xs)
 greatest_has P x [] it each = it
 greatest_has P x (y ∷ xs) it each =
-    greatest_has P (max x y) xs
-    (⊎_elim
-    (λ (left : max x y ≡ x). subst P (sym left) it)
-    (λ (right : max x y ≡ y). subst P (sym right) each.0)
-    (one_of_two x y))
-    each.1
+    greatest_has P (max x y) xs (elim (one_of_two x y) [ inl left ↦ subst P (sym left) it | inr right ↦ subst P (sym right) each.0 ]) each.1
 
 -- where each sender has the same bag, and the pair has it where there is none, that bag comes to the pair
 pub replaced_has : (before : Bags) (pair : ℕ × ℕ) (bag : Bag) (senders : List ℕ) → AllByRecursion (λ u. before (pair.0, u) ≡ bag) senders → (senders ≡ [] → before pair ≡ bag)

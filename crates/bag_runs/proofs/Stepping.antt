@@ -1,6 +1,6 @@
 -- The stores of a run step by step.
 use Rattle.std.{proofs.Common.{◌≡◌, ℕ, suc, ◌+◌, List, [], ◌∷◌, ◌++◌, length, map, refl, sym, ap, ◌∙◌, arith}, specs.List.range_with_len}
-use Rattle.std.proofs.lemmas.List.FromFn.{map-range_with_len_more}
+use Rattle.std.proofs.lemmas.{List.FromFn.map-range_with_len_more, Simd.map-map}
 use Rattle.schedule.specs.{Bags.Bags, Sends.{IsInRange, ScheduleValue}, JoinedRuns.{joined_after, joined_run, joined_step}}
 use Rattle.bag_runs.specs.Stores.{StoreValue, stored}
 
@@ -45,18 +45,13 @@ module _ (start : StoreValue) (s : ScheduleValue) (adding : ℕ) where
         next_is bags from =
             let before : Bags = joined_after bags s adding n in
             let one : n + 1 ≡ suc n = omega arith in
-            let own : held ≡ stored held.chunks held.nodes before =
-            after.held_is bags from ∙ ap (λ c. stored c start.nodes before) (sym after.chunks) ∙ ap (λ w. stored held.chunks w before) (sym after.nodes) in
-            is_next before own
-            ∙ ap (λ c. stored c held.nodes (joined_step s.sends adding before (n + 1))) after.chunks
-            ∙ ap (λ w. stored start.chunks w (joined_step s.sends adding before (n + 1))) after.nodes
-            ∙ sym (ap (store_after start.chunks start.nodes bags s adding) one)
+            let own : held ≡ stored held.chunks held.nodes before = after.held_is bags from ∙ sym (λ i. stored (after.chunks i) (after.nodes i) before) in
+            is_next before own ∙ (λ i. stored (after.chunks i) (after.nodes i) (joined_step s.sends adding before (n + 1))) ∙ sym (ap (store_after start.chunks start.nodes bags s adding) one)
 
   module _ (held : StoreValue) (run : List StoreValue) (n : ℕ) (come : HasCome start s adding held run n) where
     pub run_pushed : (bags : Bags) → start ≡ stored start.chunks start.nodes bags → run ++ held ∷ [] ≡ map (store_after start.chunks start.nodes bags s adding) (range_with_len 0 (n + 1))
     run_pushed bags from =
-        ap (λ r. r ++ held ∷ []) (come.run_is bags from)
-        ∙ ap (λ h. map (store_after start.chunks start.nodes bags s adding) (range_with_len 0 n) ++ h ∷ []) (come.after.held_is bags from)
+        (λ i. come.run_is bags from i ++ come.after.held_is bags from i ∷ [])
         ∙ sym (map-range_with_len_more (store_after start.chunks start.nodes bags s adding) 0 n n (omega arith))
 
     pub come_more : (next : StoreValue) (new : List StoreValue) → IsNext s adding (n + 1) held next → next.chunks ≡ held.chunks → next.nodes ≡ held.nodes → new ≡ run ++ held ∷ [] → HasCome start s adding next new (n + 1)
@@ -70,8 +65,4 @@ module _ (start : StoreValue) (s : ScheduleValue) (adding : ℕ) where
     run_whole new all pushed bags from =
         pushed ∙ run_pushed bags from
         ∙ ap (λ k. map (store_after start.chunks start.nodes bags s adding) (range_with_len 0 (k + 1))) all
-        ∙ sym (both (range_with_len 0 (length s.rounds + 1)))
-      where
-        both : (ks : List ℕ) → map (stored start.chunks start.nodes) (map (joined_after bags s adding) ks) ≡ map (store_after start.chunks start.nodes bags s adding) ks
-        both [] = refl
-        both (k ∷ ks) = ap (λ xs. store_after start.chunks start.nodes bags s adding k ∷ xs) (both ks)
+        ∙ sym (map-map (stored start.chunks start.nodes) (joined_after bags s adding) (range_with_len 0 (length s.rounds + 1)))

@@ -1,6 +1,6 @@
 -- Stores as lists of bags, a row of nodes for each chunk.
 use Rattle.std.proofs.Common.{◌≡◌, ℕ, zero, suc, ◌+◌, ◌*◌, ◌<◌, ◌≤◌, cond, eqb, min, List, [], ◌∷◌, ◌++◌, length, map, get_or, set, refl, sym, ap, ◌∙◌, arith}
-use Rattle.std.{specs.List.{AllByRecursion, flat_map, range_with_len}, proofs.lemmas.{Grind.flat_map-append, List.Elements.All-from_recursion, Nat.mul-add-lt}}
+use Rattle.std.{specs.List.{AllByRecursion, flat_map, range_with_len}, proofs.lemmas.{Grind.flat_map-append, List.Elements.All-from_recursion, Nat.mul-add-lt, Simd.map-map}}
 use Rattle.std.proofs.lemmas.List.{append-nil, append_assoc, get_or-map, length-map, length-set, map-append, map-id, map-set, FromFn.map-range_with_len_more}
 use Rattle.schedule.{specs.{Placed.all_pairs, Bags.{Bag, empty_bag, held_at_2, one_of}}, proofs.First.each_append}
 use Rattle.bag_runs.specs.{declared.mode.Mode.Mode, Stores.{StoreValue, bag_in, received, with_bag}, Kept.{IsFilled, IsHeld, IsStore, counted}}
@@ -56,13 +56,9 @@ pairs_more chunk nodes =
 pub row_pushed : (f : ℕ × ℕ → Bag) (nodes chunk : ℕ) (old new : List Bag) → old ≡ map f (all_pairs chunk nodes) → new ≡ old ++ map (λ node. f (chunk, node)) (range_with_len 0 nodes) → new ≡ map f (all_pairs (chunk + 1) nodes)
 row_pushed f nodes chunk old new so_far more =
     more ∙ ap (λ bs. bs ++ map (λ node. f (chunk, node)) (range_with_len 0 nodes)) so_far
-    ∙ ap (λ bs. map f (all_pairs chunk nodes) ++ bs) (sym (both (range_with_len 0 nodes)))
+    ∙ ap (λ bs. map f (all_pairs chunk nodes) ++ bs) (sym (map-map f (λ node. (chunk, node)) (range_with_len 0 nodes)))
     ∙ sym (map-append f (all_pairs chunk nodes) (map (λ node. (chunk, node)) (range_with_len 0 nodes)))
     ∙ ap (map f) (sym (pairs_more chunk nodes))
-  where
-    both : (ks : List ℕ) → map f (map (λ node. (chunk, node)) ks) ≡ map (λ node. f (chunk, node)) ks
-    both [] = refl
-    both (k ∷ ks) = ap (λ bs. f (chunk, k) ∷ bs) (both ks)
 
 -- one bag more of a row
 pub bag_pushed : (f : ℕ → Bag) (nodes node : ℕ) (old now new : List (List ℕ)) (counts : List ℕ) → map (counted nodes) now ≡ map (counted nodes) old ++ map f (range_with_len 0 node)

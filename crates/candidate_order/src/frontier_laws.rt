@@ -10,16 +10,19 @@ use crate::candidate::Candidate;
 use crate::mark::Mark;
 
 /// A frontier that says nothing is right only where no candidate is within the limits.
+#[tactic(auto, using(crate::proofs::Frontiers::bare_right))]
 pub fn nothing_said_is_right_only_of_nothing()
     ensures { (q : QuestionValue) (f : FrontierValue) → RightFrontier q f → f.points ≡ [] → f.refuted ≡ [] → f.unknown ≡ [] → (x : Candidate) → IsWithin q x → ⊥ }
 {}
 
 /// Every candidate within the limits that is better than an optimal point is refuted.
+#[tactic(auto, using(crate::proofs::Frontiers::better_refuted))]
 pub fn better_than_optimal_is_refuted()
     ensures { (q : QuestionValue) (f : FrontierValue) → RightFrontier q f → (p : PointValue) → Contains f.points p → p.mark ≡ Mark.Optimal → (x : Candidate) → IsWithin q x → Better x p.candidate → Contains f.refuted x }
 {}
 
 /// No point of a searched frontier is no worse than a later one.
+#[tactic(auto, using(crate::proofs::Frontiers::points_differ))]
 pub fn no_point_settles_a_later_one()
     ensures { (q : QuestionValue) (f : FrontierValue) → RightFrontier q f → Searched q f → (p : PointValue) → Contains f.points p → (x : Candidate) → Contains (solved f) x → Before x p.candidate → NoWorse x p.candidate → ⊥ }
 {}
@@ -37,6 +40,7 @@ pub fn no_point_is_refuted()
 
 /// The schedule of each point of a right frontier does what its collective asks, in the point's
 /// steps and rounds.
+#[tactic(auto, using(crate::proofs::Frontiers::point_sums, crate::proofs::Frontiers::point_solves))]
 pub fn each_point_does_what_is_asked()
     ensures copies { (q : QuestionValue) (f : FrontierValue) → RightFrontier q f → (p : PointValue) → Contains f.points p → adds_up q.spec ≡ false → Solves q.topology (spec_instance q.spec q.topology.nodes p.candidate.c).pre (spec_instance q.spec q.topology.nodes p.candidate.c).post p.schedule p.candidate.s p.candidate.r }
     ensures adds { (q : QuestionValue) (f : FrontierValue) → RightFrontier q f → (p : PointValue) → Contains f.points p → adds_up q.spec ≡ true → Sums q.topology (spec_demand q.spec q.topology.nodes p.candidate.c) p.schedule p.candidate.s p.candidate.r }
@@ -44,6 +48,7 @@ pub fn each_point_does_what_is_asked()
 
 /// A point of a right frontier is not left open where every better candidate within the limits is
 /// refuted.
+#[tactic(auto, using(crate::proofs::Frontiers::open_not_all))]
 pub fn open_points_may_be_bettered()
     ensures { (q : QuestionValue) (f : FrontierValue) → RightFrontier q f → (p : PointValue) → Contains f.points p → p.mark ≡ Mark.Open → ((x : Candidate) → IsWithin q x → Better x p.candidate → Contains f.refuted x) → ⊥ }
 {}

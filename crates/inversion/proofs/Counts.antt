@@ -1,6 +1,6 @@
 -- No count is uneven exactly where each bag has one of each node.
-use Rattle.std.proofs.Common.{◌≡◌, ◌⊎◌, inl, inr, ℕ, zero, suc, ◌+◌, ◌<◌, ◌≤◌, false, not, eqb, List, [], ◌∷◌, ◌++◌, length, map, get_or, None, refl, ap, ◌∙◌, arith, All}
-use Rattle.std.{specs.List.{AllByRecursion, range_with_len}, proofs.lemmas.Bool.{eqb-true, eq-eqb, not-false, not_from_true}}
+use Rattle.std.proofs.Common.{◌≡◌, inl, inr, ℕ, zero, suc, ◌+◌, ◌<◌, ◌≤◌, false, not, eqb, List, [], ◌∷◌, ◌++◌, length, map, get_or, None, refl, ap, ◌∙◌, arith, All}
+use Rattle.std.{specs.List.{AllByRecursion, range_with_len}, proofs.lemmas.Bool.{cases_eq, eqb-true, eq-eqb, not-false, not_from_true}}
 use Rattle.std.proofs.lemmas.List.Elements.{All-from_recursion, recursion_from_All}
 use Rattle.schedule.{specs.Bags.{Bag, Bags, one_of_each}, proofs.{Bagging.one_each, First.{found_none, none_found, each_append}}}
 use Rattle.inversion.specs.Judging.{count_of, counts_due, first_uneven}
@@ -27,13 +27,10 @@ mapped bags pair (n ∷ nodes) each = (each.0, mapped bags pair nodes each.1)
 row_ones : (bag : Bag) (a n : ℕ) → AllByRecursion (IsEven bag) (range_with_len a n) → (i : ℕ) → a ≤ i → i < a + n → get_or bag i 0 ≡ 1
 row_ones bag a zero each i from to = absurd (omega arith)
 row_ones bag a (suc n) each i from to =
-    elim (here_or_later a i from) [
-      | inl here ↦ (let first : get_or bag a 0 ≡ 1 = eqb-true _ _ (not-false _ each.0) in rw (← here) first)
-      | inr later ↦ row_ones bag (a + 1) n each.1 i (omega (arith, later)) (omega (arith, to))
+    elim (cases_eq a i) [
+      | inl here ↦ rw (← here) (eqb-true (get_or bag a 0) 1 (not-false _ each.0))
+      | inr later ↦ row_ones bag (a + 1) n each.1 i (omega (arith, from, later)) (omega (arith, to))
     ]
-  where
-    here_or_later : (a i : ℕ) → a ≤ i → (a ≡ i) ⊎ (a < i)
-    here_or_later a i from = grind arith
 
 ones_row : (bag : Bag) (a n : ℕ) → ((i : ℕ) → a ≤ i → i < a + n → get_or bag i 0 ≡ 1) → AllByRecursion (IsEven bag) (range_with_len a n)
 ones_row bag a zero ones = tt

@@ -36,8 +36,7 @@ held_at (x ∷ bag) zero = refl
 held_at (x ∷ bag) (suc node) = held_at bag node
 
 find_alike : {X : Type 0} (p q : X → Bool) → ((x : X) → p x ≡ q x) → (xs : List X) → find p xs ≡ find q xs
-find_alike p q same [] = refl
-find_alike p q same (x ∷ xs) = ap (λ b. cond b (Some x) (find p xs)) (same x) ∙ ap (cond (q x) (Some x)) (find_alike p q same xs)
+find_alike p q same xs = λ i. find (λ x. same x i) xs
 
 node_alike : (bag : Bag) (nodes : ℕ) → uneven_node (held_at_2 bag) nodes ≡ uneven_node bag nodes
 node_alike bag nodes =
@@ -154,8 +153,7 @@ module _ (start : StoreValue) (s : ScheduleValue) (chunks had nodes : ℕ) (same
       → last ≡ stored chunks nodes (joined_after (contributions nodes) s adding (length s.rounds))
   last_kept last adding ran =
       let bags : Bags = joined_after (contributions nodes) s adding (length s.rounds) in
-      ran (contributions nodes) (first ∙ ap (λ c. stored c nodes (contributions nodes)) (sym of_chunks) ∙ ap (λ n. stored start.chunks n (contributions nodes)) (sym of_nodes))
-      ∙ ap (λ c. stored c start.nodes bags) of_chunks ∙ ap (λ n. stored chunks n bags) of_nodes
+      ran (contributions nodes) (first ∙ sym (λ i. stored (of_chunks i) (of_nodes i) (contributions nodes))) ∙ λ i. stored (of_chunks i) (of_nodes i) bags
 
 -- what is said of a store of these bags, of so many chunks and nodes
 pub run_judged : (last : StoreValue) (v : SumVerdict) (chunks nodes : ℕ) (bags : Bags) (pairs : List (ℕ × ℕ)) → last ≡ stored chunks nodes bags
@@ -163,5 +161,5 @@ pub run_judged : (last : StoreValue) (v : SumVerdict) (chunks nodes : ℕ) (bags
 run_judged last v chunks nodes bags pairs is judged =
     let of_chunks : last.chunks ≡ chunks = ap (λ (x : StoreValue). x.chunks) is in
     let of_nodes : last.nodes ≡ nodes = ap (λ (x : StoreValue). x.nodes) is in
-    judged bags (is ∙ ap (λ c. stored c nodes bags) (sym of_chunks) ∙ ap (λ n. stored last.chunks n bags) (sym of_nodes))
+    judged bags (is ∙ sym (λ i. stored (of_chunks i) (of_nodes i) bags))
     ∙ ap (λ n. counts_judged bags (first_uneven bags n pairs)) of_nodes

@@ -1,5 +1,5 @@
 -- Of the sends of one chunk to one node, the first: what stands among them, in which order, and how many.
-use Rattle.std.proofs.Common.{◌≡◌, ℕ, zero, suc, ◌+◌, ◌≤◌, inl, inr, ⊎_elim, Bool, true, false, cond, List, [], ◌∷◌, refl, ap, ◌∙◌, arith, count_by, filter}
+use Rattle.std.proofs.Common.{◌≡◌, ℕ, zero, suc, ◌+◌, ◌≤◌, inl, inr, Bool, true, false, cond, List, [], ◌∷◌, refl, ap, ◌∙◌, arith, count_by, filter}
 use Rattle.std.{specs.List.{AllByRecursion, AllPairs}, proofs.lemmas.{Bool.{cases_Bool, not-true, not-false}, List.Elements.All-from_recursion}}
 use Rattle.std.proofs.lemmas.List.Sums.{sum_by-cons}
 use Rattle.schedule.specs.{declared.hop.Hop.Hop, Placed.same_pair}
@@ -36,11 +36,7 @@ ordered_firsts before (h ∷ hops) order =
 pub counted_firsts : (p : Hop → Bool) (hops : List Hop) → count_by p (firsts hops) ≤ count_by p hops
 counted_firsts p [] = omega arith
 counted_firsts p (h ∷ hops) =
-    let rest : count_by p (firsts hops) ≤ count_by p hops = counted_firsts p hops in
-    let fewer : count_by p (filter (is_other h) (firsts hops)) ≤ count_by p (firsts hops) = counted_kept p (is_other h) (firsts hops) in
-    let whole : count_by p (h ∷ hops) ≡ cond {A = ℕ} (p h) 1 0 + count_by p hops = sum_by-cons (λ y. cond (p y) 1 0) h hops in
-    let kept : count_by p (h ∷ filter (is_other h) (firsts hops)) ≡ cond {A = ℕ} (p h) 1 0 + count_by p (filter (is_other h) (firsts hops)) = sum_by-cons (λ y. cond (p y) 1 0) h (filter (is_other h) (firsts hops)) in
-    omega (arith, rest, fewer, whole, kept)
+    omega (arith, counted_firsts p hops, counted_kept p (is_other h) (firsts hops), sum_by-cons (λ y. cond (p y) 1 0) h hops, sum_by-cons (λ y. cond (p y) 1 0) h (filter (is_other h) (firsts hops)))
 
 apart_firsts : (hops : List Hop) → InOrder is_other (firsts hops)
 apart_firsts [] = tt
@@ -60,16 +56,10 @@ once_firsts hops = once_apart (firsts hops) (apart_firsts hops)
 -- for each send there is a first one that brings the same
 pub first_of : (h : Hop) (hops : List Hop) → Among h hops → (o : Hop) × Among o (firsts hops) × (to_pair o ≡ to_pair h)
 first_of h [] among = absurd among
-first_of h (x ∷ hops) among =
-    ⊎_elim
-    (λ (here : x ≡ h). (x, inl refl, ap to_pair here))
-    (λ (later : Among h hops).
+first_of h (x ∷ hops) (inl here) = (x, inl refl, ap to_pair here)
+first_of h (x ∷ hops) (inr later) =
     let found = first_of h hops later in
-    let o : Hop = found.0 in
-    let among_o : Among o (firsts hops) = found.1 in
-    let same : to_pair o ≡ to_pair h = found.2 in
-    ⊎_elim
-    (λ (other : is_other x o ≡ true). (o, inr (among_kept (is_other x) o (firsts hops) among_o other), same))
-    (λ (as_first : is_other x o ≡ false). (x, inl refl, pair_is (to_pair x) (to_pair o) (not-false _ as_first) ∙ same))
-    (cases_Bool (is_other x o)))
-    among
+    elim (cases_Bool (is_other x found.0)) [
+      | inl other ↦ (found.0, inr (among_kept (is_other x) found.0 (firsts hops) found.1 other), found.2)
+      | inr as_first ↦ (x, inl refl, pair_is (to_pair x) (to_pair found.0) (not-false _ as_first) ∙ found.2)
+    ]

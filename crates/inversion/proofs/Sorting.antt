@@ -1,6 +1,6 @@
 -- Sends that are sorted: the images of a schedule's sends, in ascending order, are the sends of its inverse.
-use Rattle.std.proofs.Common.{◌≡◌, ℕ, Bool, true, false, not, ◌&&◌, cond, List, [], ◌∷◌, length, map, get_or, sym, ap, ◌∙◌, ⊎_elim, arith, ◌≢◌, reverse, AllPairs, IsPermutation}
-use Rattle.std.{specs.{Cmp.IsStrictWeakOrder, List.{IsDistinct, Sorted.IsSortedBy}}, proofs.lemmas.Bool.{and_parts, and_from, cases_Bool, both_ways, not-true}}
+use Rattle.std.proofs.Common.{◌≡◌, ℕ, Bool, true, false, not, ◌&&◌, List, [], ◌∷◌, length, map, get_or, inl, inr, ap, ◌∙◌, arith, ◌≢◌, reverse, AllPairs, IsPermutation}
+use Rattle.std.{specs.{Cmp.IsStrictWeakOrder, List.{IsDistinct, Sorted.IsSortedBy}}, proofs.lemmas.Bool.{and_parts, and_from, cases_Bool, both_ways, false_from_ne_true, not-true, true_from_ne_false}}
 use Rattle.std.proofs.{lemmas.List.{Elements.recursion_from_All, Sorted.{Contains-permutation, IsPermutation-sym, sorted_far}}, Math.Bool.and_comm}
 use Rattle.std.proofs.lemmas.Map.Keys.{IsDistinct-IsPermutation, IsDistinct-cons, apart_from_distinct}
 use Rattle.schedule.specs.{declared.hop.Hop.Hop, Sends.{ScheduleValue, IsSchedule, IsStep, hop_before}, Inverse.{in_order, inverse_hop, inverse_of}}
@@ -11,19 +11,13 @@ use Rattle.schedule.proofs.Inverting.{apart_inverses, one_order, valid_inverse}
 -- ---- the order is one that a sort can use
 
 one_way : (a b : Hop) → hop_before a b ≡ true → hop_before b a ≡ false
-one_way a b there =
-    ⊎_elim (λ (back : hop_before b a ≡ true). absurd (sends_one_way a b there back)) (λ (not_so : hop_before b a ≡ false). not_so) (cases_Bool (hop_before b a))
+one_way a b there = false_from_ne_true (hop_before b a) (sends_one_way a b there)
 
 chain : (a b c : Hop) → hop_before a b ≡ false → hop_before b c ≡ false → hop_before a c ≡ false
 chain a b c first second =
-    ⊎_elim
-    (λ (there : hop_before a c ≡ true).
-    ⊎_elim
-    (λ (back : hop_before b a ≡ true). absurd (both_ways _ second (before_all b a c back there)))
-    (λ (neither : hop_before b a ≡ false). absurd (both_ways _ second (ap (λ h. hop_before h c) (neither_before b a neither first) ∙ there)))
-    (cases_Bool (hop_before b a)))
-    (λ (not_so : hop_before a c ≡ false). not_so)
-    (cases_Bool (hop_before a c))
+    false_from_ne_true (hop_before a c) (λ there.
+    elim (cases_Bool (hop_before b a))
+    [ inl back ↦ both_ways _ second (before_all b a c back there) | inr neither ↦ both_ways _ second (ap (λ h. hop_before h c) (neither_before b a neither first) ∙ there) ])
 
 pub before_is_order : IsStrictWeakOrder hop_before
 before_is_order = record { one_way = one_way; chain = chain }
@@ -36,12 +30,9 @@ tie a b = not (hop_before a b) && not (hop_before b a)
 
 never_tie : (a b : Hop) → (a ≢ b) → tie a b ≡ false
 never_tie a b apart =
-    ⊎_elim
-    (λ (tied : tie a b ≡ true).
+    false_from_ne_true (tie a b) (λ tied.
     let parts = and_parts (not (hop_before a b)) (not (hop_before b a)) tied in
-    absurd (apart (neither_before a b (not-true _ parts.0) (not-true _ parts.1))))
-    (λ (not_so : tie a b ≡ false). not_so)
-    (cases_Bool (tie a b))
+    apart (neither_before a b (not-true _ parts.0) (not-true _ parts.1)))
 
 distinct : (hops : List Hop) → Apart hops → IsDistinct tie hops
 unfolding IsDistinct
@@ -50,10 +41,7 @@ distinct (h ∷ hops) apart = IsDistinct-cons tie h hops (each_weaker (λ o. h �
 
 before_or_tie : (a b : Hop) → hop_before b a ≡ false → tie a b ≡ false → hop_before a b ≡ true
 before_or_tie a b not_back not_tied =
-    ⊎_elim
-    (λ (there : hop_before a b ≡ true). there)
-    (λ (neither : hop_before a b ≡ false). absurd (both_ways _ not_tied (and_from _ _ (ap not neither) (ap not not_back))))
-    (cases_Bool (hop_before a b))
+    true_from_ne_false (hop_before a b) (λ neither. both_ways _ not_tied (and_from _ _ (ap not neither) (ap not not_back)))
 
 sorted_ascends : (xs ys : List Hop) → Apart xs → IsPermutation xs ys → IsSortedBy hop_before ys → AllPairs (λ a b. hop_before a b ≡ true) ys
 sorted_ascends xs ys apart moved sorted i j d before within =

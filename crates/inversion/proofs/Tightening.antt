@@ -1,6 +1,6 @@
 -- A schedule without its wasted sends holds the same after each step, and wastes none.
 use Rattle.std.proofs.Common.{◌≡◌, ℕ, zero, suc, ◌+◌, ◌-◌, ◌<◌, Bool, true, false, ◌&&◌, ◌||◌, eqb, refl, sym, ap, ◌∙◌, subst, arith, filter, not}
-use Rattle.std.{specs.List.{AllByRecursion, list_any}, proofs.lemmas.Bool.{and_parts, and_from, eqb-true, eq-eqb, not-true}}
+use Rattle.std.{specs.List.{AllByRecursion, list_any}, proofs.lemmas.Bool.{and_parts, and_from, eqb-true, eq-eqb, false≢true, not-true}}
 use Rattle.schedule.specs.{declared.hop.Hop.Hop, Sends.{ScheduleValue, IsSchedule, IsInRange}, Placed.{PlacementValue, holds, same_pair}}
 use Rattle.schedule.specs.Running.{after, brings, step_of}
 use Rattle.schedule.proofs.{First.{Among, among_each, each_among, each_filter, any_found, any_among, among_kept, each_passes}, Wasting.to_pair}
@@ -14,8 +14,7 @@ held_until pre s k n zero pair is c v held = let same : k ≡ n = omega (arith, 
 held_until pre s k n (suc j) pair is c v held = held_until pre s (suc k) n j pair (omega (arith, is)) c v (still_held pre s k pair c v held)
 
 pub true_not_false : (b : Bool) → b ≡ true → b ≡ false → ⊥
-true_not_false true is is_not = cc
-true_not_false false is is_not = cc
+true_not_false b is is_not = false≢true (sym is_not ∙ is)
 
 -- what a useful send says
 pub record IsUsefulSend (pre : PlacementValue) (s : ScheduleValue) (h : Hop) : Type 0 where
@@ -40,10 +39,7 @@ level : (a b : ℕ) → (a < b → ⊥) → (b < a → ⊥) → a ≡ b
 level a b not_less not_more = grind arith
 
 or_alike : (a b c : Bool) → (b ≡ true → c ≡ true) → (a ≡ false → c ≡ true → b ≡ true) → (a || b) ≡ (a || c)
-or_alike true b c there back = refl
-or_alike false true c there back = sym (there refl)
-or_alike false false true there back = let impossible : false ≡ true = back refl refl in absurd cc
-or_alike false false false there back = refl
+or_alike a b c there back = grind arith
 
 -- the sends that are kept are sends of the schedule, and useful
 pub kept_among : (pre : PlacementValue) (s : ScheduleValue) (h : Hop) → Among h (tightened pre s).sends → Among h s.sends

@@ -1,5 +1,5 @@
 -- The first uneven count, row by row and node by node.
-use Rattle.std.proofs.Common.{◌≡◌, ℕ, ◌+◌, ◌-◌, ◌<◌, ◌≤◌, Bool, true, false, not, cond, eqb, List, ◌∷◌, ◌++◌, map, get_or, Option, Some, None, refl, sym, ap, ◌∙◌}
+use Rattle.std.proofs.Common.{◌≡◌, ℕ, ◌+◌, ◌-◌, ◌<◌, ◌≤◌, Bool, true, false, not, cond, eqb, List, ◌∷◌, map, get_or, Option, None, refl, sym, ap, ◌∙◌}
 use Rattle.std.{specs.{List.{filter, find, flat_map, range_with_len}, Option.{option_map, option_or}}, proofs.lemmas.List.Elements.filter-append}
 use Rattle.std.proofs.lemmas.List.{Concat.flat_map-append, Folds.find-append}
 use Rattle.list_laws.proofs.Tests.{find-map}

@@ -1,7 +1,7 @@
 -- The groups of each cover have every usable link into the set, so that they carry all that comes in.
-use Rattle.std.proofs.Common.{◌≡◌, ℕ, zero, suc, ◌+◌, ◌*◌, ◌<◌, ◌≤◌, Bool, true, false, ◌||◌, ◌&&◌, cond, List, [], ◌∷◌, ◌++◌, length, reverse, refl, sym, ap, ◌∙◌, ⊎_elim, arith, ◌==◌, count_by, nat_lt, not, Option, None, Some}
+use Rattle.std.proofs.Common.{◌≡◌, ℕ, zero, suc, ◌+◌, ◌*◌, ◌<◌, ◌≤◌, Bool, true, false, ◌||◌, ◌&&◌, cond, List, [], ◌∷◌, ◌++◌, length, reverse, refl, sym, ap, ◌∙◌, ⊎_elim, inl, inr, arith, ◌==◌, count_by, nat_lt, not, Option, None, Some}
 use Rattle.std.{specs.{List.list_any, Option.option_map_or}, proofs.{Math.Nat.add-mul, lemmas.List.{get_or_default, get_or_past}}}
-use Rattle.std.proofs.lemmas.Bool.{both_ways, cases_Bool, cases_lt, cond_both, false≢true, or_left, or_right, or_cases, and_parts, and_from, not_from_false, eq-eqb}
+use Rattle.std.proofs.lemmas.Bool.{Decides.nat_tests, both_ways, cases_Bool, cases_lt, cond_both, false≢true, or_left, or_right, or_cases, and_parts, and_from, not_from_false, eq-eqb}
 use Rattle.std.proofs.lemmas.List.{Folds.{Any-from_list_any, list_any-append}, Sorted.{IsPermutation-reverse, list_any-IsPermutation}, Sums.sum_by-cons}
 use Rattle.schedule.specs.{declared.hop.Hop.Hop, Links.{TopologyValue, has_link, is_usable}, Sends.{ScheduleValue, link_of}, Judging.group_at}
 use Rattle.schedule.specs.Fitting.{load, rounds_at}
@@ -14,10 +14,10 @@ use Rattle.node_cuts.proofs.{Choosing.{any_filter, chosen, is_new}, Counting.{no
 -- a group that has a link is one of the topology's
 pub in_range : (t : TopologyValue) (g : ℕ) (link : ℕ × ℕ) → has_link (group_at t g) link ≡ true → g < length t.groups
 in_range t g link stands =
-    ⊎_elim
-    (λ (inside : g < length t.groups). inside)
-    (λ (past : length t.groups ≤ g). absurd (false≢true (sym (ap (λ group. has_link group link) (get_or_past t.groups g (record { links = []; width = 0 }) past)) ∙ stands)))
-    (cases_lt g (length t.groups))
+    elim (cases_lt g (length t.groups)) [
+      | inl inside ↦ inside
+      | inr past ↦ absurd (false≢true (sym (ap (λ group. has_link group link) (get_or_past t.groups g (record { links = []; width = 0 }) past)) ∙ stands))
+    ]
 
 module _ (u : NodeSet) (t : TopologyValue) where
   module _ (link : ℕ × ℕ) (into : enters u link ≡ true) where
@@ -41,15 +41,13 @@ module _ (u : NodeSet) (t : TopologyValue) where
     covers_along taken [] some = absurd (false≢true some)
     covers_along taken (g ∷ gs) some =
         let more : List ℕ = cond (opens u t taken g) (g ∷ []) [] in
-        ⊎_elim
-        (λ (here : has g ≡ true).
-        ⊎_elim
-        (λ (already : is_among t taken link ≡ true). stays_along taken (g ∷ gs) already)
-        (λ (not_yet : is_among t taken link ≡ false).
-        stays_along (taken ++ more) gs (list_any-append has taken more ∙ or_right (list_any has taken) (list_any has more) (ap (λ b. list_any has (cond b (g ∷ []) [])) (opens_here taken g here not_yet) ∙ or_left (has g) false here)))
-        (cases_Bool (is_among t taken link)))
-        (λ (later : list_any has gs ≡ true). covers_along (taken ++ more) gs later)
-        (or_cases (has g) (list_any has gs) some)
+        elim (or_cases (has g) (list_any has gs) some) [
+          | inl here ↦ elim (cases_Bool (is_among t taken link)) [
+            | inl already ↦ stays_along taken (g ∷ gs) already
+            | inr not_yet ↦ stays_along (taken ++ more) gs (list_any-append has taken more ∙ or_right (list_any has taken) (list_any has more) (ap (λ b. list_any has (cond b (g ∷ []) [])) (opens_here taken g here not_yet) ∙ or_left (has g) false here))
+          ]
+          | inr later ↦ covers_along (taken ++ more) gs later
+        ]
 
     stays_ascending : (taken : List ℕ) → is_among t taken link ≡ true → is_among t (ascending t taken) link ≡ true
     stays_ascending taken already =
@@ -117,12 +115,7 @@ carried t s step p now within (g ∷ gs) =
     let later : Hop → Bool = λ h. is_among t gs (link_of h) in
     let here : Hop → Bool = λ h. h.step == step && has h in
     let rest : Hop → Bool = λ h. p h && later h in
-    let one_of : (h : Hop) → (p h && (has h || later h)) ≡ true → (here h || rest h) ≡ true = λ h both.
-    let parts = and_parts (p h) (has h || later h) both in
-    ⊎_elim
-    (λ (first : has h ≡ true). or_left (here h) (rest h) (and_from (h.step == step) (has h) (eq-eqb h.step step (now h parts.0)) first))
-    (λ (other : later h ≡ true). or_right (here h) (rest h) (and_from (p h) (later h) parts.0 other))
-    (or_cases (has h) (later h) parts.1) in
+    let one_of : (h : Hop) → (p h && (has h || later h)) ≡ true → (here h || rest h) ≡ true = λ h both. grind (arith, nat_tests, both, now h) in
     let product : width_of t (g ∷ gs) * rounds_at s step ≡ (group_at t g).width * rounds_at s step + width_of t gs * rounds_at s step =
     ap (λ w. w * rounds_at s step) (sum_by-cons (λ group. (group_at t group).width) g gs) ∙ add-mul (group_at t g).width (width_of t gs) (rounds_at s step) in
     omega (arith, no_more_than_both (λ (h : Hop). p h && is_among t (g ∷ gs) (link_of h)) here rest one_of s.sends, within g, carried t s step p now within gs, product)

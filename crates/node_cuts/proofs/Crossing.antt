@@ -1,12 +1,12 @@
 -- Whatever its steps, a schedule that solves brings each needed chunk into the set by a send of its own, so that they are no more than come in in its rounds.
-use Rattle.std.proofs.Common.{◌≡◌, ℕ, zero, suc, ◌+◌, ◌-◌, ◌*◌, ◌<◌, ◌≤◌, Bool, true, false, ◌||◌, ◌&&◌, cond, List, [], ◌∷◌, length, get_or, take, refl, sym, ap, ◌∙◌, inl, inr, ⊎_elim, arith, Some, find, ◌==◌, count_by, not, nat_le, nat_lt, sum, ◌⊎◌}
+use Rattle.std.proofs.Common.{◌≡◌, ℕ, zero, suc, ◌+◌, ◌-◌, ◌*◌, ◌<◌, ◌≤◌, Bool, true, false, ◌||◌, ◌&&◌, cond, List, [], ◌∷◌, length, get_or, take, refl, sym, ap, ◌∙◌, inl, inr, ⊎_elim, arith, Some, find, ◌==◌, count_by, not, nat_le, nat_lt, sum, ◌⊎◌, filter}
 use Rattle.std.{specs.{Option.{is_some, option_map}, List.{list_any, range_with_len}}, proofs.{Math.Nat.mul-add, lemmas.List.{take_all, get_or_past}}}
-use Rattle.std.proofs.lemmas.Bool.{false≢true, cases_Bool, cases_eq, cases_lt, or_left, or_right, or_cases, and_parts, and_from, and_left, both_ways, lt-leb, not_from_false, not-true, eq-eqb, eqb-true, le-leb, leb-true, lt-ltb, ltb-true}
-use Rattle.std.proofs.lemmas.{List.{Sums.sum_by_more, Elements.{All-get_or, recursion_from_All}}, Map.Views.any-filter_same}
+use Rattle.std.proofs.lemmas.Bool.{Decides.nat_tests, cases_Bool, cases_lt, or_cases, and_parts, and_from, both_ways, not-true, eq-eqb, eqb-true, ltb-true}
+use Rattle.std.proofs.lemmas.{List.{Sums.sum_by_more, Elements.{All-get_or, recursion_from_All}}}
 use Rattle.list_laws.proofs.Tests.{find-map}
 use Rattle.schedule.specs.{declared.hop.Hop.Hop, Links.{TopologyValue, is_usable}, Placed.{PlacementValue, holds, placed, same_pair, all_pairs}, Solving.Solves}
 use Rattle.schedule.specs.{Sends.{ScheduleValue, link_of}, Running.{after, brings}, Fitting.{Fits, load, rounds_at}, Judging.group_at}
-use Rattle.schedule.proofs.{First.{Among, among_each, any_found, any_among}, Ordered.among_from_any, Placing.pair_is}
+use Rattle.schedule.proofs.{First.{Among, among_each, any_found, any_among, each_passes}, Ordered.among_from_any, Placing.pair_is}
 use Rattle.node_cuts.specs.{declared.sets.Sets.Sets, Sides.{NodeSet, node_sets}}
 use Rattle.node_cuts.specs.{Cuts.{stands_in, is_needed, need_of, enters, is_among, cover_by, width_by, CutValue, cut_of, first_cut_of}, inner.Refuting.cut_refutes}
 use Rattle.node_cuts.proofs.{Counting.{counted, no_fewer, no_fewer_of, one_more, no_more_than_both, none_counted}, Covered.{covered, carried}}
@@ -14,8 +14,8 @@ use Rattle.node_cuts.proofs.{Counting.{counted, no_fewer, no_fewer_of, one_more,
 -- what the placement of a test holds passes it
 passes_placed : (chunks nodes : ℕ) (f : ℕ × ℕ → Bool) (pair : ℕ × ℕ) → holds (placed chunks nodes f) pair ≡ true → f pair ≡ true
 passes_placed chunks nodes f pair held =
-    let told : holds (placed chunks nodes f) pair ≡ (f pair && list_any (same_pair pair) (all_pairs chunks nodes)) = any-filter_same (same_pair pair) f (f pair) (λ k same. ap f (sym (pair_is pair k same))) (all_pairs chunks nodes) in
-    (and_parts (f pair) (list_any (same_pair pair) (all_pairs chunks nodes)) (sym told ∙ held)).0
+    let kept = filter f (all_pairs chunks nodes) in
+    among_each (λ p. f p ≡ true) pair kept (each_passes f (all_pairs chunks nodes)) (among_from_any pair kept held)
 
 module _ (u : NodeSet) (s : ScheduleValue) where
   -- a send of one of the first steps, over a link into the set
@@ -23,11 +23,10 @@ module _ (u : NodeSet) (s : ScheduleValue) where
   comes_in n h = nat_lt 0 h.step && (nat_le h.step n && enters u (link_of h))
 
   comes_in_later : (n : ℕ) (h : Hop) → comes_in n h ≡ true → comes_in (suc n) h ≡ true
-  comes_in_later n h in_time =
-      let first = and_parts (nat_lt 0 h.step) (nat_le h.step n && enters u (link_of h)) in_time in
-      let second = and_parts (nat_le h.step n) (enters u (link_of h)) first.1 in
-      and_from (nat_lt 0 h.step) (nat_le h.step (suc n) && enters u (link_of h)) first.0
-      (and_from (nat_le h.step (suc n)) (enters u (link_of h)) (le-leb h.step (suc n) (omega (arith, leb-true h.step n second.0))) second.1)
+  comes_in_later n h in_time = grind (arith, nat_tests)
+
+  comes_now : (n : ℕ) (h : Hop) → h.step ≡ n + 1 → u h.from ≡ false → u h.to ≡ true → comes_in (suc n) h ≡ true
+  comes_now n h step_is outside member = grind (arith, nat_tests)
 
   -- some send of the chunk comes in
   pub record Enters (n chunk : ℕ) : Type 0 where
@@ -58,16 +57,7 @@ module _ (u : NodeSet) (s : ScheduleValue) where
       let chunk_is : h.chunk ≡ chunk = ap (λ (pair : ℕ × ℕ). pair.0) same in
       ⊎_elim
       (λ (inside : u h.from ≡ true). up (arrives pre n chunk h.from inside (ap (λ c. holds before (c, h.from)) (sym chunk_is) ∙ rest.1)))
-      (λ (outside : u h.from ≡ false).
-      let step_is : h.step ≡ n + 1 = eqb-true h.step (n + 1) parts.0 in
-      inr (record {
-        hop = h;
-        sent = found.1;
-        chunk_is = chunk_is;
-        inside = and_from (nat_lt 0 h.step) (nat_le h.step (suc n) && enters u (link_of h)) (lt-ltb 0 h.step (omega (arith, step_is)))
-            (and_from (nat_le h.step (suc n)) (enters u (link_of h)) (le-leb h.step (suc n) (omega (arith, step_is)))
-            (and_from (not (u h.from)) (u h.to) (not_from_false (u h.from) outside) (ap (λ (pair : ℕ × ℕ). u pair.1) same ∙ member)));
-      }))
+      (λ (outside : u h.from ≡ false). inr (record { hop = h; sent = found.1; chunk_is = chunk_is; inside = comes_now n h (eqb-true h.step (n + 1) parts.0) outside (ap (λ (pair : ℕ × ℕ). u pair.1) same ∙ member) }))
       (cases_Bool (u h.from)))
       (or_cases (holds before (chunk, node)) (list_any (brings before (n + 1) (chunk, node)) s.sends) either)
 
@@ -78,53 +68,34 @@ module _ (u : NodeSet) (s : ScheduleValue) where
       let here : Hop → Bool = λ h. nat_le a h.chunk && comes_in n h in
       let next : Hop → Bool = λ h. nat_le (a + 1) h.chunk && comes_in n h in
       let rest : count_by p (range_with_len (a + 1) len) ≤ count_by next s.sends = by_sends_of_their_own n p enter (a + 1) len in
-      let weaker : (h : Hop) → next h ≡ true → here h ≡ true = λ h both.
-      let parts = and_parts (nat_le (a + 1) h.chunk) (comes_in n h) both in
-      and_from (nat_le a h.chunk) (comes_in n h) (le-leb a h.chunk (omega (arith, leb-true (a + 1) h.chunk parts.0))) parts.1 in
-      ⊎_elim
-      (λ (yes : p a ≡ true).
-      let e : Enters n a = enter a yes in
-      let chunk_is : e.hop.chunk ≡ a = e.chunk_is in
-      let passes : here e.hop ≡ true = and_from (nat_le a e.hop.chunk) (comes_in n e.hop) (le-leb a e.hop.chunk (omega (arith, chunk_is))) e.inside in
-      let fails : next e.hop ≡ false = and_left (nat_le (a + 1) e.hop.chunk) (comes_in n e.hop) (lt-leb (a + 1) e.hop.chunk (omega (arith, chunk_is))) in
-      omega (arith, counted p a (range_with_len (a + 1) len), ap (λ b. cond {A = ℕ} b 1 0) yes, rest, one_more next here weaker s.sends e.hop e.sent passes fails))
-      (λ (no : p a ≡ false). omega (arith, counted p a (range_with_len (a + 1) len), ap (λ b. cond {A = ℕ} b 1 0) no, rest, no_fewer next here weaker s.sends))
-      (cases_Bool (p a))
+      let weaker : (h : Hop) → next h ≡ true → here h ≡ true = λ h both. grind (arith, nat_tests, both) in
+      elim (cases_Bool (p a)) [
+        | inl needed ↦ (let e : Enters n a = enter a needed in
+            let passes : here e.hop ≡ true = grind (arith, nat_tests, e.chunk_is, e.inside) in
+            let fails : next e.hop ≡ false = grind (arith, nat_tests, e.chunk_is) in
+            omega (arith, counted p a (range_with_len (a + 1) len), ap (λ b. cond {A = ℕ} b 1 0) needed, rest, one_more next here weaker s.sends e.hop e.sent passes fails))
+        | inr other ↦ omega (arith, counted p a (range_with_len (a + 1) len), ap (λ b. cond {A = ℕ} b 1 0) other, rest, no_fewer next here weaker s.sends)
+      ]
 
   -- ---- what comes in in the first steps
 
   module _ (sets : Sets) (t : TopologyValue) (fits : Fits t s) where
     within : (step : ℕ) → 0 < step → step ≤ length s.rounds → (g : ℕ) → load (group_at t g) step s.sends ≤ (group_at t g).width * rounds_at s step
     within step from to g =
-        ⊎_elim
-        (λ (inside : g < length t.groups). All-get_or (λ group. load group step s.sends ≤ group.width * rounds_at s step) t.groups g (record { links = []; width = 0 }) inside (fits.within step from to))
-        (λ (past : length t.groups ≤ g).
-        omega (
-          arith,
-          ap (λ group. load group step s.sends) (get_or_past t.groups g (record { links = []; width = 0 }) past)
-              ∙ none_counted (λ (h : Hop). h.step == step && false) (λ h both. false≢true (and_parts (h.step == step) false both).1) s.sends,
-        ))
-        (cases_lt g (length t.groups))
+        elim (cases_lt g (length t.groups)) [
+          | inl inside ↦ All-get_or (λ group. load group step s.sends ≤ group.width * rounds_at s step) t.groups g (record { links = []; width = 0 }) inside (fits.within step from to)
+          | inr past ↦ omega (arith, ap (λ group. load group step s.sends) (get_or_past t.groups g (record { links = []; width = 0 }) past) ∙ none_counted (λ (h : Hop). h.step == step && false) (λ h both. grind (arith, both)) s.sends)
+        ]
 
     in_first_steps : (n : ℕ) → n ≤ length s.rounds → count_by (comes_in n) s.sends ≤ width_by sets u t * sum (take n s.rounds)
     in_first_steps zero low =
-        let none : count_by (comes_in 0) s.sends ≡ 0 = none_counted (comes_in 0) (λ (h : Hop) both.
-        let first = and_parts (nat_lt 0 h.step) (nat_le h.step 0 && enters u (link_of h)) both in
-        let second = and_parts (nat_le h.step 0) (enters u (link_of h)) first.1 in
-        omega (arith, ltb-true 0 h.step first.0, leb-true h.step 0 second.0)) s.sends in
+        let none : count_by (comes_in 0) s.sends ≡ 0 = none_counted (comes_in 0) (λ (h : Hop) both. grind (arith, nat_tests, both)) s.sends in
         omega (arith, none)
     in_first_steps (suc n) low =
         let step : ℕ = n + 1 in
         let now : Hop → Bool = λ h. h.step == step && enters u (link_of h) in
         let split : count_by (comes_in (suc n)) s.sends ≤ count_by (comes_in n) s.sends + count_by now s.sends = no_more_than_both (comes_in (suc n)) (comes_in n) now (λ (h : Hop) both.
-        let first = and_parts (nat_lt 0 h.step) (nat_le h.step (suc n) && enters u (link_of h)) both in
-        let second = and_parts (nat_le h.step (suc n)) (enters u (link_of h)) first.1 in
-        ⊎_elim
-        (λ (last : h.step ≡ step). or_right (comes_in n h) (now h) (and_from (h.step == step) (enters u (link_of h)) (eq-eqb h.step step last) second.1))
-        (λ (before : h.step ≡ step → ⊥).
-        let small : h.step ≤ n = omega (arith, leb-true h.step (suc n) second.0, before) in
-        or_left (comes_in n h) (now h) (and_from (nat_lt 0 h.step) (nat_le h.step n && enters u (link_of h)) first.0 (and_from (nat_le h.step n) (enters u (link_of h)) (le-leb h.step n small) second.1)))
-        (cases_eq h.step step)) s.sends in
+        grind (arith, nat_tests, both)) s.sends in
         let over : count_by now s.sends ≤ count_by (λ (h : Hop). now h && is_among t (cover_by sets u t) (link_of h)) s.sends = no_fewer_of (λ (h : Hop). is_usable t (link_of h) ≡ true) now (λ (h : Hop). now h && is_among t (cover_by sets u t) (link_of h)) (λ (h : Hop) usable it.
         let parts = and_parts (h.step == step) (enters u (link_of h)) it in
         and_from (now h) (is_among t (cover_by sets u t) (link_of h)) it (covered u t sets (link_of h) parts.1 usable)) s.sends (recursion_from_All (λ (h : Hop). is_usable t (link_of h) ≡ true) s.sends fits.usable) in
@@ -156,10 +127,8 @@ needed_comes_in sets u t pre post s steps rounds solves =
     let both = and_parts (pair.0 == chunk) (u pair.1) found.2 in
     let held : holds (after pre s all) pair ≡ true = among_each (λ p. holds (after pre s all) p ≡ true) pair post.pairs (recursion_from_All (λ p. holds (after pre s all) p ≡ true) post.pairs solves.delivers) found.1 in
     let chunk_is : pair.0 ≡ chunk = eqb-true pair.0 chunk both.0 in
-    ⊎_elim
-    (λ (stood : stands_in u pre chunk ≡ true). absurd (both_ways (stands_in u pre chunk) (not-true (stands_in u pre chunk) parts.1) stood))
-    (λ (e : Enters u s all chunk). e)
-    (arrives u s pre all chunk pair.1 both.1 (ap (λ c. holds (after pre s all) (c, pair.1)) (sym chunk_is) ∙ held)) in
+    elim (arrives u s pre all chunk pair.1 both.1 (ap (λ c. holds (after pre s all) (c, pair.1)) (sym chunk_is) ∙ held))
+    [ inl stood ↦ absurd (both_ways (stands_in u pre chunk) (not-true (stands_in u pre chunk) parts.1) stood) | inr e ↦ e ] in
     sends_of_their_own sets u t s rounds post.chunks (is_needed u pre post) solves.fits solves.rounds_are enter
 
 pub cut_says : (sets : Sets) (u : NodeSet) (t : TopologyValue) (pre post : PlacementValue) (s : ScheduleValue) (steps rounds : ℕ) → width_by sets u t * rounds < need_of u pre post → Solves t pre post s steps rounds → ⊥

@@ -1,8 +1,9 @@
 -- The listed sets, one after another.
 use Rattle.std.{proofs.Common.{◌≡◌, ℕ, ◌+◌, ◌-◌, ◌≤◌, List, [], ◌∷◌, ◌++◌, map, append_assoc, refl, ap, sym, ◌∙◌, arith, ◌==◌, ◌||◌, not}, specs.List.{flat_map, range_with_len}}
-use Rattle.std.proofs.lemmas.{List.{append-nil, map-append, FromFn.map-range_with_len_more, Concat.flat_map-append}, Simd.map-map}
+use Rattle.std.proofs.lemmas.{List.{map-append, FromFn.map-range_with_len_more}, Simd.map-map}
 use Rattle.std.proofs.Math.Bool.{not-not}
-use Rattle.node_cuts.{specs.declared.{side.Side.{Side, TheVariants.{One, Two, AllButOne, AllButTwo}}, sets.Sets.TheVariants.Listed}, proofs.Masks.range_more}
+use Rattle.list_laws.proofs.Ranges.{flat_map-range_more}
+use Rattle.node_cuts.{specs.declared.{side.Side.{Side, TheVariants.{One, Two, AllButOne, AllButTwo}}, sets.Sets.TheVariants.Listed}}
 use Rattle.node_cuts.specs.{Sides.{NodeSet, node_sets, small_sets}, inner.Listed.{complement, listed_sides, set_of, small_sides, two_sides}}
 
 pub ones_more : (n : ℕ) → map One (range_with_len 0 (n + 1)) ≡ map One (range_with_len 0 n) ++ One n ∷ []
@@ -18,8 +19,7 @@ twos_more before a b low =
 
 pub rows_more : (before : List Side) (f : ℕ → List Side) (n : ℕ) → before ++ flat_map f (range_with_len 0 (n + 1)) ≡ (before ++ flat_map f (range_with_len 0 n)) ++ f n
 rows_more before f n =
-    ap (λ ks. before ++ flat_map f ks) (range_more 0 n n (omega arith)) ∙ ap (λ xs. before ++ xs) (flat_map-append f (range_with_len 0 n) (n ∷ []) ∙ ap (λ xs. flat_map f (range_with_len 0 n) ++ xs) (append-nil (f n)))
-    ∙ sym (append_assoc before (flat_map f (range_with_len 0 n)) (f n))
+    ap (λ xs. before ++ xs) (flat_map-range_more f 0 n n (omega arith)) ∙ sym (append_assoc before (flat_map f (range_with_len 0 n)) (f n))
 
 -- ---- the sides as sets
 

@@ -1,5 +1,5 @@
 -- A set of nodes as bits.
-use Rattle.std.proofs.Common.{◌≡◌, ℕ, zero, suc, ◌+◌, ◌-◌, ◌*◌, ◌/◌, ◌%◌, ◌^◌, ◌<◌, ◌≤◌, Bool, true, false, cond, ◌&&◌, [], ◌∷◌, ◌++◌, map-id, refl, ap, sym, ◌∙◌, ⊎_elim, arith, ◌==◌, nat_lt}
+use Rattle.std.proofs.Common.{◌≡◌, ℕ, zero, suc, ◌+◌, ◌-◌, ◌*◌, ◌/◌, ◌%◌, ◌^◌, ◌<◌, ◌≤◌, Bool, true, false, cond, ◌&&◌, [], ◌∷◌, ◌++◌, map-id, ap, sym, ◌∙◌, ⊎_elim, arith, ◌==◌, nat_lt}
 use Rattle.std.{proofs.Math.Nat.{mul-one, add-mul-div_left, add-mul-mod_self_left, div-eq_of_lt, pow-le-pow_right}, specs.List.{range_with_len, sum_by}}
 use Rattle.std.proofs.lemmas.{Bool.{cases_eq, cases_lt, cond_both, lt-ltb, le-ltb}, Nat.{pow-add, pow_pos}, List.FromFn.map-range_with_len_more}
 use Rattle.std.proofs.lemmas.List.Sums.{sum_by_push}
@@ -75,8 +75,7 @@ bit_inside u (suc k) n inside =
     earlier m false below = ap (λ v. v / 2 ^ n % 2) (nothing m)
 
 one_where : (b : Bool) → (cond {A = ℕ} b 1 0 == 1) ≡ b
-one_where true = refl
-one_where false = refl
+one_where b = grind arith
 
 -- a bit is set exactly where it stands for a member
 pub bit_is_member : (u : NodeSet) (nodes n : ℕ) → has_bit (mask_of nodes u) n ≡ (nat_lt n nodes && u n)

@@ -1,5 +1,5 @@
 -- A table of open links tells what groups open, and what is left after one is taken.
-use Rattle.std.proofs.Common.{◌≡◌, ℕ, ◌<◌, ◌≤◌, Bool, true, false, ◌&&◌, ◌||◌, cond, List, [], ◌∷◌, ◌++◌, length, refl, sym, ap, ◌∙◌, ⊎_elim, subst, arith, count_by, not}
+use Rattle.std.proofs.Common.{◌≡◌, ℕ, Bool, true, false, ◌&&◌, ◌||◌, cond, List, [], ◌∷◌, ◌++◌, length, inl, inr, sym, ap, ◌∙◌, subst, arith, count_by, not}
 use Rattle.std.{specs.List.{All, AllByRecursion, list_any}, proofs.{Math.Bool.and-true, lemmas.{Bool.cases_lt, List.{append-nil, get_or_past}}}}
 use Rattle.std.proofs.lemmas.List.{Elements.{All-get_or, recursion_from_All}, Folds.list_any-append}
 use Rattle.schedule.specs.{Links.{GroupValue, TopologyValue, IsBelow, IsTopology, has_link}, Placed.same_pair, Tables.{Marks, marked_at}, Judging.group_at}
@@ -10,12 +10,11 @@ use Rattle.node_cuts.proofs.{Choosing.is_new, Counting.{any_alike_of, count_alik
 -- the links of each group join nodes below 16
 pub links_below : (t : TopologyValue) (g : ℕ) → IsTopology t → AllByRecursion (IsBelow 16) (group_at t g).links
 links_below t g is =
-    ⊎_elim
-    (λ (inside : g < length t.groups).
-    each_weaker (IsBelow t.nodes) (IsBelow 16) (λ link below. record { from = omega (arith, below.from, is.few); to = omega (arith, below.to, is.few) }) (group_at t g).links
-    (recursion_from_All (IsBelow t.nodes) (group_at t g).links (All-get_or (λ group. All (IsBelow t.nodes) group.links) t.groups g (record { links = []; width = 0 }) inside is.nodes)))
-    (λ (past : length t.groups ≤ g). rw (get_or_past t.groups g (record { links = []; width = 0 }) past) tt)
-    (cases_lt g (length t.groups))
+    elim (cases_lt g (length t.groups)) [
+      | inl inside ↦ each_weaker (IsBelow t.nodes) (IsBelow 16) (λ link below. record { from = omega (arith, below.from, is.few); to = omega (arith, below.to, is.few) }) (group_at t g).links
+          (recursion_from_All (IsBelow t.nodes) (group_at t g).links (All-get_or (λ group. All (IsBelow t.nodes) group.links) t.groups g (record { links = []; width = 0 }) inside is.nodes))
+      | inr past ↦ rw (get_or_past t.groups g (record { links = []; width = 0 }) past) tt
+    ]
 
 each_marked : (t : TopologyValue) (cells : List Bool) (test : ℕ × ℕ → Bool) → Marks cells test → (g : ℕ) → IsTopology t → AllByRecursion (λ link. marked_at cells link ≡ test link) (group_at t g).links
 each_marked t cells test marks g is = each_weaker (IsBelow 16) (λ link. marked_at cells link ≡ test link) (λ link below. marks link below.from below.to) (group_at t g).links (links_below t g is)
@@ -30,10 +29,7 @@ module _ (u : NodeSet) (t : TopologyValue) (groups : List ℕ) (cells : List Boo
   -- ---- a group more
 
   apart : (e a h : Bool) → ((e && not a) && not h) ≡ (e && not (a || (h || false)))
-  apart false a h = refl
-  apart true false false = refl
-  apart true false true = refl
-  apart true true h = refl
+  apart e a h = grind arith
 
   pub taken_next : (g : ℕ) (o : Bool) (new : List Bool) → Marks new (λ link. marked_at cells link && not (o && has_link (group_at t g) link)) → MarksOpen new u t (groups ++ cond o (g ∷ []) [])
   taken_next g true new after link from to =

@@ -33,6 +33,7 @@ pub fn least_counts_are_least()
 {}
 
 /// The bits of a set of nodes are its members, and no bit stands for anything else.
+#[tactic(auto, using(crate::proofs::Masks::bit_is_member))]
 pub fn bits_are_members()
     ensures { (u : NodeSet) (nodes n : ℕ) → has_bit (mask_of nodes u) n ≡ (nat_lt n nodes && u n) }
 {}

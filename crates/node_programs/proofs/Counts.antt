@@ -1,6 +1,6 @@
 -- How many operations send to each node, counted one after the other.
-use Rattle.std.proofs.Common.{◌≡◌, ℕ, zero, suc, ◌+◌, ◌<◌, ◌≤◌, Bool, true, false, cond, eqb, List, [], ◌∷◌, ◌++◌, length, map, get_or, take, replicate, ⊎_elim, refl, sym, ap, ◌∙◌, arith}
-use Rattle.std.{specs.List.range_with_len, proofs.lemmas.Bool.{cases_lt, eq-eqb}}
+use Rattle.std.proofs.Common.{◌≡◌, ℕ, zero, suc, ◌+◌, ◌<◌, ◌≤◌, Bool, false, cond, eqb, List, [], ◌∷◌, ◌++◌, length, map, get_or, take, replicate, inl, inr, refl, sym, ap, ◌∙◌, arith}
+use Rattle.std.{specs.List.range_with_len, proofs.lemmas.{Bool.{cases_lt, eq-eqb}, Simd.map-map}}
 use Rattle.std.proofs.lemmas.List.{length-replicate, length-take, get_or-replicate, get_or_past, take_more}
 use Rattle.std.proofs.lemmas.List.FromFn.{fill_by_all, get_or-map-range_with_len, length-map-range_with_len}
 use Rattle.node_programs.specs.{declared.op.Op.{Op, TheVariants.{Send, Take}}, Queues.{empty_queue, queues_from, sends_to, with_send}}
@@ -17,21 +17,19 @@ counts_none nodes = fill_by_all (λ node. 0) (replicate nodes 0) nodes 0 (length
 sends_more : (node : ℕ) (ops : List Op) (op : Op) → sends_to node (ops ++ op ∷ []) ≡ sends_to node ops + sends_to node (op ∷ [])
 sends_more node [] op = omega arith
 sends_more node (Take chunk from step how ∷ ops) op = sends_more node ops op
-sends_more node (Send chunk to step ∷ ops) op = go (eqb to node) (sends_more node ops op)
+sends_more node (Send chunk to step ∷ ops) op = more (eqb to node) (sends_more node ops op)
   where
-    go : (b : Bool) → sends_to node (ops ++ op ∷ []) ≡ sends_to node ops + sends_to node (op ∷ [])
+    more : (b : Bool) → sends_to node (ops ++ op ∷ []) ≡ sends_to node ops + sends_to node (op ∷ [])
         → cond b (sends_to node (ops ++ op ∷ []) + 1) (sends_to node (ops ++ op ∷ [])) ≡ cond b (sends_to node ops + 1) (sends_to node ops) + sends_to node (op ∷ [])
-    go true more = omega (arith, more)
-    go false more = more
+    more b rest = grind arith
 
 sends_few : (node : ℕ) (ops : List Op) → sends_to node ops ≤ length ops
 sends_few node [] = omega arith
 sends_few node (Take chunk from step how ∷ ops) = omega (arith, sends_few node ops)
-sends_few node (Send chunk to step ∷ ops) = go (eqb to node) (sends_few node ops)
+sends_few node (Send chunk to step ∷ ops) = few (eqb to node) (sends_few node ops)
   where
-    go : (b : Bool) → sends_to node ops ≤ length ops → cond b (sends_to node ops + 1) (sends_to node ops) ≤ suc (length ops)
-    go true few = omega (arith, few)
-    go false few = omega (arith, few)
+    few : (b : Bool) → sends_to node ops ≤ length ops → cond b (sends_to node ops + 1) (sends_to node ops) ≤ suc (length ops)
+    few b rest = grind arith
 
 count_at : (nodes : ℕ) (ops : List Op) (node : ℕ) → node < nodes → get_or (send_counts nodes ops) node 0 ≡ sends_to node ops
 count_at nodes ops node low = get_or-map-range_with_len (λ k. sends_to k ops) 0 nodes node node 0 low (omega arith)
@@ -39,12 +37,10 @@ count_at nodes ops node low = get_or-map-range_with_len (λ k. sends_to k ops) 0
 -- no count is above the number of operations
 pub counts_few : (nodes i : ℕ) (ops : List Op) (node : ℕ) → get_or (send_counts nodes (take i ops)) node 0 ≤ i
 counts_few nodes i ops node =
-    ⊎_elim
-    (λ (low : node < nodes). omega (arith, count_at nodes (take i ops) node low, sends_few node (take i ops), length-take i ops))
-    (λ (high : nodes ≤ node).
-    let none : get_or (send_counts nodes (take i ops)) node 0 ≡ 0 = get_or_past (send_counts nodes (take i ops)) node 0 (omega (arith, high, length-map-range_with_len (λ k. sends_to k (take i ops)) 0 nodes)) in
-    omega (arith, none))
-    (cases_lt node nodes)
+    elim (cases_lt node nodes) [
+      | inl low ↦ omega (arith, count_at nodes (take i ops) node low, sends_few node (take i ops), length-take i ops)
+      | inr high ↦ omega (arith, get_or_past (send_counts nodes (take i ops)) node 0 (omega (arith, high, length-map-range_with_len (λ k. sends_to k (take i ops)) 0 nodes)))
+    ]
 
 counts_pushed : (nodes : ℕ) (ops : List Op) (op : Op) → with_send (send_counts nodes ops) op ≡ send_counts nodes (ops ++ op ∷ [])
 counts_pushed nodes ops (Take chunk from step how) =
@@ -68,8 +64,4 @@ counts_more nodes i ops d old new inside so_far more =
     more ∙ ap (λ counts. with_send counts (get_or ops i d)) so_far ∙ counts_pushed nodes (take i ops) (get_or ops i d) ∙ ap (send_counts nodes) (sym (take_more ops i d inside))
 
 pub queues_counted : (nodes : ℕ) (ops : List Op) → map empty_queue (send_counts nodes ops) ≡ queues_from nodes ops
-queues_counted nodes ops = go (range_with_len 0 nodes)
-  where
-    go : (ks : List ℕ) → map empty_queue (map (λ node. sends_to node ops) ks) ≡ map (λ to. empty_queue (sends_to to ops)) ks
-    go [] = refl
-    go (k ∷ ks) = ap (λ qs. empty_queue (sends_to k ops) ∷ qs) (go ks)
+queues_counted nodes ops = map-map empty_queue (λ node. sends_to node ops) (range_with_len 0 nodes)

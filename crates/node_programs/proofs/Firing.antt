@@ -1,5 +1,5 @@
 -- The machine as it is kept: what an event makes of it, and that it stays right.
-use Rattle.std.proofs.Common.{◌≡◌, ℕ, zero, suc, ◌+◌, ◌*◌, ◌<◌, ◌≤◌, Bool, true, false, cond, eqb, List, [], ◌∷◌, ◌++◌, length, map, get_or, set, drop, Some, None, ⊎_elim, refl, sym, ap, subst, ◌∙◌, arith, get_or-set_same, get_or-set_other, option_and_then, slice_get}
+use Rattle.std.proofs.Common.{◌≡◌, ℕ, zero, suc, ◌+◌, ◌*◌, ◌<◌, ◌≤◌, Bool, false, cond, eqb, List, [], ◌∷◌, ◌++◌, length, map, get_or, set, drop, Some, None, inl, inr, refl, sym, ap, subst, ◌∙◌, arith, get_or-set_same, get_or-set_other, option_and_then, slice_get}
 use Rattle.std.{specs.{Prelude.unwrap_or, List.AllByRecursion}, proofs.lemmas.{Bool.{and_from, eq-eqb}, List.{get_or-map, length-set, map-append, map-set}}}
 use Rattle.std.proofs.lemmas.Nat.{mul-add-lt}
 use Rattle.node_programs.specs.{declared.{op.Op.{Op, TheVariants.{Send, Take}}, message.Message.Message as Parcel}, Below.IsOpBelow}
@@ -36,11 +36,10 @@ sends_head : (ops : List Op) (chunk to step other : ℕ) → slice_get ops 0 ≡
 sends_head [] chunk to step other is = absurd cc
 sends_head (op ∷ ops) chunk to step other is =
     let same : op ≡ Send chunk to step = cc in
-    ap (λ o. sends_to other (o ∷ ops)) same ∙ go (eqb to other)
+    ap (λ o. sends_to other (o ∷ ops)) same ∙ counted_if (eqb to other)
   where
-    go : (b : Bool) → cond b (sends_to other ops + 1) (sends_to other ops) ≡ sends_to other ops + cond b 1 zero
-    go true = refl
-    go false = omega arith
+    counted_if : (b : Bool) → cond b (sends_to other ops + 1) (sends_to other ops) ≡ sends_to other ops + cond b 1 zero
+    counted_if b = grind arith
 
 takes_head : (ops : List Op) (chunk from step : ℕ) (how : Mode) (other : ℕ) → slice_get ops 0 ≡ Some (Take chunk from step how) → sends_to other ops ≡ sends_to other (drop 1 ops)
 takes_head [] chunk from step how other is = absurd cc
@@ -77,12 +76,10 @@ module _ (chunks nodes : ℕ) (programs : List (List Op)) (queues : List QueueVa
 
     fewer : ((v : ℕ) → sends_to v (drop 1 ops) ≤ sends_to v ops) → (u v : ℕ) → sends_to v (get_or moved u []) ≤ sends_to v (get_or programs u [])
     fewer less u v =
-        ⊎_elim
-        (λ (same : u ≡ node). let here : sends_to v (get_or moved u []) ≡ sends_to v (drop 1 ops) = ap (λ k. sends_to v (get_or moved k [])) same ∙ ap (sends_to v) left_here in
-        let own : sends_to v (get_or programs u []) ≡ sends_to v ops = ap (λ k. sends_to v (get_or programs k [])) same in
-        omega (arith, here, own, less v))
-        (λ (apart : eqb u node ≡ false). omega (arith, ap (sends_to v) (left_beside u apart)))
-        (same_or_not u node)
+        elim (same_or_not u node) [
+          | inl same ↦ omega (arith, ap (λ k. sends_to v (get_or moved k [])) same ∙ ap (sends_to v) left_here, ap (λ k. sends_to v (get_or programs k [])) same, less v)
+          | inr apart ↦ omega (arith, ap (sends_to v) (left_beside u apart))
+        ]
 
     -- one queue changed, with room for what is still sent through it
     kept_event : (from to : ℕ) (q : QueueValue) → from < nodes → to < nodes → ((v : ℕ) → sends_to v (drop 1 ops) ≤ sends_to v ops) → sends_to to (get_or moved from []) ≤ q.room
@@ -99,17 +96,14 @@ module _ (chunks nodes : ℕ) (programs : List (List Op)) (queues : List QueueVa
 
         room : (u v : ℕ) → u < nodes → v < nodes → sends_to v (get_or moved u []) ≤ (queue_of (set queues (from * nodes + to) q) nodes u v).room
         room u v low_u low_v =
-            ⊎_elim
-            (λ (same : u ≡ from).
-            ⊎_elim
-            (λ (same_too : v ≡ to).
-            let own : queue_of (set queues (from * nodes + to) q) nodes u v ≡ q = ap (λ i. get_or (set queues (from * nodes + to) q) (i * nodes + v) no_queue) same ∙ ap (λ i. get_or (set queues (from * nodes + to) q) (from * nodes + i) no_queue) same_too ∙ cell_here queues nodes nodes no_queue from to q kept.pairs low high in
-            let sends : sends_to v (get_or moved u []) ≡ sends_to to (get_or moved from []) = ap (λ i. sends_to v (get_or moved i [])) same ∙ ap (λ i. sends_to i (get_or moved from [])) same_too in
-            omega (arith, enough, sends, ap (λ x. x.room) own))
-            (λ (apart : eqb v to ≡ false). unchanged u v low_u low_v (cell_beside queues nodes nodes no_queue from to u v q high low_v (differ v to apart)))
-            (same_or_not v to))
-            (λ (apart : eqb u from ≡ false). unchanged u v low_u low_v (cell_below queues nodes nodes no_queue from to u v q high low_v (differ u from apart)))
-            (same_or_not u from)
+            elim (same_or_not u from) [
+              | inl same ↦ elim (same_or_not v to) [
+                | inl same_too ↦ (let own : queue_of (set queues (from * nodes + to) q) nodes u v ≡ q = ap (λ i. get_or (set queues (from * nodes + to) q) (i * nodes + v) no_queue) same ∙ ap (λ i. get_or (set queues (from * nodes + to) q) (from * nodes + i) no_queue) same_too ∙ cell_here queues nodes nodes no_queue from to q kept.pairs low high in
+                    omega (arith, enough, ap (λ i. sends_to v (get_or moved i [])) same ∙ ap (λ i. sends_to i (get_or moved from [])) same_too, ap (λ x. x.room) own))
+                | inr apart ↦ unchanged u v low_u low_v (cell_beside queues nodes nodes no_queue from to u v q high low_v (differ v to apart))
+              ]
+              | inr apart ↦ unchanged u v low_u low_v (cell_below queues nodes nodes no_queue from to u v q high low_v (differ u from apart))
+            ]
 
     pub kept_send : (chunk to step : ℕ) (m : Parcel) → slice_get ops 0 ≡ Some (Send chunk to step) → IsMachine chunks nodes moved (set queues (node * nodes + to) (with_message (queue_of queues nodes node to) m))
     kept_send chunk to step m is =
@@ -132,10 +126,7 @@ abbrev pub state_of : List (List Op) → StoreValue → List QueueValue → Stat
 state_of programs store queues = record { left = programs; store = store; queues = map (messages_in store.nodes) queues }
 
 same_state : (a b : List (List Op)) (s : StoreValue) (c d : List (List Message)) → a ≡ b → c ≡ d → ◌≡◌ {A = State} (record { left = a; store = s; queues = c }) (record { left = b; store = s; queues = d })
-same_state a b s c d left queues =
-    let first : List (List Op) → State = λ x. record { left = x; store = s; queues = c } in
-    let second : List (List Message) → State = λ x. record { left = b; store = s; queues = x } in
-    ap first left ∙ ap second queues
+same_state a b s c d left queues = λ i. record { left = left i; store = s; queues = queues i }
 
 queue_at : (nodes : ℕ) (queues : List QueueValue) (place : ℕ) → place < length queues → get_or (map (messages_in nodes) queues) place [] ≡ messages_in nodes (get_or queues place no_queue)
 queue_at nodes queues place inside = get_or-map (messages_in nodes) queues place no_queue [] inside

@@ -1,7 +1,8 @@
 -- Operations pushed behind those of a node, and how the programs of a schedule come about step by step.
 use Rattle.std.proofs.Common.{◌≡◌, ℕ, ◌+◌, ◌<◌, ◌≤◌, Bool, true, false, ◌&&◌, cond, eqb, List, [], ◌∷◌, ◌++◌, length, map, get_or, set, take, refl, sym, ap, ◌∙◌, subst, append_assoc, arith, filter}
-use Rattle.std.{specs.List.{flat_map, range_with_len}, proofs.lemmas.{Bool.eq-eqb, Grind.flat_map-append, List.{append-nil, map-append, take_all, map-id}}}
-use Rattle.std.proofs.lemmas.List.{Elements.filter_more, FromFn.{get_or-map-range_with_len, map-range_with_len_more}}
+use Rattle.std.{specs.List.{flat_map, range_with_len}, proofs.lemmas.{Bool.eq-eqb, List.{append-nil, map-append, take_all}}}
+use Rattle.std.proofs.lemmas.List.{Elements.filter_more, FromFn.{get_or-map-range_with_len}}
+use Rattle.list_laws.proofs.Ranges.{flat_map-range_more}
 use Rattle.schedule.specs.{declared.hop.Hop.Hop, Sends.ScheduleValue}
 use Rattle.node_programs.{specs.{declared.op.Op.Op, Programs.ops_at}, proofs.Each.{flipped, set_each}}
 use Rattle.bag_runs.proofs.{Arrivals.filter_both, Counting.map_alike}
@@ -71,12 +72,7 @@ abbrev pub first_steps : ScheduleValue → ℕ → ℕ → ℕ → List Op
 first_steps s adding n node = flat_map (ops_at s.sends adding node) (range_with_len 1 n)
 
 steps_more : (s : ScheduleValue) (adding n node : ℕ) → first_steps s adding (n + 1) node ≡ first_steps s adding n node ++ ops_at s.sends adding node (n + 1)
-steps_more s adding n node =
-    let range : range_with_len 1 (n + 1) ≡ range_with_len 1 n ++ (n + 1) ∷ [] =
-    sym (map-id (range_with_len 1 (n + 1))) ∙ map-range_with_len_more (λ k. k) 1 n (n + 1) (omega arith) ∙ ap (λ r. r ++ (n + 1) ∷ []) (map-id (range_with_len 1 n)) in
-    ap (flat_map (ops_at s.sends adding node)) range
-    ∙ flat_map-append (ops_at s.sends adding node) (range_with_len 1 n) ((n + 1) ∷ [])
-    ∙ ap (λ ops. first_steps s adding n node ++ ops) (append-nil (ops_at s.sends adding node (n + 1)))
+steps_more s adding n node = flat_map-range_more (ops_at s.sends adding node) 1 n (n + 1) (omega arith)
 
 -- the sends of a step pushed, and then its takes
 abbrev pub StepPushed : ℕ → List (List Op) → List (List Op) → List Hop → Type 0

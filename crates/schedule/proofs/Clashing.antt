@@ -1,6 +1,6 @@
 -- The first clash is found exactly where there is one.
-use Rattle.std.proofs.{Common.{◌≡◌, ℕ, ◌<◌, ⊎_elim, true, false, length, map, None, sym, ◌∙◌, arith}, lemmas.List.Elements.recursion_from_All}
-use Rattle.std.proofs.lemmas.Bool.{and_parts, and_from, cases_Bool, eqb-true, leb-true, ltb-true, lt-ltb, le-leb}
+use Rattle.std.proofs.{Common.{◌≡◌, ℕ, ◌<◌, count_by, leb, ltb, true, false, length, map, None, sym, ◌∙◌, arith}, lemmas.List.Elements.recursion_from_All}
+use Rattle.std.proofs.lemmas.Bool.{and_parts, and_from, false_from_ne_true, eqb-true, leb-true, ltb-true, lt-ltb, le-leb}
 use Rattle.schedule.specs.{declared.hop.Hop.Hop, Sends.{ScheduleValue, IsSchedule, IsInRange, IsStep, is_hop_below}, Placed.all_pairs, Summing.goes_to}
 use Rattle.schedule.specs.JoinedRuns.{Clashes, first_clash, is_clash}
 use Rattle.schedule.proofs.{First.{among_each, among_map, among_parts, each_among, found_none, none_found, some_passes}, Ordered.in_grid}
@@ -28,9 +28,6 @@ no_clash_from_none chunks nodes s adding valid in_range none clash =
 pub none_from_no_clash : (chunks nodes : ℕ) (s : ScheduleValue) (adding : ℕ) → (Clashes s adding → ⊥) → first_clash chunks nodes s adding ≡ None
 none_from_no_clash chunks nodes s adding no_clash =
     none_found (is_clash s adding) _ (each_among (λ turn. is_clash s adding turn ≡ false) _ (λ turn among.
-    ⊎_elim
-    (λ (passes : is_clash s adding turn ≡ true).
-    let parts = and_parts _ _ passes in
-    absurd (no_clash (record { step = turn.0; chunk = turn.1; node = turn.2; copies = ltb-true _ _ parts.0; twice = leb-true _ _ parts.1 })))
-    (λ (fails : is_clash s adding turn ≡ false). fails)
-    (cases_Bool (is_clash s adding turn))))
+    false_from_ne_true (is_clash s adding turn) (λ passes.
+    let parts = and_parts (ltb adding turn.0) (leb 2 (count_by (goes_to turn.0 (turn.1, turn.2)) s.sends)) passes in
+    no_clash (record { step = turn.0; chunk = turn.1; node = turn.2; copies = ltb-true _ _ parts.0; twice = leb-true _ _ parts.1 }))))

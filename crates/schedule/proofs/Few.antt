@@ -1,5 +1,5 @@
 -- How many sends a schedule has at most, since each stands in it once.
-use Rattle.std.proofs.Common.{◌≡◌, ℕ, zero, suc, ◌+◌, ◌*◌, ◌<◌, ◌≤◌, ◌^◌, true, ◌&&◌, ◌||◌, eqb, ltb, List, length, get_or, ⊎_elim, arith}
+use Rattle.std.proofs.Common.{◌≡◌, ℕ, zero, suc, ◌+◌, ◌*◌, ◌<◌, ◌≤◌, ◌^◌, Bool, true, ◌&&◌, ◌||◌, eqb, ltb, List, length, get_or, ◌⊎◌, inl, inr, arith}
 use Rattle.std.{specs.List.{All, AllPairs}, proofs.lemmas.{Bool.{and_parts, or_cases, ltb-true, eqb-true, cases_lt}, List.Elements.All-weaker}}
 use Rattle.schedule.specs.{declared.hop.Hop.Hop, Sends.{ScheduleValue, IsSchedule, IsInRange, hop_before, is_hop_below, link_of}, Tables.IsTabled}
 use Rattle.schedule.proofs.Joining.{IsHopBelow, hop_below}
@@ -13,25 +13,22 @@ pub record IsNarrow (s : ScheduleValue) : Type 0 where
 rank : Hop → ℕ
 rank h = h.step * 16777216 + (h.chunk * 256 + (h.from * 16 + h.to))
 
+-- of two in order by a number first, the number is less, or the same and what follows decides
+ahead : (a b : ℕ) (rest : Bool) → (ltb a b || (eqb a b && rest)) ≡ true → (a < b) ⊎ ((a ≡ b) × (rest ≡ true))
+ahead a b rest before =
+    elim (or_cases (ltb a b) (eqb a b && rest) before)
+    [ inl less ↦ inl (ltb-true a b less) | inr same ↦ (let parts = and_parts (eqb a b) rest same in inr (eqb-true a b parts.0, parts.1)) ]
+
 rank_rises : (a b : Hop) → IsHopBelow 65536 16 a → IsHopBelow 65536 16 b → hop_before a b ≡ true → rank a < rank b
 unfolding rank
 rank_rises a b below_a below_b before =
-    ⊎_elim
-    (λ (step : ltb a.step b.step ≡ true). omega (arith, ltb-true a.step b.step step, below_a.chunk, below_a.from, below_a.to))
-    (λ (steps : (eqb a.step b.step && (ltb a.chunk b.chunk || (eqb a.chunk b.chunk && (ltb a.from b.from || (eqb a.from b.from && ltb a.to b.to))))) ≡ true).
-    let step = and_parts _ _ steps in
-    ⊎_elim
-    (λ (chunk : ltb a.chunk b.chunk ≡ true). omega (arith, eqb-true a.step b.step step.0, ltb-true a.chunk b.chunk chunk, below_a.from, below_a.to))
-    (λ (chunks : (eqb a.chunk b.chunk && (ltb a.from b.from || (eqb a.from b.from && ltb a.to b.to))) ≡ true).
-    let chunk = and_parts _ _ chunks in
-    ⊎_elim
-    (λ (from : ltb a.from b.from ≡ true). omega (arith, eqb-true a.step b.step step.0, eqb-true a.chunk b.chunk chunk.0, ltb-true a.from b.from from, below_a.to))
-    (λ (froms : (eqb a.from b.from && ltb a.to b.to) ≡ true).
-    let from = and_parts _ _ froms in
-    omega (arith, eqb-true a.step b.step step.0, eqb-true a.chunk b.chunk chunk.0, eqb-true a.from b.from from.0, ltb-true a.to b.to from.1))
-    (or_cases _ _ chunk.1))
-    (or_cases _ _ step.1))
-    (or_cases _ _ before)
+    elim (ahead a.step b.step _ before) [
+      | inl step ↦ omega (arith, step, below_a.chunk, below_a.from, below_a.to)
+      | inr (step, chunks) ↦ elim (ahead a.chunk b.chunk _ chunks) [
+        | inl chunk ↦ omega (arith, step, chunk, below_a.from, below_a.to)
+        | inr (chunk, froms) ↦ elim (ahead a.from b.from _ froms) [ inl from ↦ omega (arith, step, chunk, from, below_a.to) | inr (from, to) ↦ omega (arith, step, chunk, from, ltb-true a.to b.to to) ]
+      ]
+    ]
 
 rank_small : (h : Hop) → IsHopBelow 65536 16 h → h.step ≤ 16 → rank h < 285212672
 unfolding rank
@@ -47,12 +44,10 @@ rank_from sends d below ascending (suc i) inside =
 few_sends : (s : ScheduleValue) → IsSchedule s → All (IsHopBelow 65536 16) s.sends → length s.sends < 2 ^ 32
 few_sends s is below =
     let d : Hop = record { chunk = 0; from = 0; to = 0; step = 0 } in
-    ⊎_elim
-    (λ (many : 285212672 < length s.sends).
-    let place : 285212672 ≤ rank (get_or s.sends 285212672 d) = rank_from s.sends d below is.ascending 285212672 many in
-    absurd (omega (arith, rank_small (get_or s.sends 285212672 d) (below 285212672 d many) (omega (arith, is.few, (is.steps 285212672 d many).to)))))
-    (λ (few : length s.sends ≤ 285212672). omega arith)
-    (cases_lt 285212672 (length s.sends))
+    elim (cases_lt 285212672 (length s.sends)) [
+      | inl many ↦ absurd (omega (arith, rank_from s.sends d below is.ascending 285212672 many, rank_small (get_or s.sends 285212672 d) (below 285212672 d many) (omega (arith, is.few, (is.steps 285212672 d many).to))))
+      | inr few ↦ omega (arith, few)
+    ]
 
 pub narrow : (s : ScheduleValue) → IsSchedule s → IsInRange 65536 16 s → IsNarrow s
 narrow s is range =

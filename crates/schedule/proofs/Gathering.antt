@@ -1,8 +1,8 @@
 -- The inverse of a schedule that wastes no send adds everything up at the one holder.
-use Rattle.std.proofs.Common.{◌≡◌, ℕ, zero, suc, ◌+◌, ◌-◌, ◌<◌, Bool, true, false, ◌&&◌, ◌||◌, cond, eqb, List, [], ◌∷◌, length, refl, sym, ap, ◌∙◌, ⊎_elim, subst, arith, nat_lt, sum_by}
-use Rattle.std.{specs.List.{AllByRecursion, AllPairs, list_any, range_with_len}, proofs.lemmas.Bool.{and_parts, cases_Bool, eqb-true, eq-eqb, ltb-true, ne_eqb}}
+use Rattle.std.proofs.Common.{◌≡◌, ℕ, zero, suc, ◌+◌, ◌-◌, ◌<◌, Bool, true, false, ◌&&◌, ◌||◌, cond, eqb, List, [], ◌∷◌, length, inl, inr, refl, sym, ap, ◌∙◌, subst, arith, nat_lt, sum_by}
+use Rattle.std.{specs.List.{AllByRecursion, AllPairs, list_any, range_with_len}, proofs.lemmas.Bool.{and_parts, cases_Bool, eqb-true, eq-eqb, false≢true, ltb-true, ne_eqb}}
 use Rattle.std.proofs.lemmas.{Bool.Decides.nat_tests, List.{Elements.recursion_from_All, FromFn.get_or-map-range_with_len}}
-use Rattle.list_laws.proofs.Tests.{if_so}
+use Rattle.list_laws.proofs.{Pairs.{pairs_head, pairs_tail}, Tests.if_so}
 use Rattle.schedule.specs.{declared.hop.Hop.Hop, Sends.{ScheduleValue, IsSchedule, IsInRange, is_hop_below}, Placed.{PlacementValue, holds, same_pair}}
 use Rattle.schedule.specs.{Running.{after, brings}, Solving.Tight}
 use Rattle.schedule.proofs.{First.each_weaker, Placing.holds-placed, Stepping.{chunks-after, nodes-after}, Returning.{own, returned, returned_more, sends_now}}
@@ -11,13 +11,7 @@ use Rattle.schedule.proofs.Spreading.{IsUseful, Once, back_sum, on_sum, one_step
 -- ---- what is held after one more step
 
 brings_one : (a b c d : Bool) → (a ≡ true → d ≡ true) → (a && ((b && c) && d)) ≡ ((a && b) && c)
-brings_one false b c d sender = refl
-brings_one true b c d sender = ap (λ x. (b && c) && x) (sender refl) ∙ kept b c
-  where
-    kept : (b c : Bool) → ((b && c) && true) ≡ (b && c)
-    kept true true = refl
-    kept true false = refl
-    kept false c = refl
+brings_one a b c d sender = grind arith
 
 -- each sender of the step holds its chunk
 abbrev Senders : PlacementValue → ℕ → List Hop → Type 0
@@ -76,8 +70,8 @@ once_of step chunk [] pairs = tt
 once_of step chunk (h ∷ hops) pairs = (
   each_weaker (λ o. same_pair (h.chunk, h.to) (o.chunk, o.to) ≡ false) (λ o. sends_now step chunk h ≡ true → sends_now step chunk o ≡ true → eqb o.to h.to ≡ false)
       (λ o apart now now_too. apart_ends h.chunk o.chunk h.to o.to chunk apart (eqb-true h.chunk chunk (and_parts (eqb h.step step) (eqb h.chunk chunk) now).1) (eqb-true o.chunk chunk (and_parts (eqb o.step step) (eqb o.chunk chunk) now_too).1))
-      hops (recursion_from_All (λ o. same_pair (h.chunk, h.to) (o.chunk, o.to) ≡ false) hops (λ k d inside. pairs 0 (suc k) d (omega arith) (omega arith))),
-  once_of step chunk hops (λ i j d low high. pairs (suc i) (suc j) d (omega arith) (omega arith)),
+      hops (recursion_from_All (λ o. same_pair (h.chunk, h.to) (o.chunk, o.to) ≡ false) hops (pairs_head (λ a b. same_pair (a.chunk, a.to) (b.chunk, b.to) ≡ false) h hops pairs)),
+  once_of step chunk hops (pairs_tail (λ a b. same_pair (a.chunk, a.to) (b.chunk, b.to) ≡ false) h hops pairs),
 )
 
 -- ---- what the holders have of one node's contribution is always one
@@ -134,9 +128,4 @@ one_at_holder pre s chunk n m is inside holder only below =
     omega (arith, all, mine, one)
   where
     alone : (v : ℕ) → v < pre.nodes → holds pre (chunk, v) ≡ eqb n v
-    alone v to =
-        ⊎_elim
-        (λ (held : holds pre (chunk, v) ≡ true). held ∙ sym (eq-eqb n v (sym (only v to held))))
-        (λ (lacked : holds pre (chunk, v) ≡ false).
-        lacked ∙ sym (ne_eqb n v (λ same. let impossible : true ≡ false = sym holder ∙ (ap (λ x. holds pre (chunk, x)) same ∙ lacked) in absurd cc)))
-        (cases_Bool (holds pre (chunk, v)))
+    alone v to = elim (cases_Bool (holds pre (chunk, v))) [ inl held ↦ held ∙ sym (eq-eqb n v (sym (only v to held))) | inr lacked ↦ lacked ∙ sym (ne_eqb n v (λ same. false≢true (sym lacked ∙ ap (λ x. holds pre (chunk, x)) (sym same) ∙ holder))) ]

@@ -1,7 +1,8 @@
 -- The inverse of a valid schedule is valid, and its inverse is the schedule.
-use Rattle.std.proofs.Common.{◌≡◌, ℕ, zero, suc, ◌+◌, ◌-◌, true, ◌&&◌, List, [], ◌∷◌, length, map, inl, inr, ⊎_elim, refl, sym, ap, ◌∙◌, subst, arith, ◌≢◌, nat_lt, reverse, sum}
+use Rattle.std.proofs.Common.{◌≡◌, ℕ, zero, suc, ◌+◌, ◌-◌, true, ◌&&◌, List, [], ◌∷◌, length, map, inl, inr, refl, sym, ap, ◌∙◌, subst, arith, ◌≢◌, nat_lt, reverse, sum}
 use Rattle.std.{specs.List.{All, AllPairs, AllByRecursion}, proofs.lemmas.{Bool.{and_parts, and_from}, List.{length-reverse, reverse-reverse}}}
 use Rattle.std.proofs.lemmas.List.{Elements.{All-from_recursion, recursion_from_All}, Sorted.{All-permutation, IsPermutation-reverse, sum_by-IsPermutation}}
+use Rattle.list_laws.proofs.Each.{each_map}
 use Rattle.schedule.specs.{declared.hop.Hop.Hop, Sends.{ScheduleValue, IsSchedule, IsInRange, IsRound, IsStep, hop_before, is_hop_below}}
 use Rattle.schedule.specs.Inverse.{inverse_hop, inverse_of}
 use Rattle.schedule.proofs.{First.{Among, InOrder, InOrder-from_pairs, among_each, among_map, map_among}, Verdicts.sends_one_way}
@@ -17,23 +18,20 @@ never_itself h itself = sends_one_way h h itself itself
 
 same_first : (a b : Hop) (xs ys : List Hop) → InOrder hop_before (a ∷ xs) → InOrder hop_before (b ∷ ys) → Within (a ∷ xs) (b ∷ ys) → Within (b ∷ ys) (a ∷ xs) → a ≡ b
 same_first a b xs ys first second there back =
-    ⊎_elim
-    (λ (same : b ≡ a). sym same)
-    (λ (later : Among a ys).
-    ⊎_elim
-    (λ (same : a ≡ b). same)
-    (λ (later_too : Among b xs). absurd (sends_one_way a b (among_each (λ y. hop_before a y ≡ true) b xs first.0 later_too) (among_each (λ y. hop_before b y ≡ true) a ys second.0 later)))
-    (back b (inl refl)))
-    (there a (inl refl))
+    elim (there a (inl refl)) [
+      | inl same ↦ sym same
+      | inr later ↦ elim (back b (inl refl)) [
+        | inl same ↦ same
+        | inr later_too ↦ absurd (sends_one_way a b (among_each (λ y. hop_before a y ≡ true) b xs first.0 later_too) (among_each (λ y. hop_before b y ≡ true) a ys second.0 later))
+      ]
+    ]
 
 rest_within : (a b : Hop) (xs ys : List Hop) → a ≡ b → InOrder hop_before (a ∷ xs) → Within (a ∷ xs) (b ∷ ys) → Within xs ys
 rest_within a b xs ys same order there x among =
-    ⊎_elim
-    (λ (here : b ≡ x).
-    let itself : hop_before a x ≡ true = among_each (λ y. hop_before a y ≡ true) x xs order.0 among in
-    absurd (never_itself x (ap (λ y. hop_before y x) (sym (same ∙ here)) ∙ itself)))
-    (λ (later : Among x ys). later)
-    (there x (inr among))
+    elim (there x (inr among)) [
+      | inl here ↦ absurd (never_itself x (ap (λ y. hop_before y x) (sym (same ∙ here)) ∙ among_each (λ y. hop_before a y ≡ true) x xs order.0 among))
+      | inr later ↦ later
+    ]
 
 pub one_order : (xs ys : List Hop) → InOrder hop_before xs → InOrder hop_before ys → Within xs ys → Within ys xs → xs ≡ ys
 one_order [] [] first second there back = refl
@@ -64,8 +62,8 @@ apart_inverses steps [] each apart = tt
 apart_inverses steps (h ∷ hops) each apart = (each_apart steps h hops each.0 each.1 apart.0, apart_inverses steps hops each.1 apart.1)
 
 inverse_steps : (steps : ℕ) (hops : List Hop) → StepsIn steps hops → StepsIn steps (map (inverse_hop steps) hops)
-inverse_steps steps [] each = tt
-inverse_steps steps (h ∷ hops) each = (record { from = omega (arith, each.0.from, each.0.to); to = omega (arith, each.0.from, each.0.to) }, inverse_steps steps hops each.1)
+inverse_steps steps hops each =
+    each_map (λ h. IsStep steps h.step) (λ h. IsStep steps h.step) (inverse_hop steps) (λ h is. record { from = omega (arith, is.from, is.to); to = omega (arith, is.from, is.to) }) hops each
 
 inverse_below : (steps chunks nodes : ℕ) (hops : List Hop) → AllByRecursion (λ h. is_hop_below chunks nodes h ≡ true) hops → AllByRecursion (λ h. is_hop_below chunks nodes h ≡ true) (map (inverse_hop steps) hops)
 inverse_below steps chunks nodes [] each = tt

@@ -1,5 +1,5 @@
 -- A step send by send: what one more of its sends brings.
-use Rattle.std.proofs.Common.{◌≡◌, ℕ, ◌+◌, ◌<◌, ◌≤◌, Bool, true, false, ◌&&◌, ◌||◌, eqb, List, [], ◌∷◌, ◌++◌, length, get_or, take, refl, sym, ap, ◌∙◌}
+use Rattle.std.proofs.Common.{◌≡◌, ℕ, ◌+◌, ◌<◌, ◌≤◌, Bool, true, false, ◌&&◌, ◌||◌, eqb, List, [], ◌∷◌, ◌++◌, length, get_or, take, refl, sym, ap, ◌∙◌, arith}
 use Rattle.std.{specs.List.{list_any, filter}, proofs.lemmas.{Bool.{and_parts, ltb-true, eqb-true, eq-eqb}, List.{take_more, take_all, Folds.list_any-append}}}
 use Rattle.std.proofs.{lemmas.{List.Elements.{All-filter, filter_passes, All-same}, Map.Views.any-filter_same}, Math.Bool.or-false}
 use Rattle.schedule.specs.{declared.hop.Hop.Hop, Sends.{ScheduleValue, is_hop_below, IsInRange}, Running.{brings, step_of}}
@@ -33,19 +33,10 @@ step_of-nil before step is =
     placed-alike before.chunks before.nodes (λ pair. holds before pair || false) (holds before) (λ pair c n. or-false (holds before pair)) ∙ sym is
 
 regrouped : (a b p : Bool) → (a || (b || ((p && true) || false))) ≡ (p || (a || b))
-regrouped true true true = refl
-regrouped true true false = refl
-regrouped true false true = refl
-regrouped true false false = refl
-regrouped false true true = refl
-regrouped false true false = refl
-regrouped false false true = refl
-regrouped false false false = refl
+regrouped a b p = grind arith
 
 dropped : (a b p : Bool) → (a || (b || ((p && false) || false))) ≡ (a || b)
-dropped a true p = refl
-dropped a false true = refl
-dropped a false false = refl
+dropped a b p = grind arith
 
 -- one more send of the step, whose sender holds the chunk
 pub step_of-brings : (sends : List Hop) (before : PlacementValue) (step : ℕ) (h : Hop) → h.step ≡ step → holds before (h.chunk, h.from) ≡ true → step_of (sends ++ h ∷ []) before step ≡ with_pair (step_of sends before step) (h.chunk, h.to)

@@ -1,42 +1,20 @@
 -- Pairs by rows and then by columns: which stand in a grid, and that they stand there in order.
-use Rattle.std.proofs.Common.{◌≡◌, ℕ, zero, suc, ◌+◌, ◌<◌, ◌≤◌, true, ◌&&◌, eqb, ltb, List, [], ◌∷◌, map, inl, inr, ⊎_elim, refl, sym, ap, ◌∙◌, arith}
+use Rattle.std.proofs.Common.{◌≡◌, ℕ, zero, suc, ◌+◌, ◌<◌, ◌≤◌, true, List, [], ◌∷◌, map, inl, inr, refl, sym, ap, arith}
 use Rattle.std.specs.List.{list_any, flat_map, range_with_len, filter, AllByRecursion}
-use Rattle.std.proofs.lemmas.Bool.{and_parts, and_from, or_cases, or_left, or_right, ltb-true, lt-ltb, eqb-true, eq-eqb}
+use Rattle.std.proofs.lemmas.Bool.{Decides.nat_tests, and_from, or_cases, or_left, or_right, lt-ltb, eq-eqb}
 use Rattle.schedule.specs.{Failing.pair_before, Placed.{PlacementValue, IsPlacement, same_pair, holds, all_pairs}}
-use Rattle.schedule.proofs.{Placing.{pair_is, pair_itself, in_rows}, First.{Among, InOrder, OneWay, InOrder-append, InOrder-filter, each_weaker, each_append}}
+use Rattle.schedule.proofs.{Placing.{pair_is, pair_itself, in_rows}, First.{Among, InOrder, OneWay, InOrder-append, InOrder-filter, any_among, each_weaker, each_append}}
 
 pub pairs_one_way : OneWay pair_before
-pairs_one_way a b there back =
-    ⊎_elim
-    (λ (row : ltb a.0 b.0 ≡ true).
-    ⊎_elim
-    (λ (other : ltb b.0 a.0 ≡ true). omega (arith, ltb-true a.0 b.0 row, ltb-true b.0 a.0 other))
-    (λ (other : (eqb b.0 a.0 && ltb b.1 a.1) ≡ true). omega (arith, ltb-true a.0 b.0 row, eqb-true b.0 a.0 (and_parts _ _ other).0))
-    (or_cases _ _ back))
-    (λ (column : (eqb a.0 b.0 && ltb a.1 b.1) ≡ true).
-    let mine = and_parts _ _ column in
-    ⊎_elim
-    (λ (other : ltb b.0 a.0 ≡ true). omega (arith, eqb-true a.0 b.0 mine.0, ltb-true b.0 a.0 other))
-    (λ (other : (eqb b.0 a.0 && ltb b.1 a.1) ≡ true). omega (arith, ltb-true a.1 b.1 mine.1, ltb-true b.1 a.1 (and_parts _ _ other).1))
-    (or_cases _ _ back))
-    (or_cases _ _ there)
+pairs_one_way a b there back = grind (arith, nat_tests)
 
 -- what a test for the pair finds is the pair
 pub among_from_any : (pair : ℕ × ℕ) (xs : List (ℕ × ℕ)) → list_any (same_pair pair) xs ≡ true → Among pair xs
 among_from_any pair [] found = absurd cc
-among_from_any pair (x ∷ xs) found =
-    ⊎_elim
-    (λ (here : same_pair pair x ≡ true). inl (sym (pair_is pair x here)))
-    (λ (later : list_any (same_pair pair) xs ≡ true). inr (among_from_any pair xs later))
-    (or_cases _ _ found)
+among_from_any pair (x ∷ xs) found = elim (or_cases _ _ found) [ inl here ↦ inl (sym (pair_is pair x here)) | inr later ↦ inr (among_from_any pair xs later) ]
 
 pub any_from_among : (pair : ℕ × ℕ) (xs : List (ℕ × ℕ)) → Among pair xs → list_any (same_pair pair) xs ≡ true
-any_from_among pair [] among = absurd among
-any_from_among pair (x ∷ xs) among =
-    ⊎_elim
-    (λ (here : x ≡ pair). or_left _ _ (ap (same_pair pair) here ∙ pair_itself pair))
-    (λ (later : Among pair xs). or_right _ _ (any_from_among pair xs later))
-    among
+any_from_among pair xs among = any_among (same_pair pair) pair xs among (pair_itself pair)
 
 -- a pair of one of so many rows from one on, and of one of so many columns
 pub record IsCell (low rows columns : ℕ) (pair : ℕ × ℕ) : Type 0 where

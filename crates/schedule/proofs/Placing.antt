@@ -1,7 +1,8 @@
 -- What a placement holds, when it is given by a test, made empty, or had a pair added; and when two are the same.
-use Rattle.std.proofs.Common.{◌≡◌, ℕ, zero, suc, ◌+◌, ◌<◌, ◌≤◌, Bool, true, false, ◌||◌, ◌&&◌, List, [], ◌∷◌, map, refl, sym, ap, ◌∙◌, ⊎_elim, arith}
+use Rattle.std.proofs.Common.{◌≡◌, ℕ, zero, suc, ◌+◌, ◌<◌, ◌≤◌, Bool, true, false, ◌||◌, ◌&&◌, List, [], ◌∷◌, map, inl, inr, refl, sym, ap, ◌∙◌, arith}
 use Rattle.std.{specs.List.{list_any, flat_map, range_with_len, filter, AllByRecursion}, proofs.lemmas.{List.Folds.list_any-append, Map.Views.any-filter_same}}
 use Rattle.std.proofs.lemmas.Bool.{eqb-true, eq-eqb, and_parts, and_from, or_left, or_right, cases_eq}
+use Rattle.std.proofs.Math.Bool.{and-true}
 use Rattle.schedule.{specs.Placed.{PlacementValue, same_pair, holds, all_pairs, placed, IsPlacement, empty_placement, with_pair}, proofs.First.each_append}
 
 -- the test on pairs tells them apart
@@ -19,24 +20,20 @@ pair_itself a = and_from _ _ (eq-eqb a.0 a.0 refl) (eq-eqb a.1 a.1 refl)
 in_row : (chunk node from len : ℕ) → from ≤ node → node < from + len → list_any (same_pair (chunk, node)) (map (λ n. (chunk, n)) (range_with_len from len)) ≡ true
 in_row chunk node from zero low high = absurd (omega arith)
 in_row chunk node from (suc len) low high =
-    ⊎_elim
-    (λ (here : node ≡ from). or_left _ _ (and_from _ _ (eq-eqb chunk chunk refl) (eq-eqb node from here)))
-    (λ (later : node ≡ from → ⊥). or_right _ _ (in_row chunk node (from + 1) len (omega arith) (omega arith)))
-    (cases_eq node from)
+    elim (cases_eq node from) [
+      | inl here ↦ or_left _ _ (and_from _ _ (eq-eqb chunk chunk refl) (eq-eqb node from here))
+      | inr later ↦ or_right _ _ (in_row chunk node (from + 1) len (omega (arith, later)) (omega arith))
+    ]
 
 pub in_rows : (chunk node nodes from len : ℕ) → node < nodes → from ≤ chunk → chunk < from + len → list_any (same_pair (chunk, node)) (flat_map (λ c. map (λ n. (c, n)) (range_with_len 0 nodes)) (range_with_len from len)) ≡ true
 in_rows chunk node nodes from zero below low high = absurd (omega arith)
 in_rows chunk node nodes from (suc len) below low high =
     let row : ℕ → List (ℕ × ℕ) = λ c. map (λ n. (c, n)) (range_with_len 0 nodes) in
-    let rest : List (ℕ × ℕ) = flat_map row (range_with_len (from + 1) len) in
-    let found : ℕ × ℕ → List (ℕ × ℕ) → Bool = λ pair. list_any (same_pair pair) in
-    list_any-append (same_pair (chunk, node)) (row from) rest
-    ∙ ⊎_elim
-    (λ (here : chunk ≡ from).
-    let mine : found (chunk, node) (row from) ≡ true = rw (← here) (in_row chunk node 0 nodes (omega arith) (omega arith)) in
-    or_left _ _ mine)
-    (λ (later : chunk ≡ from → ⊥). or_right _ _ (in_rows chunk node nodes (from + 1) len below (omega arith) (omega arith)))
-    (cases_eq chunk from)
+    list_any-append (same_pair (chunk, node)) (row from) (flat_map row (range_with_len (from + 1) len))
+    ∙ elim (cases_eq chunk from) [
+      | inl here ↦ or_left _ _ (ap (λ c. list_any (same_pair (chunk, node)) (row c)) (sym here) ∙ in_row chunk node 0 nodes (omega arith) (omega arith))
+      | inr later ↦ or_right _ _ (in_rows chunk node nodes (from + 1) len below (omega (arith, later)) (omega arith))
+    ]
 
 -- every pair in range is among all
 pub among_all : (chunks nodes : ℕ) (pair : ℕ × ℕ) → pair.0 < chunks → pair.1 < nodes → list_any (same_pair pair) (all_pairs chunks nodes) ≡ true
@@ -83,12 +80,8 @@ placed-none chunks nodes f none =
 -- in range, the placement of a test holds what passes the test
 pub holds-placed : (chunks nodes : ℕ) (f : ℕ × ℕ → Bool) (pair : ℕ × ℕ) → pair.0 < chunks → pair.1 < nodes → holds (placed chunks nodes f) pair ≡ f pair
 holds-placed chunks nodes f pair c n =
-    let told : list_any (same_pair pair) (filter f (all_pairs chunks nodes)) ≡ (f pair && list_any (same_pair pair) (all_pairs chunks nodes)) = any-filter_same (same_pair pair) f (f pair) (λ k same. ap f (sym (pair_is pair k same))) (all_pairs chunks nodes) in
-    told ∙ (ap (λ b. f pair && b) (among_all chunks nodes pair c n) ∙ and_true (f pair))
-  where
-    and_true : (b : Bool) → (b && true) ≡ b
-    and_true true = refl
-    and_true false = refl
+    any-filter_same (same_pair pair) f (f pair) (λ k same. ap f (sym (pair_is pair k same))) (all_pairs chunks nodes)
+    ∙ (ap (λ b. f pair && b) (among_all chunks nodes pair c n) ∙ and-true (f pair))
 
 -- what a test gives is a placement
 pub placement-placed : (chunks nodes : ℕ) (f : ℕ × ℕ → Bool) → IsPlacement (placed chunks nodes f)

@@ -1,10 +1,11 @@
 -- The bags of an inverse's run, count by count: a step gives each sender back what its receivers had.
-use Rattle.std.proofs.Common.{◌≡◌, ℕ, zero, suc, ◌+◌, ◌-◌, ◌<◌, ◌≤◌, Bool, true, false, ◌&&◌, cond, eqb, List, [], ◌∷◌, length, map, get_or, refl, sym, ap, ◌∙◌, ⊎_elim, subst, arith, filter, fold, sum_by}
-use Rattle.std.{specs.List.AllByRecursion, proofs.lemmas.{Bool.{and_parts, cases_Bool, eqb-true}, List.{Elements.recursion_from_All, Sums.sum_by-cons}}}
+use Rattle.std.proofs.Common.{◌≡◌, ℕ, zero, suc, ◌+◌, ◌-◌, ◌<◌, ◌≤◌, Bool, ◌&&◌, eqb, List, [], ◌∷◌, length, map, get_or, inl, inr, refl, sym, ap, ◌∙◌, subst, arith, filter, fold, sum_by}
+use Rattle.std.{specs.List.AllByRecursion, proofs.lemmas.{Bool.{and_parts, cases_Bool, eqb-true}, List.{Elements.recursion_from_All, Sums.sum_by-cons, Sorted.sum_by-IsPermutation}}}
+use Rattle.std.proofs.Math.Bool.{and_assoc}
 use Rattle.list_laws.proofs.Tests.{if_so}
-use Rattle.schedule.specs.{declared.hop.Hop.Hop, Sends.{ScheduleValue, IsSchedule, IsStep, hop_before}, Bags.{Bag, Bags, added, contributions}}
-use Rattle.schedule.specs.{Summing.{bags_after, goes_to}, Inverse.{in_order, inverse_hop, inverse_of, with_hop}}
-use Rattle.schedule.proofs.{Bagging.{counted_after, counted_sum}, Spreading.spread, Turning.same_turn}
+use Rattle.schedule.specs.{declared.hop.Hop.Hop, Sends.{ScheduleValue, IsSchedule, IsStep}, Bags.{Bag, Bags, added, contributions}}
+use Rattle.schedule.specs.{Summing.{bags_after, goes_to}, Inverse.{in_order, inverse_hop, inverse_of}}
+use Rattle.schedule.proofs.{Bagging.{counted_after, counted_sum}, Spreading.spread, Turning.same_turn, HopOrder.in_order_permutes}
 
 -- ---- counts of sums of bags
 
@@ -22,46 +23,16 @@ count_fold : (nodes m : ℕ) (before : Bags) → ((pair : ℕ × ℕ) → length
 count_fold nodes m before counted below [] bag is = omega arith
 count_fold nodes m before counted below (h ∷ hops) bag is =
     let it : Bag = before (h.chunk, h.from) in
-    let rest : get_or (fold added (added bag it) (map (λ h. before (h.chunk, h.from)) hops)) m 0 ≡ get_or (added bag it) m 0 + sum_by (brought before m) hops = count_fold nodes m before counted below hops (added bag it) (counted_sum nodes bag it is (counted (h.chunk, h.from))) in
-    let here : get_or (added bag it) m 0 ≡ get_or bag m 0 + get_or it m 0 = count_added bag it m (omega (arith, is, below)) (omega (arith, counted (h.chunk, h.from), below)) in
-    let whole : sum_by (brought before m) (h ∷ hops) ≡ get_or it m 0 + sum_by (brought before m) hops = sum_by-cons (brought before m) h hops in
-    omega (arith, rest, here, whole)
+    omega (arith, count_fold nodes m before counted below hops (added bag it) (counted_sum nodes bag it is (counted (h.chunk, h.from))), count_added bag it m (omega (arith, is, below)) (omega (arith, counted (h.chunk, h.from), below)), sum_by-cons (brought before m) h hops)
 
 -- ---- sums over sends in another order
 
 sum_kept : (p : Hop → Bool) (f : Hop → ℕ) (hops : List Hop) → sum_by f (filter p hops) ≡ sum_by (λ h. if_so (p h) (f h)) hops
 sum_kept p f [] = refl
-sum_kept p f (h ∷ hops) =
-    let rest = sum_kept p f hops in
-    let whole : sum_by (λ h. if_so (p h) (f h)) (h ∷ hops) ≡ if_so (p h) (f h) + sum_by (λ h. if_so (p h) (f h)) hops = sum_by-cons (λ h. if_so (p h) (f h)) h hops in
-    ⊎_elim
-    (λ (passes : p h ≡ true).
-    let here : if_so (p h) (f h) ≡ f h = ap (λ b. if_so b (f h)) passes in
-    let kept : sum_by f (h ∷ filter p hops) ≡ f h + sum_by f (filter p hops) = sum_by-cons f h (filter p hops) in
-    let all : sum_by f (h ∷ filter p hops) ≡ sum_by (λ h. if_so (p h) (f h)) (h ∷ hops) = omega (arith, rest, whole, here, kept) in
-    subst (λ b. sum_by f (cond b (h ∷ filter p hops) (filter p hops)) ≡ sum_by (λ h. if_so (p h) (f h)) (h ∷ hops)) (sym passes) all)
-    (λ (fails : p h ≡ false).
-    let here : if_so (p h) (f h) ≡ 0 = ap (λ b. if_so b (f h)) fails in
-    let all : sum_by f (filter p hops) ≡ sum_by (λ h. if_so (p h) (f h)) (h ∷ hops) = omega (arith, rest, whole, here) in
-    subst (λ b. sum_by f (cond b (h ∷ filter p hops) (filter p hops)) ≡ sum_by (λ h. if_so (p h) (f h)) (h ∷ hops)) (sym fails) all)
-    (cases_Bool (p h))
-
-sum_with : (f : Hop → ℕ) (h : Hop) (hops : List Hop) → sum_by f (with_hop h hops) ≡ f h + sum_by f hops
-sum_with f h [] = sum_by-cons f h []
-sum_with f h (o ∷ hops) =
-    ⊎_elim
-    (λ (first : hop_before h o ≡ true). rw first (sum_by-cons f h (o ∷ hops)))
-    (λ (later : hop_before h o ≡ false).
-    let inside : sum_by f (with_hop h hops) ≡ f h + sum_by f hops = sum_with f h hops in
-    let whole : sum_by f (o ∷ with_hop h hops) ≡ f o + sum_by f (with_hop h hops) = sum_by-cons f o (with_hop h hops) in
-    let other : sum_by f (o ∷ hops) ≡ f o + sum_by f hops = sum_by-cons f o hops in
-    let same : sum_by f (o ∷ with_hop h hops) ≡ f h + sum_by f (o ∷ hops) = omega (arith, inside, whole, other) in
-    rw later same)
-    (cases_Bool (hop_before h o))
+sum_kept p f (h ∷ hops) = grind (arith, sum_kept p f hops, sum_by-cons (λ h. if_so (p h) (f h)) h hops, sum_by-cons f h (filter p hops))
 
 sum_in_order : (f : Hop → ℕ) (hops : List Hop) → sum_by f (in_order hops) ≡ sum_by f hops
-sum_in_order f [] = refl
-sum_in_order f (h ∷ hops) = omega (arith, sum_in_order f hops, sum_with f h (in_order hops), sum_by-cons f h hops)
+sum_in_order f hops = sum_by-IsPermutation f hops (in_order hops) (in_order_permutes hops)
 
 sum_images : (f g : Hop → ℕ) (image : Hop → Hop) (hops : List Hop) → AllByRecursion (λ h. f (image h) ≡ g h) hops → sum_by f (map image hops) ≡ sum_by g hops
 sum_images f g image [] same = refl
@@ -75,12 +46,7 @@ abbrev pub sends_now : ℕ → ℕ → Hop → Bool
 sends_now step chunk h = eqb h.step step && eqb h.chunk chunk
 
 regrouped : (i k chunk v : ℕ) (steps : ℕ) (h : Hop) → eqb (steps + 1 - h.step) i ≡ eqb h.step k → goes_to i (chunk, v) (inverse_hop steps h) ≡ (sends_now k chunk h && eqb h.from v)
-regrouped i k chunk v steps h same =
-    ap (λ b. b && (eqb h.chunk chunk && eqb h.from v)) same ∙ grouped (eqb h.step k) (eqb h.chunk chunk) (eqb h.from v)
-  where
-    grouped : (a b c : Bool) → (a && (b && c)) ≡ ((a && b) && c)
-    grouped true b c = refl
-    grouped false b c = refl
+regrouped i k chunk v steps h same = ap (λ b. b && (eqb h.chunk chunk && eqb h.from v)) same ∙ sym (and_assoc (eqb h.step k) (eqb h.chunk chunk) (eqb h.from v))
 
 -- the count before of the node's own bags of the chunk
 abbrev pub own : Bags → ℕ → ℕ → ℕ → ℕ
@@ -88,13 +54,10 @@ own bags chunk m v = get_or (bags (chunk, v)) m 0
 
 same_chunk : (before : Bags) (chunk m : ℕ) (step v : ℕ) (h : Hop) → if_so (sends_now step chunk h && eqb h.from v) (get_or (before (h.chunk, h.to)) m 0) ≡ if_so (sends_now step chunk h && eqb h.from v) (own before chunk m h.to)
 same_chunk before chunk m step v h =
-    ⊎_elim
-    (λ (passes : (sends_now step chunk h && eqb h.from v) ≡ true).
-    let of_chunk : h.chunk ≡ chunk = eqb-true h.chunk chunk (and_parts (eqb h.step step) (eqb h.chunk chunk) (and_parts (sends_now step chunk h) (eqb h.from v) passes).0).1 in
-    ap (λ c. if_so (sends_now step chunk h && eqb h.from v) (get_or (before (c, h.to)) m 0)) of_chunk)
-    (λ (fails : (sends_now step chunk h && eqb h.from v) ≡ false).
-    ap (λ b. if_so b (get_or (before (h.chunk, h.to)) m 0)) fails ∙ sym (ap (λ b. if_so b (own before chunk m h.to)) fails))
-    (cases_Bool (sends_now step chunk h && eqb h.from v))
+    elim (cases_Bool (sends_now step chunk h && eqb h.from v)) [
+      | inl passes ↦ ap (λ c. if_so (sends_now step chunk h && eqb h.from v) (get_or (before (c, h.to)) m 0)) (eqb-true h.chunk chunk (and_parts (eqb h.step step) (eqb h.chunk chunk) (and_parts (sends_now step chunk h) (eqb h.from v) passes).0).1)
+      | inr fails ↦ rw fails refl
+    ]
 
 each_returned : (before : Bags) (steps i chunk m v : ℕ) (hops : List Hop) → 0 < i → i ≤ steps → AllByRecursion (λ h. IsStep steps h.step) hops → AllByRecursion (λ h. if_so (goes_to i (chunk, v) (inverse_hop steps h)) (brought before m (inverse_hop steps h)) ≡ if_so (sends_now (steps + 1 - i) chunk h && eqb h.from v) (own before chunk m h.to)) hops
 each_returned before steps i chunk m v [] from to each = tt

@@ -1,8 +1,8 @@
 -- One step: what the senders get back of the receivers is what the receivers had.
-use Rattle.std.proofs.Common.{◌≡◌, ℕ, zero, suc, ◌+◌, ◌<◌, ◌≤◌, ◌⊎◌, inl, inr, Bool, true, false, ◌&&◌, ◌||◌, cond, eqb, List, [], ◌∷◌, refl, sym, ap, ◌∙◌, ⊎_elim, subst, arith, sum_by}
-use Rattle.std.{specs.List.{AllByRecursion, list_any, range_with_len}, proofs.lemmas.{Bool.{cases_Bool, eqb-true, eq-eqb, ne_eqb}, List.Sums.sum_by-cons}}
+use Rattle.std.proofs.Common.{◌≡◌, ℕ, zero, suc, ◌+◌, ◌<◌, ◌≤◌, inl, inr, Bool, true, false, ◌&&◌, ◌||◌, cond, eqb, List, [], ◌∷◌, refl, sym, ap, ◌∙◌, subst, arith, sum_by}
+use Rattle.std.{specs.List.{AllByRecursion, list_any, range_with_len}, proofs.lemmas.{Bool.{cases_Bool, cases_eq, eqb-true, eq-eqb, ne_eqb}, List.Sums.sum_by-cons}}
 use Rattle.list_laws.proofs.Tests.{if_so}
-use Rattle.schedule.specs.declared.hop.Hop.{Hop}
+use Rattle.schedule.{specs.declared.hop.Hop.Hop, proofs.First.each_weaker}
 
 -- ---- sums over numbers
 
@@ -28,15 +28,12 @@ sum_past w g a (suc n) past =
 pub sum_at : (w : ℕ) (g : ℕ → ℕ) (a n : ℕ) → a ≤ w → w < a + n → sum_by (only_at w g) (range_with_len a n) ≡ g w
 sum_at w g a zero from to = absurd (omega arith)
 sum_at w g a (suc n) from to =
-    elim (here_or_later a w from) [
+    elim (cases_eq a w) [
       | inl here ↦ (let mine : only_at w g a ≡ g w = rw (eq-eqb w a (sym here)) (ap g here) in
           omega (arith, mine, sum_past w g (a + 1) n (omega (arith, here)), sum_by-cons (only_at w g) a (range_with_len (a + 1) n)))
-      | inr later ↦ (let other : only_at w g a ≡ 0 = rw (ne_eqb w a (λ same. omega (arith, later, same))) refl in
-          omega (arith, other, sum_at w g (a + 1) n (omega (arith, later)) (omega (arith, to)), sum_by-cons (only_at w g) a (range_with_len (a + 1) n)))
+      | inr later ↦ (let other : only_at w g a ≡ 0 = rw (ne_eqb w a (λ same. later (sym same))) refl in
+          omega (arith, other, sum_at w g (a + 1) n (omega (arith, from, later)) (omega (arith, to)), sum_by-cons (only_at w g) a (range_with_len (a + 1) n)))
     ]
-  where
-    here_or_later : (a i : ℕ) → a ≤ i → (a ≡ i) ⊎ (a < i)
-    here_or_later a i from = grind arith
 
 -- ---- the sends of one step, by a test
 
@@ -63,35 +60,19 @@ Once now (h ∷ hops) = AllByRecursion (λ o. now h ≡ true → now o ≡ true 
 none_reached : (now : Hop → Bool) (w : ℕ) (hops : List Hop) → AllByRecursion (λ o. now o ≡ true → eqb o.to w ≡ false) hops → reached now w hops ≡ false
 none_reached now w [] each = refl
 none_reached now w (o ∷ hops) each =
-    ⊎_elim
-    (λ (is : now o ≡ true). rw (is, each.0 is) (none_reached now w hops each.1))
-    (λ (not_now : now o ≡ false). rw not_now (none_reached now w hops each.1))
-    (cases_Bool (now o))
-
-each_at : (now : Hop → Bool) (h : Hop) (hops : List Hop) → now h ≡ true → AllByRecursion (λ o. now h ≡ true → now o ≡ true → eqb o.to h.to ≡ false) hops → AllByRecursion (λ o. now o ≡ true → eqb o.to h.to ≡ false) hops
-each_at now h [] is each = tt
-each_at now h (o ∷ hops) is each = (each.0 is, each_at now h hops is each.1)
+    elim (cases_Bool (now o)) [ inl is ↦ rw (is, each.0 is) (none_reached now w hops each.1) | inr other ↦ rw other (none_reached now w hops each.1) ]
 
 kept_part : (b : Bool) (x : ℕ) → cond b (x + 0) 0 ≡ cond (b || false) x 0
-kept_part true x = omega arith
-kept_part false x = refl
+kept_part b x = grind arith
 
 split_part : (b : Bool) (x y z : ℕ) → cond b (x + (y + z)) 0 ≡ cond b (x + z) 0 + cond b y 0
-split_part true x y z = omega arith
-split_part false x y z = refl
+split_part b x y z = grind arith
 
 joined_part : (b e r : Bool) (x : ℕ) → (e ≡ true → (b ≡ false) × (r ≡ false)) → cond (b || (e || r)) x 0 ≡ cond (b || r) x 0 + cond e x 0
-joined_part true true r x apart = let impossible : true ≡ false = (apart refl).0 in absurd cc
-joined_part false true true x apart = let impossible : true ≡ false = (apart refl).1 in absurd cc
-joined_part false true false x apart = omega arith
-joined_part true false r x apart = omega arith
-joined_part false false true x apart = omega arith
-joined_part false false false x apart = refl
+joined_part b e r x apart = grind arith
 
 sender_part : (b e : Bool) (x : ℕ) → (e ≡ true → b ≡ true) → cond b (cond e x 0) 0 ≡ cond e x 0
-sender_part true e x holds = refl
-sender_part false true x holds = let impossible : false ≡ true = holds refl in absurd cc
-sender_part false false x holds = refl
+sender_part b e x holds = grind arith
 
 -- the sums over the holders before and after the sends of a step
 abbrev pub back_sum : ℕ → (Hop → Bool) → (ℕ → Bool) → (ℕ → ℕ) → List Hop → ℕ
@@ -102,9 +83,7 @@ on_sum nodes now held g hops = sum_by (λ v. cond (held v || reached now v hops)
 
 spread_idle : (now : Hop → Bool) (g : ℕ → ℕ) (v : ℕ) (h : Hop) (hops : List Hop) → now h ≡ false → spread now g v (h ∷ hops) ≡ spread now g v hops
 spread_idle now g v h hops idle =
-    let none : if_so (now h && eqb h.from v) (g h.to) ≡ 0 = ap (λ b. if_so (b && eqb h.from v) (g h.to)) idle in
-    let all : spread now g v (h ∷ hops) ≡ if_so (now h && eqb h.from v) (g h.to) + spread now g v hops = sum_by-cons (λ h. cond (now h && eqb h.from v) (g h.to) 0) h hops in
-    omega (arith, none, all)
+    omega (arith, sum_by-cons (λ h. cond (now h && eqb h.from v) (g h.to) 0) h hops, ap (λ b. if_so (b && eqb h.from v) (g h.to)) idle)
 
 idle_send : (nodes : ℕ) (now : Hop → Bool) (held : ℕ → Bool) (g : ℕ → ℕ) (h : Hop) (hops : List Hop) → now h ≡ false → back_sum nodes now held g hops ≡ on_sum nodes now held g hops → back_sum nodes now held g (h ∷ hops) ≡ on_sum nodes now held g (h ∷ hops)
 idle_send nodes now held g h hops idle rest =
@@ -140,7 +119,7 @@ one_step nodes now held g [] useful once =
     sum_alike (λ v. cond (held v) (g v + 0) 0) (λ v. cond (held v || false) (g v) 0) 0 nodes (λ v from to. kept_part (held v) (g v))
 one_step nodes now held g (h ∷ hops) useful once =
     let rest = one_step nodes now held g hops useful.1 once.1 in
-    ⊎_elim
-    (λ (busy : now h ≡ true). busy_send nodes now held g h hops busy useful.0 (none_reached now h.to hops (each_at now h hops busy once.0)) rest)
-    (λ (idle : now h ≡ false). idle_send nodes now held g h hops idle rest)
-    (cases_Bool (now h))
+    elim (cases_Bool (now h)) [
+      | inl busy ↦ busy_send nodes now held g h hops busy useful.0 (none_reached now h.to hops (each_weaker (λ o. now h ≡ true → now o ≡ true → eqb o.to h.to ≡ false) (λ o. now o ≡ true → eqb o.to h.to ≡ false) (λ o each. each busy) hops once.0)) rest
+      | inr idle ↦ idle_send nodes now held g h hops idle rest
+    ]

@@ -1,25 +1,18 @@
 -- The sends of a step stand side by side.
-use Rattle.std.proofs.Common.{◌≡◌, ℕ, ◌+◌, ◌≤◌, Bool, true, false, ◌&&◌, ◌||◌, eqb, ltb, leb, List, [], ◌∷◌, ◌++◌, length, get_or, take, drop, refl, sym, ap, ◌∙◌, ⊎_elim, arith, length-drop}
+use Rattle.std.proofs.Common.{◌≡◌, ℕ, ◌+◌, ◌≤◌, Bool, true, false, eqb, ltb, leb, List, [], ◌∷◌, ◌++◌, length, get_or, take, drop, inl, inr, refl, sym, ap, ◌∙◌, arith, length-drop}
 use Rattle.std.specs.List.{filter, All, AllPairs, AllWithin, AllByRecursion, Sorted.{IsNonDecreasingBy, IsPartitionPoint}}
-use Rattle.std.proofs.lemmas.Bool.{ltb-true, ltb-false, leb-true, leb-false, eqb-true, eq-eqb, ne_eqb, and_parts, or_cases, cases_eq}
+use Rattle.std.proofs.lemmas.Bool.{Decides.nat_tests, ltb-true, ltb-false, leb-true, leb-false, eq-eqb, ne_eqb, cases_eq}
 use Rattle.std.proofs.lemmas.List.{append-nil, get_or-take, get_or-drop, take-append-drop, length-take-le, Elements.{filter-append, recursion_from_All}}
 use Rattle.list_laws.proofs.Tests.{filter_none}
 use Rattle.schedule.specs.{declared.hop.Hop.Hop, Sends.hop_before}
 
 -- the order of sends is an order by step first
 pub steps_ordered : (a b : Hop) → hop_before a b ≡ true → a.step ≤ b.step
-steps_ordered a b h =
-    ⊎_elim
-    (λ (less : ltb a.step b.step ≡ true). omega (arith, ltb-true a.step b.step less))
-    (λ (other : (eqb a.step b.step && (ltb a.chunk b.chunk || (eqb a.chunk b.chunk && (ltb a.from b.from || (eqb a.from b.from && ltb a.to b.to))))) ≡ true). omega (arith, eqb-true a.step b.step (and_parts _ _ other).0))
-    (or_cases _ _ h)
+steps_ordered a b h = grind (arith, nat_tests)
 
 pub steps_ascend : (sends : List Hop) → AllPairs (λ a b. hop_before a b ≡ true) sends → IsNonDecreasingBy (λ h. h.step) sends
 steps_ascend sends ascending i j d le inside =
-    ⊎_elim
-    (λ (same : i ≡ j). rw same (omega arith))
-    (λ (apart : i ≡ j → ⊥). steps_ordered (get_or sends i d) (get_or sends j d) (ascending i j d (omega arith) inside))
-    (cases_eq i j)
+    elim (cases_eq i j) [ inl same ↦ rw same (omega arith) | inr apart ↦ steps_ordered (get_or sends i d) (get_or sends j d) (ascending i j d (omega (arith, apart)) inside) ]
 
 filter_whole : {X : Type 0} (p : X → Bool) (xs : List X) → AllByRecursion (λ x. p x ≡ true) xs → filter p xs ≡ xs
 filter_whole p [] a = refl

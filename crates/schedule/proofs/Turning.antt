@@ -1,11 +1,11 @@
 -- A schedule fits the links turned round exactly where its inverse fits the links.
-use Rattle.std.proofs.Common.{◌≡◌, ℕ, ◌+◌, ◌-◌, ◌*◌, ◌<◌, ◌≤◌, Bool, true, false, ◌&&◌, ◌||◌, cond, eqb, List, [], ◌∷◌, length, get_or, map, refl, sym, ap, ◌∙◌, ⊎_elim, subst, arith, ◌↔◌, count_by}
-use Rattle.std.{specs.List.{AllByRecursion, list_any}, proofs.lemmas.{Bool.{cases_Bool, Decides.nat_tests}, List.{length-reverse, get_or-reverse}}}
-use Rattle.std.proofs.{lemmas.List.{Elements.{All-from_recursion, recursion_from_All}, Sums.sum_by-cons}, Math.Bool.and_comm}
+use Rattle.std.proofs.Common.{◌≡◌, ℕ, ◌+◌, ◌-◌, ◌*◌, ◌<◌, ◌≤◌, Bool, true, ◌&&◌, ◌||◌, cond, eqb, List, [], ◌∷◌, length, get_or, map, refl, sym, ap, ◌∙◌, subst, arith, ◌↔◌, count_by}
+use Rattle.std.{specs.List.{AllByRecursion, list_any}, proofs.lemmas.{Bool.{Decides.nat_tests}, List.{length-reverse, get_or-reverse}}}
+use Rattle.std.proofs.{lemmas.List.{Elements.{All-from_recursion, recursion_from_All}, Sums.sum_by-cons, Sorted.sum_by-IsPermutation}, Math.Bool.and_comm}
 use Rattle.schedule.specs.{declared.hop.Hop.Hop, Links.{GroupValue, TopologyValue, has_link, is_usable, reversed_group, reversed_of, turned}, Placed.same_pair}
-use Rattle.schedule.specs.{Sends.{ScheduleValue, IsSchedule, IsStep, hop_before, link_of}, Fitting.{Fits, load, rounds_at}}
-use Rattle.schedule.specs.Inverse.{in_order, inverse_hop, inverse_of, with_hop}
-use Rattle.schedule.proofs.{HopOrder.each_in_order, Inverting.{inverse_inverse, valid_inverse}, Reversing.reversed-reversed}
+use Rattle.schedule.specs.{Sends.{ScheduleValue, IsSchedule, IsStep, link_of}, Fitting.{Fits, load, rounds_at}}
+use Rattle.schedule.specs.Inverse.{in_order, inverse_hop, inverse_of}
+use Rattle.schedule.proofs.{HopOrder.{each_in_order, in_order_permutes}, Inverting.{inverse_inverse, valid_inverse}, Reversing.reversed-reversed}
 
 -- ---- links turned round
 
@@ -26,39 +26,17 @@ turned_usable (g ∷ groups) link =
 
 -- ---- how many sends pass a test
 
-counted_with : (p : Hop → Bool) (h : Hop) (hops : List Hop) → count_by p (with_hop h hops) ≡ cond (p h) 1 0 + count_by p hops
-counted_with p h [] = sum_by-cons (λ x. cond (p x) 1 0) h []
-counted_with p h (o ∷ hops) =
-    ⊎_elim
-    (λ (first : hop_before h o ≡ true). rw first (sum_by-cons (λ x. cond (p x) 1 0) h (o ∷ hops)))
-    (λ (later : hop_before h o ≡ false).
-    let inside : count_by p (with_hop h hops) ≡ cond (p h) 1 0 + count_by p hops = counted_with p h hops in
-    let whole : count_by p (o ∷ with_hop h hops) ≡ cond (p o) 1 0 + count_by p (with_hop h hops) = sum_by-cons (λ x. cond (p x) 1 0) o (with_hop h hops) in
-    let other : count_by p (o ∷ hops) ≡ cond (p o) 1 0 + count_by p hops = sum_by-cons (λ x. cond (p x) 1 0) o hops in
-    let same : count_by p (o ∷ with_hop h hops) ≡ cond (p h) 1 0 + count_by p (o ∷ hops) = omega (arith, inside, whole, other) in
-    rw later same)
-    (cases_Bool (hop_before h o))
-
-counted_in_order : (p : Hop → Bool) (hops : List Hop) → count_by p (in_order hops) ≡ count_by p hops
-counted_in_order p [] = refl
-counted_in_order p (h ∷ hops) =
-    let rest : count_by p (in_order hops) ≡ count_by p hops = counted_in_order p hops in
-    let one : count_by p (with_hop h (in_order hops)) ≡ cond (p h) 1 0 + count_by p (in_order hops) = counted_with p h (in_order hops) in
-    let whole : count_by p (h ∷ hops) ≡ cond (p h) 1 0 + count_by p hops = sum_by-cons (λ x. cond (p x) 1 0) h hops in
-    omega (arith, rest, one, whole)
-
 abbrev pub one_if : Bool → ℕ
 one_if passes = cond passes 1 0
+
+counted_in_order : (p : Hop → Bool) (hops : List Hop) → count_by p (in_order hops) ≡ count_by p hops
+counted_in_order p hops = sum_by-IsPermutation (λ h. one_if (p h)) hops (in_order hops) (in_order_permutes hops)
 
 -- the sends that pass a test and those whose images pass another
 counted_images : (p q : Hop → Bool) (f : Hop → Hop) (hops : List Hop) → AllByRecursion (λ h. p (f h) ≡ q h) hops → count_by p (map f hops) ≡ count_by q hops
 counted_images p q f [] same = refl
 counted_images p q f (h ∷ hops) same =
-    let rest : count_by p (map f hops) ≡ count_by q hops = counted_images p q f hops same.1 in
-    let image : count_by p (f h ∷ map f hops) ≡ cond (p (f h)) 1 0 + count_by p (map f hops) = sum_by-cons (λ x. cond (p x) 1 0) (f h) (map f hops) in
-    let here : one_if (p (f h)) ≡ one_if (q h) = ap one_if same.0 in
-    let whole : count_by q (h ∷ hops) ≡ cond (q h) 1 0 + count_by q hops = sum_by-cons (λ x. cond (q x) 1 0) h hops in
-    omega (arith, rest, image, here, whole)
+    omega (arith, ap one_if same.0, counted_images p q f hops same.1, sum_by-cons (λ x. one_if (p x)) (f h) (map f hops), sum_by-cons (λ x. one_if (q x)) h hops)
 
 -- ---- loads and rounds
 

@@ -1,31 +1,19 @@
 -- What the verdict says, from the first send, the first turn and the first pair that fail.
-use Rattle.std.proofs.Common.{◌≡◌, ℕ, ◌*◌, ◌<◌, ◌≤◌, Bool, true, false, not, ◌&&◌, ◌||◌, eqb, ltb, List, length, get_or, Option, Some, None, ⊎_elim, refl, sym, ap, ◌∙◌, arith, ◌↔◌}
+use Rattle.std.proofs.Common.{◌≡◌, ℕ, ◌*◌, ◌<◌, ◌≤◌, Bool, true, false, not, ◌&&◌, ◌||◌, eqb, ltb, List, length, get_or, Option, Some, None, refl, sym, ap, ◌∙◌, arith, ◌↔◌}
 use Rattle.std.{specs.List.{find, All}, proofs.lemmas.List.{get_or_default, Elements.{All-from_recursion, recursion_from_All}}}
-use Rattle.std.proofs.lemmas.Bool.{and_parts, or_cases, ltb-true, ltb-false, lt-ltb, le-ltb, eqb-true, not-true, not-false, not_from_true, not_from_false}
+use Rattle.std.proofs.lemmas.Bool.{Decides.nat_tests, ltb-true, ltb-false, lt-ltb, le-ltb, not-true, not-false, not_from_true, not_from_false}
 use Rattle.schedule.specs.{declared.{hop.Hop.Hop, verdict.Verdict.Verdict}, Links.{GroupValue, TopologyValue, is_usable}, Running.after}
 use Rattle.schedule.specs.{Sends.{ScheduleValue, IsSchedule, IsStep, hop_before, link_of}, Placed.{PlacementValue, IsPlacement, holds}}
 use Rattle.schedule.specs.Fitting.{Fits, load, rounds_at}
 use Rattle.schedule.specs.Judging.{first_unlinked, first_overfull, first_lacking, group_at, turns, is_overfull, judged, verdict_of}
-use Rattle.schedule.specs.Failing.{AllUsable, IsFirstUnlinked, IsFirstOverfull, IsFirstLacking, pair_before, TellsSolves, TellsNoLink, TellsOverfull, TellsLacking}
-use Rattle.schedule.proofs.First.{OneWay, IsFirst, InOrder-from_pairs, Among-from_Contains, Contains-from_Among, among_each, each_weaker, found_first, first_found, found_none, none_found}
+use Rattle.schedule.specs.Failing.{IsFirstOverfull, pair_before, TellsSolves, TellsNoLink, TellsOverfull, TellsLacking}
+use Rattle.schedule.proofs.First.{Among, InOrder, OneWay, IsFirst, InOrder-from_pairs, Among-from_Contains, Contains-from_Among, among_each, each_weaker, found_first, first_found, found_none, none_found}
 use Rattle.schedule.proofs.Ordered.{IsCell, in_grid, grid_cells, grid_order, pairs_one_way, placement_order, among_from_any, any_from_among}
 use Rattle.schedule.specs.declared.verdict.Verdict.TheVariants as verdict
 
 -- of two orders by a number first, both ways round, the number decides neither
 tied : (a b : ℕ) (there back : Bool) → (ltb a b || (eqb a b && there)) ≡ true → (ltb b a || (eqb b a && back)) ≡ true → (there ≡ true) × (back ≡ true)
-tied a b there back first second =
-    ⊎_elim
-    (λ (less : ltb a b ≡ true).
-    ⊎_elim
-    (λ (more : ltb b a ≡ true). absurd (omega (arith, ltb-true a b less, ltb-true b a more)))
-    (λ (same : (eqb b a && back) ≡ true). absurd (omega (arith, ltb-true a b less, eqb-true b a (and_parts _ _ same).0)))
-    (or_cases _ _ second))
-    (λ (same : (eqb a b && there) ≡ true).
-    ⊎_elim
-    (λ (more : ltb b a ≡ true). absurd (omega (arith, eqb-true a b (and_parts _ _ same).0, ltb-true b a more)))
-    (λ (also : (eqb b a && back) ≡ true). ((and_parts _ _ same).1, (and_parts _ _ also).1))
-    (or_cases _ _ second))
-    (or_cases _ _ first)
+tied a b there back first second = grind (arith, nat_tests)
 
 pub sends_one_way : OneWay hop_before
 sends_one_way a b there back =
@@ -34,33 +22,31 @@ sends_one_way a b there back =
     let tos = tied a.from b.from _ _ froms.0 froms.1 in
     omega (arith, ltb-true a.to b.to tos.0, ltb-true b.to a.to tos.1)
 
-abbrev unlinked : TopologyValue → Hop → Bool
-unlinked t h = not (is_usable t (link_of h))
+-- where no element fails a test, each passes it
+all_pass : {X : Type 0} (test : X → Bool) (xs : List X) → find (λ x. not (test x)) xs ≡ None → All (λ x. test x ≡ true) xs
+all_pass test xs none =
+    All-from_recursion (λ x. test x ≡ true) xs (each_weaker (λ x. not (test x) ≡ false) (λ x. test x ≡ true) (λ x fails. not-false _ fails) xs (found_none (λ x. not (test x)) xs none))
 
-unlinked_is : (t : TopologyValue) (s : ScheduleValue) (hop : Hop) → IsSchedule s → first_unlinked t s ≡ Some hop → IsFirstUnlinked t s hop
-unlinked_is t s hop is found =
-    let first : IsFirst hop_before (unlinked t) s.sends hop = found_first hop_before (unlinked t) s.sends hop sends_one_way (InOrder-from_pairs hop_before s.sends is.ascending) found in
-    record {
-      sent = Contains-from_Among hop s.sends first.among;
-      unlinked = not-true _ first.passes;
-      before = All-from_recursion (λ h. hop_before h hop ≡ true → is_usable t (link_of h) ≡ true) s.sends (each_weaker (λ h. hop_before h hop ≡ true → unlinked t h ≡ false) (λ h. hop_before h hop ≡ true → is_usable t (link_of h) ≡ true) (λ h fails earlier. not-false _ (fails earlier)) s.sends first.earlier);
-    }
+none_fails : {X : Type 0} (test : X → Bool) (xs : List X) → All (λ x. test x ≡ true) xs → find (λ x. not (test x)) xs ≡ None
+none_fails test xs all =
+    none_found (λ x. not (test x)) xs (each_weaker (λ x. test x ≡ true) (λ x. not (test x) ≡ false) (λ x passes. not_from_true _ passes) xs (recursion_from_All (λ x. test x ≡ true) xs all))
 
-is_unlinked : (t : TopologyValue) (s : ScheduleValue) (hop : Hop) → IsSchedule s → IsFirstUnlinked t s hop → first_unlinked t s ≡ Some hop
-is_unlinked t s hop is first =
-    first_found hop_before (unlinked t) s.sends hop (InOrder-from_pairs hop_before s.sends is.ascending) (record {
-      among = Among-from_Contains hop s.sends first.sent;
-      passes = not_from_false _ first.unlinked;
-      earlier = each_weaker (λ h. hop_before h hop ≡ true → is_usable t (link_of h) ≡ true) (λ h. hop_before h hop ≡ true → unlinked t h ≡ false) (λ h usable earlier. not_from_true _ (usable earlier)) s.sends (recursion_from_All (λ h. hop_before h hop ≡ true → is_usable t (link_of h) ≡ true) s.sends first.before);
+-- the first that fails it
+fails_first : {X : Type 0} (before : X → X → Bool) (test : X → Bool) (xs : List X) (x : X) → OneWay before → InOrder before xs → find (λ y. not (test y)) xs ≡ Some x → Among x xs × (test x ≡ false) × All (λ y. before y x ≡ true → test y ≡ true) xs
+fails_first before test xs x one_way order found =
+    let first = found_first before (λ y. not (test y)) xs x one_way order found in
+    (first.among, not-true _ first.passes, All-from_recursion (λ y. before y x ≡ true → test y ≡ true) xs (each_weaker (λ y. before y x ≡ true → not (test y) ≡ false) (λ y. before y x ≡ true → test y ≡ true) (λ y fails earlier. not-false _ (fails earlier)) xs first.earlier))
+
+first_fails : {X : Type 0} (before : X → X → Bool) (test : X → Bool) (xs : List X) (x : X) → InOrder before xs → Among x xs → test x ≡ false → All (λ y. before y x ≡ true → test y ≡ true) xs → find (λ y. not (test y)) xs ≡ Some x
+first_fails before test xs x order among fails earlier =
+    first_found before (λ y. not (test y)) xs x order (record {
+      among = among;
+      passes = not_from_false _ fails;
+      earlier = each_weaker (λ y. before y x ≡ true → test y ≡ true) (λ y. before y x ≡ true → not (test y) ≡ false) (λ y passes before. not_from_true _ (passes before)) xs (recursion_from_All (λ y. before y x ≡ true → test y ≡ true) xs earlier);
     })
 
-usable_is : (t : TopologyValue) (s : ScheduleValue) → first_unlinked t s ≡ None → AllUsable t s
-usable_is t s none =
-    All-from_recursion (λ h. is_usable t (link_of h) ≡ true) s.sends (each_weaker (λ h. unlinked t h ≡ false) (λ h. is_usable t (link_of h) ≡ true) (λ h fails. not-false _ fails) s.sends (found_none (unlinked t) s.sends none))
-
-is_usable_none : (t : TopologyValue) (s : ScheduleValue) → AllUsable t s → first_unlinked t s ≡ None
-is_usable_none t s all =
-    none_found (unlinked t) s.sends (each_weaker (λ h. is_usable t (link_of h) ≡ true) (λ h. unlinked t h ≡ false) (λ h usable. not_from_true _ usable) s.sends (recursion_from_All (λ h. is_usable t (link_of h) ≡ true) s.sends all))
+abbrev linked : TopologyValue → Hop → Bool
+linked t h = is_usable t (link_of h)
 
 -- a step and a group of the schedule and the topology
 turn_cell : (t : TopologyValue) (s : ScheduleValue) (step group : ℕ) → IsStep (length s.rounds) step → group < length t.groups → IsCell 1 (length s.rounds) (length t.groups) (step, group)
@@ -105,31 +91,6 @@ is_within : (t : TopologyValue) (s : ScheduleValue) → AllWithinBandwidth t s �
 is_within t s within =
     none_found (is_overfull t s) (turns t s) (each_weaker (IsCell 1 (length s.rounds) (length t.groups)) (λ turn. is_overfull t s turn ≡ false) (λ turn cell. le-ltb _ _ (within turn.0 (omega (arith, cell.from)) (omega (arith, cell.to)) turn.1 _ cell.column)) (turns t s) (grid_cells 1 (length s.rounds) (length t.groups)))
 
-lacking_is : (last post : PlacementValue) (pair : ℕ × ℕ) → IsPlacement post → find (λ p. not (holds last p)) post.pairs ≡ Some pair → IsFirstLacking post last pair
-lacking_is last post pair is found =
-    let first : IsFirst pair_before (λ p. not (holds last p)) post.pairs pair = found_first pair_before (λ p. not (holds last p)) post.pairs pair pairs_one_way (placement_order post is) found in
-    record {
-      demanded = any_from_among pair post.pairs first.among;
-      lacking = not-true _ first.passes;
-      before = All-from_recursion (λ other. pair_before other pair ≡ true → holds last other ≡ true) post.pairs (each_weaker (λ other. pair_before other pair ≡ true → not (holds last other) ≡ false) (λ other. pair_before other pair ≡ true → holds last other ≡ true) (λ other fails earlier. not-false _ (fails earlier)) post.pairs first.earlier);
-    }
-
-is_lacking : (last post : PlacementValue) (pair : ℕ × ℕ) → IsPlacement post → IsFirstLacking post last pair → find (λ p. not (holds last p)) post.pairs ≡ Some pair
-is_lacking last post pair is first =
-    first_found pair_before (λ p. not (holds last p)) post.pairs pair (placement_order post is) (record {
-      among = among_from_any pair post.pairs first.demanded;
-      passes = not_from_false _ first.lacking;
-      earlier = each_weaker (λ other. pair_before other pair ≡ true → holds last other ≡ true) (λ other. pair_before other pair ≡ true → not (holds last other) ≡ false) (λ other held earlier. not_from_true _ (held earlier)) post.pairs (recursion_from_All (λ other. pair_before other pair ≡ true → holds last other ≡ true) post.pairs first.before);
-    })
-
-delivered_is : (last post : PlacementValue) → find (λ p. not (holds last p)) post.pairs ≡ None → All (λ pair. holds last pair ≡ true) post.pairs
-delivered_is last post none =
-    All-from_recursion (λ pair. holds last pair ≡ true) post.pairs (each_weaker (λ pair. not (holds last pair) ≡ false) (λ pair. holds last pair ≡ true) (λ pair fails. not-false _ fails) post.pairs (found_none (λ p. not (holds last p)) post.pairs none))
-
-is_delivered : (last post : PlacementValue) → All (λ pair. holds last pair ≡ true) post.pairs → find (λ p. not (holds last p)) post.pairs ≡ None
-is_delivered last post all =
-    none_found (λ p. not (holds last p)) post.pairs (each_weaker (λ pair. holds last pair ≡ true) (λ pair. not (holds last pair) ≡ false) (λ pair held. not_from_true _ held) post.pairs (recursion_from_All (λ pair. holds last pair ≡ true) post.pairs all))
-
 -- which part of the three comes out
 judged_solves : (t : TopologyValue) (s : ScheduleValue) (h : Option Hop) (turn pair : Option (ℕ × ℕ)) → judged t s h turn pair ≡ verdict.Solves → (h ≡ None) × (turn ≡ None) × (pair ≡ None)
 judged_solves t s (Some h) turn pair is = absurd cc
@@ -145,58 +106,56 @@ judged_no_link t s None None None hop is = absurd cc
 
 judged_overfull : (t : TopologyValue) (s : ScheduleValue) (h : Option Hop) (turn pair : Option (ℕ × ℕ)) (step group count : ℕ) → judged t s h turn pair ≡ verdict.Overfull step group count → (h ≡ None) × (turn ≡ Some (step, group)) × (count ≡ load (group_at t group) step s.sends)
 judged_overfull t s (Some h) turn pair step group count is = absurd cc
-judged_overfull t s None (Some (i, g)) pair step group count is =
-    let step_is : i ≡ step = cc in
-    let group_is : g ≡ group = cc in
-    let count_is : load (group_at t g) i s.sends ≡ count = cc in
-    (refl, ap (λ a. Some (a, g)) step_is ∙ ap (λ b. Some (step, b)) group_is, sym count_is ∙ (ap (λ a. load (group_at t g) a s.sends) step_is ∙ ap (λ b. load (group_at t b) step s.sends) group_is))
+judged_overfull t s None (Some (i, g)) pair step group count is = (refl, cc, cc)
 judged_overfull t s None None (Some pair) step group count is = absurd cc
 judged_overfull t s None None None step group count is = absurd cc
 
 judged_lacking : (t : TopologyValue) (s : ScheduleValue) (h : Option Hop) (turn pair : Option (ℕ × ℕ)) (chunk node : ℕ) → judged t s h turn pair ≡ verdict.Lacking chunk node → (h ≡ None) × (turn ≡ None) × (pair ≡ Some (chunk, node))
 judged_lacking t s (Some h) turn pair chunk node is = absurd cc
 judged_lacking t s None (Some turn) pair chunk node is = absurd cc
-judged_lacking t s None None (Some (c, n)) chunk node is =
-    let chunk_is : c ≡ chunk = cc in
-    let node_is : n ≡ node = cc in
-    (refl, refl, ap (λ a. Some (a, n)) chunk_is ∙ ap (λ b. Some (chunk, b)) node_is)
+judged_lacking t s None None (Some (c, n)) chunk node is = (refl, refl, cc)
 judged_lacking t s None None None chunk node is = absurd cc
 
 fits_is : (t : TopologyValue) (s : ScheduleValue) → first_unlinked t s ≡ None → first_overfull t s ≡ None → Fits t s
-fits_is t s linked within = record { usable = usable_is t s linked; within = within_is t s within }
+fits_is t s none within = record { usable = all_pass (linked t) s.sends none; within = within_is t s within }
 
 pub fits_exactly : (t : TopologyValue) (s : ScheduleValue) → Fits t s ↔ ((first_unlinked t s ≡ None) × (first_overfull t s ≡ None))
-fits_exactly t s = (λ fits. (is_usable_none t s fits.usable, is_within t s fits.within), λ none. fits_is t s none.0 none.1)
+fits_exactly t s = (λ fits. (none_fails (linked t) s.sends fits.usable, is_within t s fits.within), λ none. fits_is t s none.0 none.1)
 
 pub tells_solves : (t : TopologyValue) (pre post : PlacementValue) (s : ScheduleValue) (v : Verdict) → v ≡ verdict_of t pre post s → TellsSolves t pre post s v
 tells_solves t pre post s v is = (
   λ said.
       let none = judged_solves t s (first_unlinked t s) (first_overfull t s) (first_lacking pre post s) (sym is ∙ said) in
-      record { steps_are = refl; rounds_are = refl; fits = fits_is t s none.0 none.1; delivers = delivered_is (after pre s (length s.rounds)) post none.2 },
-  λ solves. is ∙ rw (is_usable_none t s solves.fits.usable, is_within t s solves.fits.within, is_delivered (after pre s (length s.rounds)) post solves.delivers) refl,
+      record { steps_are = refl; rounds_are = refl; fits = fits_is t s none.0 none.1; delivers = all_pass (holds (after pre s (length s.rounds))) post.pairs none.2 },
+  λ solves. is ∙ rw (none_fails (linked t) s.sends solves.fits.usable, is_within t s solves.fits.within, none_fails (holds (after pre s (length s.rounds))) post.pairs solves.delivers) refl,
 )
 
 pub tells_no_link : (t : TopologyValue) (pre post : PlacementValue) (s : ScheduleValue) (v : Verdict) → IsSchedule s → v ≡ verdict_of t pre post s → TellsNoLink t s v
-tells_no_link t pre post s v valid is hop = (
-  λ said. unlinked_is t s hop valid (judged_no_link t s (first_unlinked t s) (first_overfull t s) (first_lacking pre post s) hop (sym is ∙ said)),
-  λ first. is ∙ rw (is_unlinked t s hop valid first) refl,
-)
+tells_no_link t pre post s v valid is hop =
+    let order = InOrder-from_pairs hop_before s.sends valid.ascending in (
+      λ said.
+          let first = fails_first hop_before (linked t) s.sends hop sends_one_way order (judged_no_link t s (first_unlinked t s) (first_overfull t s) (first_lacking pre post s) hop (sym is ∙ said)) in
+          record { sent = Contains-from_Among hop s.sends first.0; unlinked = first.1; before = first.2 },
+      λ first. is ∙ rw (first_fails hop_before (linked t) s.sends hop order (Among-from_Contains hop s.sends first.sent) first.unlinked first.before) refl,
+    )
 
 pub tells_overfull : (t : TopologyValue) (pre post : PlacementValue) (s : ScheduleValue) (v : Verdict) → v ≡ verdict_of t pre post s → TellsOverfull t s v
 tells_overfull t pre post s v is step group count = (
   λ said.
       let found = judged_overfull t s (first_unlinked t s) (first_overfull t s) (first_lacking pre post s) step group count (sym is ∙ said) in
-      (usable_is t s found.0, overfull_is t s step group count found.1 found.2),
-  λ first. is ∙ rw (is_usable_none t s first.0, is_first_overfull t s step group count first.1) (ap (verdict.Overfull step group) (sym first.1.load_is)),
+      (all_pass (linked t) s.sends found.0, overfull_is t s step group count found.1 found.2),
+  λ first. is ∙ rw (none_fails (linked t) s.sends first.0, is_first_overfull t s step group count first.1) (ap (verdict.Overfull step group) (sym first.1.load_is)),
 )
 
 pub tells_lacking : (t : TopologyValue) (pre post : PlacementValue) (s : ScheduleValue) (v : Verdict) → IsPlacement post → v ≡ verdict_of t pre post s → TellsLacking t pre post s v
-tells_lacking t pre post s v valid is chunk node = (
-  λ said.
-      let found = judged_lacking t s (first_unlinked t s) (first_overfull t s) (first_lacking pre post s) chunk node (sym is ∙ said) in
-      (fits_is t s found.0 found.1, lacking_is (after pre s (length s.rounds)) post (chunk, node) valid found.2),
-  λ first. is ∙ rw (is_usable_none t s first.0.usable, is_within t s first.0.within, is_lacking (after pre s (length s.rounds)) post (chunk, node) valid first.1) refl,
-)
+tells_lacking t pre post s v valid is chunk node =
+    let last = after pre s (length s.rounds) in (
+      λ said.
+          let found = judged_lacking t s (first_unlinked t s) (first_overfull t s) (first_lacking pre post s) chunk node (sym is ∙ said) in
+          let first = fails_first pair_before (holds last) post.pairs (chunk, node) pairs_one_way (placement_order post valid) found.2 in
+          (fits_is t s found.0 found.1, record { demanded = any_from_among (chunk, node) post.pairs first.0; lacking = first.1; before = first.2 }),
+      λ first. is ∙ rw (none_fails (linked t) s.sends first.0.usable, is_within t s first.0.within, first_fails pair_before (holds last) post.pairs (chunk, node) (placement_order post valid) (among_from_any (chunk, node) post.pairs first.1.demanded) first.1.lacking first.1.before) refl,
+    )
 
 -- all that is promised of a verdict
 pub record Told (t : TopologyValue) (pre post : PlacementValue) (s : ScheduleValue) (v : Verdict) : Type 0 where
@@ -210,8 +169,8 @@ pub told : (t : TopologyValue) (pre post : PlacementValue) (s : ScheduleValue) (
 told t pre post s v valid placed is =
     record { exact = is; solves = tells_solves t pre post s v is; no_link = tells_no_link t pre post s v valid is; overfull = tells_overfull t pre post s v is; lacking = tells_lacking t pre post s v placed is }
 
-first_is : (t : TopologyValue) (s : ScheduleValue) (sends : List Hop) (first : Option Hop) → sends ≡ s.sends → first ≡ find (unlinked t) sends → first_unlinked t s ≡ first
-first_is t s sends first is found = sym (found ∙ ap (find (unlinked t)) is)
+first_is : (t : TopologyValue) (s : ScheduleValue) (sends : List Hop) (first : Option Hop) → sends ≡ s.sends → first ≡ find (λ h. not (linked t h)) sends → first_unlinked t s ≡ first
+first_is t s sends first is found = sym (found ∙ ap (find (λ h. not (linked t h))) is)
 
 -- where a send has no usable link, that is said
 pub misfit_no_link : (t : TopologyValue) (s : ScheduleValue) (sends : List Hop) (hop : Hop) (lacking : Option (ℕ × ℕ)) → sends ≡ s.sends → Some hop ≡ find (λ h. not (is_usable t (link_of h))) sends → verdict.NoLink hop ≡ judged t s (first_unlinked t s) (first_overfull t s) lacking

@@ -112,3 +112,7 @@ module _ (pre : PlacementValue) (s : ScheduleValue) (run : List PlacementValue) 
   hop_in_range =
       ap (λ n. is_hop_below n (after pre s (hop.step - 1)).nodes hop) (chunks-after pre s (hop.step - 1)) ∙ ap (λ n. is_hop_below pre.chunks n hop) (nodes-after pre s (hop.step - 1))
       ∙ ap (is_hop_below pre.chunks pre.nodes) same_hop ∙ range i d within
+
+  -- whether the send at hand moves its chunk, as a table that is read from the run says
+  pub move_is : (held : PlacementValue) (moved : Bool) → held ≡ get_or run (hop.step - 1) held → moved ≡ moves held hop → moved ≡ move_of pre s hop
+  move_is held moved read is = is ∙ ap (λ p. moves p hop) (read ∙ before_is held)

@@ -23,6 +23,7 @@ pub fn an_added_pair_is_held()
 {}
 
 /// Placements of one size that hold the same pairs are the same.
+#[tactic(auto, using(crate::proofs::Placing::same_placement))]
 pub fn placements_are_sets()
     ensures { (p q : PlacementValue) → IsPlacement p → IsPlacement q → p.chunks ≡ q.chunks → p.nodes ≡ q.nodes
         → ((pair : ℕ × ℕ) → pair.0 < p.chunks → pair.1 < p.nodes → holds p pair ≡ holds q pair) → p ≡ q }
@@ -49,6 +50,7 @@ pub fn a_schedule_fits_where_nothing_fails()
 {}
 
 /// A bag always has a count for each node.
+#[tactic(auto, using(crate::proofs::Bagging::counted_after, crate::proofs::Bagging::counted_run))]
 pub fn a_bag_counts_each_node()
     ensures adding { (nodes : ℕ) (sends : List Hop) (n : ℕ) (pair : ℕ × ℕ) → length (bags_after (contributions nodes) sends n pair) ≡ nodes }
     ensures joined { (nodes : ℕ) (s : ScheduleValue) (adding n : ℕ) (pair : ℕ × ℕ) → length (joined_after (contributions nodes) s adding n pair) ≡ nodes }
@@ -62,6 +64,7 @@ pub fn nothing_is_done_without_links()
 {}
 
 /// The first clash is found exactly where there is one.
+#[tactic(auto, using(crate::proofs::Clashing::no_clash_from_none, crate::proofs::Clashing::none_from_no_clash))]
 pub fn a_clash_is_found()
     ensures { (chunks nodes : ℕ) (s : ScheduleValue) (adding : ℕ) → IsSchedule s → IsInRange chunks nodes s
         → (first_clash chunks nodes s adding ≡ None) ↔ (Clashes s adding → ⊥) }
@@ -77,6 +80,7 @@ pub fn an_inverse_is_a_schedule()
 {}
 
 /// The inverse of the inverse of a valid schedule is the schedule.
+#[tactic(auto, using(crate::proofs::Inverting::inverse_inverse))]
 pub fn inverting_twice_changes_nothing()
     ensures { (s : ScheduleValue) → IsSchedule s → inverse_of (inverse_of s) ≡ s }
 {}
