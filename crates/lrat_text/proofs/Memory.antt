@@ -1,11 +1,11 @@
 -- No text is at fault for out of memory.
-use Rattle.std.proofs.Common.{◌≡◌, ◌≢◌, ℕ, ◌+◌, Bool, true, false, cond, List, [], ◌∷◌, length, Option, None, Some, Result, Ok, Err, ap, ◌==◌, ◌||◌, not, nat_lt, codes, slice_index}
-use Rattle.std.specs.Str.Parse.{digits_value}
+use Rattle.std.proofs.Common.{arith, ◌≡◌, ◌≢◌, ℕ, ◌+◌, Bool, true, false, cond, List, [], ◌∷◌, length, Option, None, Some, Result, Ok, Err, ap, ◌==◌, not, nat_lt, codes, slice_index}
+use Rattle.std.{proofs.lemmas.Bool.Decides.nat_tests, specs.Str.Parse.digits_value}
 use Rattle.text_lines.specs.{Text.Row, Check.{◌>>=◌, refuse}}
 use Rattle.cnf_formula.specs.declared.line.LratLine.{LratLine}
 use Rattle.lrat_text.specs.declared.fault.LratTextFault.{LratTextFault, TheVariants.{BadToken, NumberRange, Truncated, OutOfMemory}}
 use Rattle.lrat_text.specs.Tokens.{Token, tokens_from, content, is_word, is_number, number_from, after_minus, id_of, literal_of, hint_of}
-use Rattle.lrat_text.specs.Reading.{up_to_zero, no_more, addition_of, deletion_of, behind_id, line_of, row_says, size_of, Said, nothing_said, said_at, said_by}
+use Rattle.lrat_text.specs.Reading.{up_to_zero, no_more, addition_of, deletion_of, behind_id, line_of, row_says, size_of, Said, said_at, said_by}
 
 abbrev IsToldOf : {A : Type 0} → Result A LratTextFault → Type 0
 IsToldOf r = r ≢ Err OutOfMemory
@@ -92,11 +92,4 @@ at_told (Some (Err fault)) size later here behind = λ h. let same : fault ≡ O
 
 pub said_told : (finished : Bool) (place : ℕ) (rows : List Row) → (said_by finished place rows).answer ≢ Err OutOfMemory
 said_told finished place [] = λ h. absurd (cc)
-said_told finished place (row ∷ rows) = go (said_told finished (place + size_of row) rows) (row.whole || finished)
-  where
-    first : Said
-    first = said_at (row_says place row) (size_of row) (said_by finished (place + size_of row) rows)
-
-    go : (said_by finished (place + size_of row) rows).answer ≢ Err OutOfMemory → (b : Bool) → (cond b first nothing_said).answer ≢ Err OutOfMemory
-    go behind true = at_told (row_says place row) (size_of row) (said_by finished (place + size_of row) rows) (row_told place row) behind
-    go behind false = λ h. absurd (cc)
+said_told finished place (row ∷ rows) = grind (arith, nat_tests, said_told finished (place + size_of row) rows, at_told, row_told place row)
