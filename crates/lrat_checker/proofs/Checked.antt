@@ -1,4 +1,5 @@
 -- A checker stays one, line by line.
+use Rattle.std.proofs.lemmas.Grind.{common_steps}
 use Rattle.std.proofs.Common.{◌≡◌, ℕ, ◌<◌, ◌≤◌, max, Bool, true, false, List, [], ◌∷◌, ◌++◌, length, take, Result, Ok, Err, refl, sym, ap, ◌∙◌, subst, arith, ◌&&◌, ◌||◌, ◌==◌, not, filter, IfOk, if◌then◌else◌}
 use Rattle.std.{specs.List.list_any, proofs.lemmas.{Bool.{false≢true, lt-leb, ne_eqb}, List.{take-append-le, length-take-le, length_push}}}
 use Rattle.cnf_formula.specs.{Lines.{ProofLineValue, DeletionValue}, Literals.LitValue, declared.line.LratLine.TheVariants.{Addition, Deletion}}
@@ -28,18 +29,7 @@ with_line_is table o g r line w = cc (take-append-le o table.clauses (line.lits 
 pub can_add : (table : TableValue) (marks : MarksValue) (o g : ℕ) (r : Bool) (line : ProofLineValue) → CanCheck table marks o g r → is_accepted (verdict_of (checker_of table o g r) line) ≡ true
     → CanCheck (table_with table line) marks o line.id (r || has_none line.lits)
 can_add table marks o g r line c a =
-    let n = accepted_new (checker_of table o g r) line a in
-    let long : length (take o table.clauses) ≡ o = length-take-le o table.clauses c.many in
-    let high : o < line.id = let h = n.above_formula in omega (arith, h, long) in
-    let m = c.many in
-    let p = length_push table.clauses line.lits in
-    record {
-      unmarked = c.unmarked;
-      same = c.same;
-      many = omega (arith, m, p);
-      last = omega (arith, high);
-      checker = subst IsChecker (sym (with_line_is table o g r line c.many)) (stays_checker (checker_of table o g r) (Addition line) c.checker a);
-    }
+    grind (arith, common_steps, stays_checker (checker_of table o g r) (Addition line) c.checker a)
 
 -- ---- some clauses fewer
 
@@ -52,8 +42,7 @@ deletion_accepted c deletion h = grind arith
 pub can_delete : (table : TableValue) (marks : MarksValue) (o g : ℕ) (r : Bool) (deletion : DeletionValue) → CanCheck table marks o g r → (are_held table.held deletion.ids && not (has_number_twice deletion.ids)) ≡ true
     → CanCheck (table_without table deletion.ids) marks o g r
 can_delete table marks o g r deletion c h =
-    let checker = stays_checker (checker_of table o g r) (Deletion deletion) c.checker (ap is_accepted (deletion_accepted (checker_of table o g r) deletion h)) in
-    assumption (c, checker)
+    grind (arith, stays_checker (checker_of table o g r) (Deletion deletion) c.checker (ap is_accepted (deletion_accepted (checker_of table o g r) deletion h)))
 
 -- ---- the verdict
 
@@ -65,10 +54,7 @@ judged vars held line =
 
 pub judged_ok : {E : Type 0} (table : TableValue) (o g : ℕ) (r : Bool) (line : ProofLineValue) (result : Result LineVerdict E) → o ≤ length table.clauses → max g o < line.id
     → IfOk result (λ v. v ≡ judged table.vars table.held line) → IfOk result (λ v. v ≡ verdict_of (checker_of table o g r) line)
-judged_ok table o g r line (Ok v) w high h =
-    let long : length (take o table.clauses) ≡ o = length-take-le o table.clauses w in
-    let low : max (length (take o table.clauses)) g < line.id = omega (arith, long, high) in
-    h ∙ sym (ap (λ b. if b then Refused IdNotGreater 0 else judged table.vars table.held line) (lt-leb line.id (max (length (take o table.clauses)) g) low))
+judged_ok table o g r line (Ok v) w high h = grind (arith, common_steps)
 judged_ok table o g r line (Err e) w high h = tt
 
 pub empty_is : (xs : List LitValue) → (length xs == 0) ≡ has_none xs

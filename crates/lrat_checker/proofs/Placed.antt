@@ -55,9 +55,7 @@ held_push ids live clauses id clause held l m = absurd (omega (arith, l, m))
 
 pub enumerate-push : (n : ℕ) (clauses : List (List LitValue)) (clause : List LitValue) → enumerate_from n (clauses ++ clause ∷ []) ≡ enumerate_from n clauses ++ (n + length clauses, clause) ∷ []
 enumerate-push n [] clause = let e : n ≡ n + 0 = omega arith in ap (λ k. (k, clause) ∷ []) e
-enumerate-push n (c ∷ clauses) clause =
-    let e : n + 1 + length clauses ≡ n + length (c ∷ clauses) = omega arith in
-    ap (λ es. (n, c) ∷ es) (enumerate-push (n + 1) clauses clause ∙ ap (λ k. enumerate_from (n + 1) clauses ++ (k, clause) ∷ []) e)
+enumerate-push n (c ∷ clauses) clause = grind (arith, enumerate-push (n + 1) clauses clause)
 
 -- ---- a test of all that is held
 

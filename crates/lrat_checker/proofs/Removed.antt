@@ -110,16 +110,7 @@ pub record Goes (ids : List ℕ) (live now : List Bool) (gone : List ℕ) (place
 pub one_goes : (ids : List ℕ) (live now : List Bool) (gone : List ℕ) (place k : ℕ) → Rises ids → length live ≡ length ids → k < length gone → place < length ids → get_or ids place 0 ≡ get_or gone k 0
     → now ≡ kept_live ids live (take k gone) → get_or now place false ≡ true → list_all (λ id. is_live ids live id) (take k gone) ≡ true → has_number_twice (take k gone) ≡ false → Goes ids live now gone place k
 one_goes ids live now gone place k r l w p at is t held once =
-    let g = get_or gone k 0 in
-    let kept = kept_live ids live (take k gone) in
-    let more = take_more gone k 0 w in
-    let here : is_live ids kept g ≡ true = ap (is_live ids kept) (sym at) ∙ live_at ids kept place r (kept_long ids live (take k gone) l) p ∙ ap (λ bs. get_or bs place false) (sym is) ∙ t in
-    let parts = and_parts (is_live ids live g) (not (among (take k gone) g)) (sym (live_kept ids live (take k gone) g) ∙ here) in
-    record {
-      lives = ap (λ bs. set bs place false) is ∙ goes ids live (take k gone) place r l p ∙ ap (λ y. kept_live ids live (take k gone ++ y ∷ [])) at ∙ ap (kept_live ids live) (sym more);
-      held = ap (list_all (λ id. is_live ids live id)) more ∙ all_push (λ id. is_live ids live id) (take k gone) g held parts.0;
-      once = ap has_number_twice more ∙ twice_push (take k gone) g once (not-true (among (take k gone) g) parts.1);
-    }
+    grind (arith, take_more gone k 0 w, live_at ids, kept_long ids live (take k gone) l, live_kept ids live (take k gone), goes ids live (take k gone) place r l p, all_push, twice_push (take k gone))
 
 refused : (a b : Bool) → (a ≡ false) ⊎ (b ≡ true) → (a && not b) ≡ false
 refused a b h = grind arith
@@ -127,15 +118,7 @@ refused a b h = grind arith
 pub one_stays : (ids : List ℕ) (live now : List Bool) (gone : List ℕ) (k : ℕ) → k < length gone → now ≡ kept_live ids live (take k gone) → is_live ids now (get_or gone k 0) ≡ false
     → (list_all (λ id. is_live ids live id) gone && not (has_number_twice gone)) ≡ false
 one_stays ids live now gone k w is f =
-    let g = get_or gone k 0 in
-    let before = take k gone in
-    let more = drop (k + 1) gone in
-    let split : gone ≡ before ++ g ∷ more = sym (take-append-drop k gone) ∙ ap (λ ys. before ++ ys) (drop_more gone k 0 w) in
-    let no : (is_live ids live g && not (among before g)) ≡ false = sym (live_kept ids live before g) ∙ ap (λ bs. is_live ids bs g) (sym is) ∙ f in
-    refused (list_all (λ id. is_live ids live id) gone) (has_number_twice gone)
-    (⊎_elim (λ e. inl (ap (list_all (λ id. is_live ids live id)) split ∙ not_all_live (λ id. is_live ids live id) before g more e))
-    (λ e. inr (ap has_number_twice split ∙ twice_again before g more (not-false (among before g) e)))
-    (and_cases (is_live ids live g) (not (among before g)) no))
+    grind (arith, take-append-drop k gone, drop_more gone k 0 w, live_kept ids live, not_all_live, twice_again)
 
 -- ---- clauses are held again
 

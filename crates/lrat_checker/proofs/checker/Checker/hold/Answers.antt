@@ -11,8 +11,7 @@ invariant_of-self-2 c =
     let line : ProofLineValue = record { id = c.line.inside.id; lits = c.line.inside.lits.items; hints = c.line.inside.hints.items } in
     let same : line ≡ c.args.line.now = c.line.view_is in
     let old = checker_of i.table i.originals i.greatest i.refuted in
-    let accepted : is_accepted (verdict_of old line) ≡ true =
-    subst (λ l. is_accepted (verdict_of old l) ≡ true) (sym same) (subst (λ d. is_accepted (verdict_of d c.args.line.now) ≡ true) (sym c.self.view_is) c.requires) in
+    let accepted : is_accepted (verdict_of old line) ≡ true = grind arith in
     let can = can_add i.table i.marks i.originals i.greatest i.refuted line c.self.invariant accepted in
     let with_lits = λ (ls : List LitValue). table_with i.table (record { id = c.line.inside.id; lits = ls; hints = c.line.inside.hints.items }) in
     let new : c.push.new.self ≡ table_with i.table line = c.in_ok-push.ensures.added ∙ ap with_lits c.deref.ensures.value in

@@ -9,10 +9,7 @@ use Rattle.lrat_checker.proofs.table.ClauseTable.all_answered.Goals as goal
 use Rattle.lrat_checker.proofs.table.ClauseTable.all_answered.Goals.{After-drop_gone, After-deref-3}
 
 known : (c : After-drop_gone) → c.code-code.result < length (map (λ v. v.items) c.self.inside.lists.items)
-known c =
-    let i = c.self.inside in
-    let about : IsAbout i.vars c.args.pivot = subst (λ n. IsAbout n c.args.pivot) (sym (ap (λ t. t.vars) c.self.view_is)) c.requires.pivot in
-    omega (arith, c.code-code.ensures.code, ap code_of c.negated.ensures, code_within i.vars (negation c.args.pivot) (negation_about i.vars c.args.pivot about), c.self.invariant.indexed.long)
+known c = grind arith
 
 new : (c : After-drop_gone) → map (λ v. v.items) c.drop_gone.new.lists.items ≡ cleaned c.self.inside.live.items (map (λ v. v.items) c.self.inside.lists.items) c.code-code.result
 new c = c.drop_gone.ensures ∙ ap (λ bs. cleaned bs (map (λ v. v.items) c.self.inside.lists.items) c.code-code.result) c.deref.ensures.value

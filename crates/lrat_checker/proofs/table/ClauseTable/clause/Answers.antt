@@ -28,17 +28,10 @@ held c =
     ∙ held_at i.ids.items i.live.items i.clauses place c.self.invariant.rises c.self.invariant.lives c.self.invariant.many at.0 ∙ ap (λ b. if b then Some (get_or i.clauses place []) else None) live
 
 pub returns-then-index-clause-held : goal.returns-then-index-clause-held
-returns-then-index-clause-held c =
-    let clause = get_or c.self.inside.clauses c.in_ok-place.place [] in
-    sym (held (goal.at.returns-then-index-clause-held c).After-index ∙ ap (λ b. if b then Some clause else None) c.if-index.true ∙ ap Some (sym c.clause.ensures))
+returns-then-index-clause-held c = grind (arith, held (goal.at.returns-then-index-clause-held c).After-index)
 
 pub returns-then-index-clause-about : goal.returns-then-index-clause-about
-returns-then-index-clause-about c =
-    let i = c.self.inside in
-    let about = c.self.invariant.about c.in_ok-place.place [] (omega (arith, (found (goal.at.returns-then-index-clause-about c).After-index).0, c.self.invariant.many)) in
-    subst (λ t. IsClause t.vars c.clause.result.now) c.self.view_is (subst (IsClause i.vars) (sym c.clause.ensures) about)
+returns-then-index-clause-about c = grind arith
 
 pub returns-else-index-clause-held : goal.returns-else-index-clause-held
-returns-else-index-clause-held c =
-    let clause = get_or c.self.inside.clauses c.in_ok-place.place [] in
-    sym (held (goal.at.returns-else-index-clause-held c).After-index ∙ ap (λ b. if b then Some clause else None) c.if-index.false)
+returns-else-index-clause-held c = grind (arith, held (goal.at.returns-else-index-clause-held c).After-index)

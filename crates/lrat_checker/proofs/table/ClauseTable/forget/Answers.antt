@@ -15,12 +15,7 @@ push-requires-clause-above c =
     omega (arith, at, below)
 
 pub push-requires-clause-about : goal.push-requires-clause-about
-push-requires-clause-about c =
-    let i = c.self.inside in
-    let k = c.loop-place.place in
-    let w : k < length i.ids.items = omega (arith, c.loop-place-test.true, c.loop-place.auto.place-end, c.len-place-end.ensures) in
-    let about = c.self.invariant.about k [] (omega (arith, w, c.self.invariant.many)) in
-    subst (λ n. IsClause n c.clause.result.now) (sym c.loop-place.invariant.vars) (subst (IsClause i.vars) (sym c.clause.ensures) about)
+push-requires-clause-about c = grind arith
 
 pub loop-place-preserved : goal.loop-place-preserved
 loop-place-preserved c =
