@@ -1,30 +1,16 @@
 -- A checker stays one, line by line.
-use Rattle.std.proofs.lemmas.Grind.{common_steps}
-use Rattle.std.proofs.Common.{◌≡◌, ℕ, ◌<◌, ◌≤◌, max, Bool, true, false, List, [], ◌∷◌, ◌++◌, length, take, Result, Ok, Err, refl, sym, ap, ◌∙◌, subst, arith, ◌&&◌, ◌||◌, ◌==◌, not, filter, IfOk, if◌then◌else◌}
-use Rattle.std.{specs.List.list_any, proofs.lemmas.{Bool.{false≢true, lt-leb, ne_eqb}, List.{take-append-le, length-take-le, length_push}}}
+use Rattle.std.{proofs.lemmas.{Grind.common_steps, Bool.ne_eqb}, specs.List.list_any}
+use Rattle.std.proofs.Common.{◌≡◌, ℕ, ◌<◌, ◌≤◌, max, Bool, true, false, List, [], ◌∷◌, ◌++◌, length, Result, Ok, Err, refl, ap, arith, ◌&&◌, ◌||◌, ◌==◌, not, filter, IfOk, if◌then◌else◌}
 use Rattle.cnf_formula.specs.{Lines.{ProofLineValue, DeletionValue}, Literals.LitValue, declared.line.LratLine.TheVariants.{Addition, Deletion}}
 use Rattle.proof_rules.specs.{declared.verdict.LineVerdict.{LineVerdict, TheVariants.{Accepted, Refused}}, Held.{Entry, CheckerValue, has_none}}
-use Rattle.proof_rules.specs.{declared.verdict.LineCode.TheVariants.{IdNotGreater, VariableRange, VariableTwice}, Testing.{are_held, has_number_twice}}
-use Rattle.proof_rules.specs.{Judging.{verdict_of, deletion_verdict, is_foreign, has_variable_twice, led_verdict, is_accepted}, Accepting.IsNew}
-use Rattle.proof_rules.specs.Refuting.{with_line, IsChecker}
-use Rattle.proof_rules.proofs.{Kept.stays_checker, Verdicts.{implied_by, redundant_by}}
+use Rattle.proof_rules.specs.{declared.verdict.LineCode.TheVariants.{VariableRange, VariableTwice}, Testing.{are_held, has_number_twice}}
+use Rattle.proof_rules.{specs.Judging.{verdict_of, deletion_verdict, is_foreign, has_variable_twice, led_verdict, is_accepted}, proofs.Kept.stays_checker}
 use Rattle.lrat_checker.specs.{inner.Marking.MarksValue, Stored.TableValue, Checking.{checker_of, CanCheck}}
-
-accepted_new : (c : CheckerValue) (line : ProofLineValue) → is_accepted (verdict_of c line) ≡ true → IsNew c line
-accepted_new c line a = go (verdict_of c line) refl a
-  where
-    go : (v : LineVerdict) → verdict_of c line ≡ v → is_accepted v ≡ true → IsNew c line
-    go (Accepted true) e a = (implied_by c line e).new
-    go (Accepted false) e a = (redundant_by c line e).new
-    go (Refused code hint) e a = absurd (false≢true a)
 
 -- ---- one line more
 
 abbrev pub table_with : TableValue → ProofLineValue → TableValue
 table_with table line = record { vars = table.vars; clauses = table.clauses ++ line.lits ∷ []; held = table.held ++ (line.id, line.lits) ∷ []; last = line.id }
-
-pub with_line_is : (table : TableValue) (o g : ℕ) (r : Bool) (line : ProofLineValue) → o ≤ length table.clauses → checker_of (table_with table line) o line.id (r || has_none line.lits) ≡ with_line (checker_of table o g r) line
-with_line_is table o g r line w = cc (take-append-le o table.clauses (line.lits ∷ []) w)
 
 pub can_add : (table : TableValue) (marks : MarksValue) (o g : ℕ) (r : Bool) (line : ProofLineValue) → CanCheck table marks o g r → is_accepted (verdict_of (checker_of table o g r) line) ≡ true
     → CanCheck (table_with table line) marks o line.id (r || has_none line.lits)

@@ -1,8 +1,8 @@
 -- A table of what is held and of the first clauses, place by place.
-use Rattle.std.proofs.Common.{◌≡◌, ℕ, ◌+◌, ◌-◌, ◌<◌, ◌≤◌, Bool, false, List, [], ◌∷◌, ◌++◌, length, take, get_or, sym, ap, ◌∙◌, ⊎_elim, arith, if◌then◌else◌}
-use Rattle.std.proofs.lemmas.{Bool.cases_lt, List.{take_more, take_all, take-append-le, length-take-le, length_push, append-nil}}
+use Rattle.std.proofs.Common.{◌≡◌, ℕ, ◌+◌, ◌-◌, ◌<◌, ◌≤◌, Bool, false, List, [], ◌∷◌, ◌++◌, length, take, get_or, sym, ap, ◌∙◌, arith, if◌then◌else◌}
+use Rattle.std.proofs.lemmas.List.{take_more, take_all, take-append-le, length-take-le, length_push, append-nil}
 use Rattle.cnf_formula.specs.Literals.{LitValue}
-use Rattle.lrat_checker.{specs.Stored.{TableValue, HasForgotten, held_of, last_of, Rises}, proofs.Placed.{held_push, rises_weakly}}
+use Rattle.lrat_checker.{specs.Stored.{TableValue, HasForgotten, held_of, last_of, Rises}, proofs.Placed.held_push}
 
 -- a table has what is held before a place, and the first so many clauses
 pub record IsPart (count first k : ℕ) (ids : List ℕ) (live : List Bool) (clauses : List (List LitValue)) (table : TableValue) : Type 0 where

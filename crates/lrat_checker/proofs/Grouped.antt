@@ -1,7 +1,6 @@
 -- Groups one after another.
-use Rattle.std.proofs.lemmas.Grind.{common_steps}
+use Rattle.std.{proofs.lemmas.{Grind.common_steps, Bool.false≢true}, specs.{List.list_any, BTreeSet.{BTreeSet, contains}, Ordering.nat_cmp}}
 use Rattle.std.proofs.Common.{◌≡◌, ℕ, ◌+◌, ◌<◌, Bool, true, false, List, [], ◌∷◌, length, drop, get_or, Option, Some, None, refl, sym, ap, ◌∙◌, arith, ◌==◌, ◌||◌, ℤ, pos, negsuc, is_some, w64, SFits, of_z, to_z}
-use Rattle.std.{specs.{List.list_any, BTreeSet.{BTreeSet, contains}, Ordering.nat_cmp}, proofs.lemmas.{Bool.false≢true, Int.to_z-of_z, List.drop_more}}
 use lib.IntN.{nat_abs}
 use Rattle.cnf_formula.specs.Literals.{LitValue}
 use Rattle.proof_rules.specs.{Held.{Entry, clause_at}, Judging.{Fault, group_fault, groups_fault}, Accepting.{Group, leading, hint_groups_from, groups_of}}
@@ -41,10 +40,6 @@ module _ (held : List Entry) (pivot : LitValue) (start : List LitValue) (hints :
 pub none_from : {A : Type 0} (o : Option A) → is_some o ≡ false → o ≡ None
 none_from None e = refl
 none_from (Some x) e = absurd (false≢true (sym e))
-
-negative_is : (z : ℤ) (rest rest' : List ℤ) (n : ℕ) → z ∷ rest ≡ negsuc n ∷ rest' → nat_abs z ≡ n + 1
-negative_is (pos k) rest rest' n e = absurd (cc)
-negative_is (negsuc k) rest rest' n e = let same : k ≡ n = cc in omega (arith, same)
 
 pub group_number : (hints : List ℤ) (at n id : ℕ) → at < length hints → SFits w64 (get_or hints at (pos 0)) → drop at hints ≡ negsuc n ∷ drop (at + 1) hints → id ≡ nat_abs (to_z w64 (of_z w64 (get_or hints at (pos 0)))) → id ≡ n + 1
 group_number hints at n id w f e h = grind (arith, common_steps)

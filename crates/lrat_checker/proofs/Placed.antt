@@ -1,5 +1,5 @@
 -- Clauses by their places, and what is held.
-use Rattle.std.proofs.Common.{◌≡◌, ℕ, zero, suc, ◌+◌, ◌-◌, ◌<◌, ◌≤◌, Bool, true, false, List, [], ◌∷◌, ◌++◌, length, get_or, Some, None, refl, sym, ap, ◌∙◌, ⊎_elim, arith, ◌≢◌, ◌&&◌, if◌then◌else◌, All}
+use Rattle.std.proofs.Common.{◌≡◌, ℕ, zero, suc, ◌+◌, ◌-◌, ◌<◌, ◌≤◌, Bool, true, false, List, [], ◌∷◌, ◌++◌, length, get_or, Some, None, refl, sym, ap, ⊎_elim, arith, ◌≢◌, ◌&&◌, if◌then◌else◌, All}
 use Rattle.std.{specs.List.{list_all, enumerate_from}, proofs.lemmas.Bool.{false≢true, cases_Bool, cases_lt, Decides.nat_tests}}
 use Rattle.std.proofs.lemmas.List.{get_or_default, get_or_past, length_push, get_or_append_left, get_or_push, Elements.{All-head, All-tail}}
 use Rattle.cnf_formula.specs.Literals.{LitValue}

@@ -1,14 +1,11 @@
 -- Signatures of clauses: one that stands in another has no bit that the other lacks.
-use Rattle.std.proofs.Common.{◌≡◌, ℕ, ◌+◌, ◌<◌, ◌≤◌, true, List, [], ◌∷◌, ◌++◌, length, take, get_or, sym, ap, ◌∙◌, subst, ⊎_elim, arith, max, bit_or}
-use Rattle.std.{specs.Int.{bit_at, Bits.{or_zero_r, or_zero_l}}, proofs.Math.Nat.{le_trans, le-max_left, le-max_right, max-le, max-eq_right}}
-use Rattle.std.proofs.lemmas.{Bool.{false≢true, eq-eqb, and_parts, or_cases}, List.take_more, Nat.Bits.{bit_at_or, bit_at-zero, same_from_bits}}
-use Rattle.cnf_formula.{specs.Literals.{LitValue, same_literal, has_literal, is_superset}, proofs.Clauses.same_is}
+use Rattle.std.proofs.Common.{◌≡◌, ℕ, ◌+◌, ◌<◌, ◌≤◌, true, List, [], ◌∷◌, ◌++◌, length, take, get_or, sym, ap, ◌∙◌, subst, arith, bit_or}
+use Rattle.std.{specs.Int.{bit_at, Bits.{or_zero_r, or_zero_l}}, proofs.Math.Nat.max-eq_right}
+use Rattle.std.proofs.lemmas.{Bool.{false≢true, eq-eqb}, List.take_more, Nat.Bits.{bit_at_or, bit_at-zero, same_from_bits}}
+use Rattle.cnf_formula.specs.Literals.{LitValue, has_literal, is_superset}
 use Rattle.lrat_checker.specs.inner.Leads.{bit_of, signature_of, has_bits_within}
 
 -- ---- one literal more
-
-max_assoc : (a b c : ℕ) → max (max a b) c ≡ max a (max b c)
-max_assoc a b c = omega arith
 
 or_assoc : (a b c : ℕ) → bit_or (bit_or a b) c ≡ bit_or a (bit_or b c)
 or_assoc a b c =

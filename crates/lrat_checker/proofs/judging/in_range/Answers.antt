@@ -1,7 +1,5 @@
-use Rattle.std.{proofs.{Common.{◌+◌, ◌||◌, ◌++◌, ◌∷◌, [], drop, take, sym, ap, ◌∙◌, subst, arith, All}, lemmas.List.Elements.All-push}, specs.List.list_any}
-use Rattle.std.proofs.lemmas.List.{drop_more, take_more}
+use Rattle.std.proofs.{Common.{◌+◌, ◌++◌, ◌∷◌, [], drop, take, sym, ap, ◌∙◌, arith}, lemmas.List.{Elements.All-push, drop_more, take_more}}
 use Rattle.cnf_formula.specs.Formulas.{IsAbout}
-use Rattle.proof_rules.{specs.Judging.is_foreign, proofs.Verdicts.variable_own}
 use Rattle.lrat_checker.proofs.judging.in_range.Goals as goal
 
 pub loop-lit-preserved : goal.loop-lit-preserved

@@ -1,8 +1,7 @@
-use Rattle.std.proofs.Common.{arith}
-use Rattle.std.{proofs.Common.{◌||◌, ◌==◌, ℕ, List, Option, Ok, get_or, sym, ap, ◌∙◌, rules, pos, w64, SFits}, specs.{BTreeSet.contains, Ordering.nat_cmp}}
+use Rattle.std.proofs.Common.{arith, ℕ, List, Option, get_or, sym, ap, ◌∙◌, rules, pos, w64, SFits}
 use Rattle.cnf_formula.specs.Literals.{LitValue}
 use Rattle.proof_rules.specs.{Held.clause_at, Judging.{Fault, group_fault}}
-use Rattle.lrat_checker.proofs.Grouped.{group_at, faulty_any, passes, none_from, group_number}
+use Rattle.lrat_checker.proofs.Grouped.{group_at, none_from, group_number}
 use Rattle.lrat_checker.proofs.redundancy.groups_fault.Goals as goal
 
 pub returns-then-is_some-clause-fault : goal.returns-then-is_some-clause-fault

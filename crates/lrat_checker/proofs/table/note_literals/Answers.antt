@@ -1,10 +1,7 @@
-use Rattle.std.proofs.{Common.{◌≡◌, ◌<◌, length, map, get_or, sym, ◌∙◌, subst, arith, Contains}, lemmas.List.get_or_read}
+use Rattle.std.proofs.{Common.{◌≡◌, map, get_or, sym, ◌∙◌, subst, Contains}, lemmas.List.get_or_read}
 use Rattle.cnf_formula.specs.Literals.{LitValue, code_of}
 use Rattle.lrat_checker.{specs.Stored.list_at, proofs.Noted.one_more}
 use Rattle.lrat_checker.proofs.table.note_literals.Goals as goal
-
-pub note-requires : goal.note-requires
-note-requires c = grind arith
 
 pub loop-lit-preserved : goal.loop-lit-preserved
 loop-lit-preserved c =

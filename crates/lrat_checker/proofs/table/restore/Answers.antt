@@ -1,8 +1,6 @@
-use Rattle.std.proofs.Common.{arith}
-use Rattle.std.proofs.{Common.{◌+◌, drop, get_or, length, sym, ap, ◌∙◌, subst}, lemmas.List.{drop_more, drop_all, length-set}}
-use Rattle.lrat_checker.proofs.Removed.{Back, back_first, back_one, back_none, back_all}
+use Rattle.std.proofs.{Common.{arith, length, ap, ◌∙◌}, lemmas.List.{drop_more, drop_all, length-set}}
+use Rattle.lrat_checker.proofs.{Removed.{back_first, back_one, back_all}, table.restore.Goals.{in-Some, in_default}}
 use Rattle.lrat_checker.proofs.table.restore.Goals as goal
-use Rattle.lrat_checker.proofs.table.restore.Goals.{in-Some, in_default}
 
 pub loop-id-init : goal.loop-id-init
 loop-id-init c = record { long = c.requires.lives; back = λ before n e a. back_first c.args.ids.now c.args.live.now before c.args.gone.now n e }

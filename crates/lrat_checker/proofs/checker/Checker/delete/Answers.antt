@@ -1,5 +1,4 @@
-use Rattle.std.proofs.Common.{arith}
-use Rattle.std.proofs.Common.{◌≡◌, true, sym, ap, ◌∙◌, subst, ◌&&◌, not}
+use Rattle.std.proofs.Common.{arith, ◌≡◌, true, sym, ap, ◌∙◌, subst, ◌&&◌, not}
 use Rattle.proof_rules.specs.Testing.{are_held, has_number_twice}
 use Rattle.lrat_checker.{specs.Checking.CanCheck, proofs.Checked.{can_delete, table_without}}
 use Rattle.lrat_checker.proofs.checker.Checker.delete.Goals as goal

@@ -2,8 +2,8 @@ use Rattle.std.proofs.Common.{◌≡◌, ◌||◌, ◌==◌, true, List, length,
 use Rattle.cnf_formula.specs.{Lines.ProofLineValue, Literals.LitValue}
 use Rattle.proof_rules.specs.{Judging.{verdict_of, is_accepted}, Held.has_none}
 use Rattle.lrat_checker.{specs.Checking.{checker_of, CanCheck}, proofs.Checked.{can_add, table_with, empty_is}}
-use Rattle.lrat_checker.proofs.checker.Checker.hold.Goals as goal
 use Rattle.lrat_checker.proofs.checker.Checker.hold.Goals.{then-self, else-self}
+use Rattle.lrat_checker.proofs.checker.Checker.hold.Goals as goal
 
 pub invariant_of-self-2 : goal.invariant_of-self-2
 invariant_of-self-2 c =

@@ -1,7 +1,6 @@
-use Rattle.std.proofs.lemmas.Grind.{common_steps}
-use Rattle.std.proofs.Common.{sym, ap, subst, arith}
+use Rattle.std.proofs.{lemmas.Grind.common_steps, Common.{sym, ap, subst, arith}}
 use Rattle.cnf_formula.specs.Formulas.{IsAbout}
-use Rattle.lrat_checker.proofs.Marked.{times_few, counted_more, read_times, at_code}
+use Rattle.lrat_checker.proofs.Marked.{times_few, counted_more, at_code}
 use Rattle.lrat_checker.proofs.marks.Marks.mark.Goals as goal
 
 pub overflow_add-index_mut : goal.overflow_add-index_mut

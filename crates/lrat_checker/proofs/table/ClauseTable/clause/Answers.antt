@@ -1,10 +1,8 @@
 use Rattle.std.{proofs.Common.{◌≡◌, ◌<◌, [], length, get_or, Some, None, false, sym, ap, ◌∙◌, subst, arith, if◌then◌else◌}, specs.Option.option_copied}
 use Rattle.std.proofs.lemmas.List.{get_or_read}
-use Rattle.cnf_formula.specs.Formulas.{IsClause}
 use Rattle.proof_rules.specs.Held.{clause_at}
-use Rattle.lrat_checker.{specs.Stored.held_of, proofs.Placed.{Others, not_held, held_at}}
+use Rattle.lrat_checker.{specs.Stored.held_of, proofs.{Placed.{Others, not_held, held_at}, table.ClauseTable.clause.Goals.After-index}}
 use Rattle.lrat_checker.proofs.table.ClauseTable.clause.Goals as goal
-use Rattle.lrat_checker.proofs.table.ClauseTable.clause.Goals.{After-index}
 
 pub returns-in_err-place-clause-held : goal.returns-in_err-place-clause-held
 returns-in_err-place-clause-held c =
@@ -29,9 +27,6 @@ held c =
 
 pub returns-then-index-clause-held : goal.returns-then-index-clause-held
 returns-then-index-clause-held c = grind (arith, held (goal.at.returns-then-index-clause-held c).After-index)
-
-pub returns-then-index-clause-about : goal.returns-then-index-clause-about
-returns-then-index-clause-about c = grind arith
 
 pub returns-else-index-clause-held : goal.returns-else-index-clause-held
 returns-else-index-clause-held c = grind (arith, held (goal.at.returns-else-index-clause-held c).After-index)

@@ -1,11 +1,9 @@
-use Rattle.std.proofs.lemmas.Grind.{common_steps}
-use Rattle.std.{proofs.Common.{◌≡◌, ◌<◌, Bool, true, false, [], length, map, take, get_or, sym, ap, ◌∙◌, subst, arith}, specs.List.list_any}
-use Rattle.std.proofs.lemmas.List.{get_or_read, length-map, take_all}
-use Rattle.cnf_formula.{proofs.Codes.code_within, specs.{Literals.{LitValue, has_literal, is_superset, code_of}, Formulas.IsAbout}}
+use Rattle.std.{proofs.{Common.{◌≡◌, true, false, map, take, sym, ap, ◌∙◌, arith}, lemmas.List.{length-map, take_all}}, specs.List.list_any}
+use Rattle.cnf_formula.specs.Literals.{is_superset}
 use Rattle.list_laws.proofs.Fronts.{at_map}
-use Rattle.lrat_checker.{specs.{inner.Leads.signature_of, Stored.{list_at, finds}}, proofs.{Covered.{one_covered, none_covered}, Noted.one_more}}
-use Rattle.lrat_checker.proofs.table.ClauseTable.has_subset.Goals as goal
+use Rattle.lrat_checker.{specs.{inner.Leads.signature_of, Stored.{list_at, finds}}, proofs.Covered.{one_covered, none_covered}}
 use Rattle.lrat_checker.proofs.table.ClauseTable.has_subset.Goals.{After-deref-2, After-deref-in-loop-lit-2}
+use Rattle.lrat_checker.proofs.table.ClauseTable.has_subset.Goals as goal
 
 bare : (c : After-deref-2) → list_at (map (λ v. v.items) c.self.inside.leads.items) 0 ≡ c.deref-2.result.now
 bare c = grind (arith, at_map, length-map)
@@ -42,6 +40,3 @@ returns c =
     let first : list_any (finds i.live.items clauses lits (signature_of lits)) (list_at (map (λ v. v.items) i.leads.items) 0) ≡ false = let e = c.has_marked.ensures in let a = c.if-has_marked.false in let l = c.deref.ensures.value in let m = c.requires.marked in let s = c.signature_of-signature.ensures in cc in
     let whole : take c.loop-lit.lit-index lits ≡ lits = take_all c.loop-lit.lit-index lits c.loop-lit-test.false in
     sym (grind (arith, none_covered lits i.ids.items i.live.items clauses c.self.invariant.lives c.self.invariant.many i.vars))
-
-pub loop-lit-preserved : goal.loop-lit-preserved
-loop-lit-preserved c = grind (arith, common_steps)

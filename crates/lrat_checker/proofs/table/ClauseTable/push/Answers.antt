@@ -1,10 +1,8 @@
-use Rattle.std.proofs.Common.{◌≡◌, ◌<◌, [], ◌∷◌, ◌++◌, length, map, refl, sym, ap, ◌∙◌, subst, arith, Contains, if◌then◌else◌}
-use Rattle.std.proofs.lemmas.List.{length-map}
+use Rattle.std.proofs.{Common.{◌≡◌, ◌<◌, [], ◌∷◌, ◌++◌, length, map, sym, ap, ◌∙◌, subst, arith, Contains}, lemmas.List.length-map}
 use Rattle.cnf_formula.specs.{Literals.code_of, Formulas.IsClause}
-use Rattle.lrat_checker.specs.Stored.{TableValue, IsStored, last_of, list_at, led_as}
-use Rattle.lrat_checker.proofs.{Placed.{held_push, last_push}, Noted.{indexed_push, led_push, stored_grown, stored_push}, Led.lead_within}
+use Rattle.lrat_checker.{specs.Stored.{IsStored, last_of, list_at, led_as}, proofs.{Placed.{held_push, last_push}, Led.lead_within}}
+use Rattle.lrat_checker.proofs.{Noted.{indexed_push, led_push, stored_grown, stored_push}, table.ClauseTable.push.Goals.{After-note_literals, After-note}}
 use Rattle.lrat_checker.proofs.table.ClauseTable.push.Goals as goal
-use Rattle.lrat_checker.proofs.table.ClauseTable.push.Goals.{After-note_literals, After-note}
 
 long : (c : After-note_literals) → length (map (λ v. v.items) c.note_literals.new.lists.items) ≡ length (map (λ v. v.items) c.self.inside.lists.items)
 long c = omega (arith, length-map c.note_literals.new.lists.items (λ v. v.items), length-map c.self.inside.lists.items (λ v. v.items), c.note_literals.ensures.long)

@@ -1,9 +1,5 @@
-use Rattle.std.proofs.lemmas.Grind.{common_steps}
-use Rattle.std.proofs.Common.{◌≡◌, ◌⊎◌, Bool, List, map, length, sym, ap, ◌∙◌, subst, inl, inr, ⊎_elim, arith, ◌&&◌, not, filter, ◌==◌}
-use Rattle.std.{specs.List.{list_any, list_all}, proofs.lemmas.{Bool.cases_Bool, List.with_items_is}}
-use Rattle.proof_rules.specs.{Held.Entry, Testing.{are_held, has_number_twice}}
-use Rattle.lrat_checker.specs.Stored.{TableValue, held_of, last_of, is_live, kept_live, IsStored}
-use Rattle.lrat_checker.proofs.{Removed.{all_held_live, held_kept, kept_long}, Cleaned.stored_let_go}
+use Rattle.std.proofs.{lemmas.{Grind.common_steps, List.with_items_is}, Common.{◌≡◌, ◌⊎◌, map, length, sym, subst, arith}}
+use Rattle.lrat_checker.{specs.Stored.{kept_live, IsStored}, proofs.{Removed.{all_held_live, held_kept}, Cleaned.stored_let_go}}
 use Rattle.lrat_checker.proofs.table.ClauseTable.remove.Goals as goal
 
 pub returns-clause-answer : goal.returns-clause-answer
