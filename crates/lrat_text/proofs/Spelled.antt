@@ -1,4 +1,5 @@
 -- The words of numbers, literals and hints are read as what they spell.
+use Rattle.std.proofs.lemmas.Grind.{common_steps}
 use Rattle.std.proofs.Common.{◌≡◌, ◌⊎◌, inl, inr, ℕ, suc, ◌+◌, ◌^◌, ◌<◌, ◌≤◌, Bool, true, false, List, [], ◌∷◌, length, get_or, drop, Result, Ok, refl, ap, ◌∙◌, ⊎_elim, arith, lit<, ◌&&◌, ◌==◌, not, nat_lt, nat_le, if◌then◌else◌, ℤ, pos, negsuc, neg_ℤ, decimal, bytes_eq, codes}
 use Rattle.std.{specs.{List.list_all, Str.Parse.{AllDigits, digits_value}}, proofs.lemmas.Fmt.{decimal_is_IsNumeral, decimal_nonempty, first_decimal}}
 use Rattle.std.proofs.lemmas.{Bool.{and_from, ne_eqb, lt-ltb, le-ltb, false_from_ne_true, cases_Bool}, Slice.Eq.bytes_eq-Decides, Str.Parse.digit_from_value}
@@ -23,8 +24,7 @@ digits_above [] a = refl
 digits_above (c ∷ ds) a = grind (arith, digit_from_value c a.0, digits_above ds a.1)
 
 first_digit : (ds : List ℕ) → 0 < length ds → AllDigits 10 ds → get_or ds 0 0 ≤ 57
-first_digit [] some a = absurd (omega (arith, some))
-first_digit (c ∷ ds) some a = (digit_from_value c a.0).1
+first_digit ds some a = grind (arith, common_steps, digit_from_value)
 
 module _ (n : ℕ) (some : 0 < n) (small : n < 2 ^ 64) where
   decimal_first : (48 < get_or (decimal n) 0 0) × (get_or (decimal n) 0 0 ≤ 57)
