@@ -40,7 +40,3 @@ once_here ls k l rest e f g t = ap has_variable_twice e ∙ or_from (has_variabl
 
 pub differs : (a b : LitValue) → eqb (code_of a) (code_of b) ≡ false → same_literal b a ≡ false
 differs a b e = grind (arith, nat_tests, same_is b a)
-
-pub assume_step : (pivot : LitValue) (falses clause : List LitValue) (k : ℕ) (l : LitValue) → drop k clause ≡ l ∷ drop (k + 1) clause → same_literal (negation pivot) l ≡ false → is_made_true falses l ≡ false
-    → assumed falses (without_negated pivot (drop k clause)) ≡ assumed (l ∷ falses) (without_negated pivot (drop (k + 1) clause))
-assume_step pivot falses clause k l e other open' = grind arith

@@ -1,6 +1,6 @@
 -- A checker stays one, line by line.
-use Rattle.std.{proofs.lemmas.{Grind.common_steps, Bool.ne_eqb}, specs.List.list_any}
-use Rattle.std.proofs.Common.{◌≡◌, ℕ, ◌<◌, ◌≤◌, max, Bool, true, false, List, [], ◌∷◌, ◌++◌, length, Result, Ok, Err, refl, ap, arith, ◌&&◌, ◌||◌, ◌==◌, not, filter, IfOk, if◌then◌else◌}
+use Rattle.std.{proofs.lemmas.{Bool.Decides.nat_tests, Grind.common_steps}, specs.List.list_any}
+use Rattle.std.proofs.Common.{◌≡◌, ℕ, ◌<◌, ◌≤◌, max, Bool, true, false, List, [], ◌∷◌, ◌++◌, length, Result, ap, arith, ◌&&◌, ◌||◌, ◌==◌, not, filter, IfOk, if◌then◌else◌}
 use Rattle.cnf_formula.specs.{Lines.{ProofLineValue, DeletionValue}, Literals.LitValue, declared.line.LratLine.TheVariants.{Addition, Deletion}}
 use Rattle.proof_rules.specs.{declared.verdict.LineVerdict.{LineVerdict, TheVariants.{Accepted, Refused}}, Held.{Entry, CheckerValue, has_none}}
 use Rattle.proof_rules.specs.{declared.verdict.LineCode.TheVariants.{VariableRange, VariableTwice}, Testing.{are_held, has_number_twice}}
@@ -40,9 +40,7 @@ judged vars held line =
 
 pub judged_ok : {E : Type 0} (table : TableValue) (o g : ℕ) (r : Bool) (line : ProofLineValue) (result : Result LineVerdict E) → o ≤ length table.clauses → max g o < line.id
     → IfOk result (λ v. v ≡ judged table.vars table.held line) → IfOk result (λ v. v ≡ verdict_of (checker_of table o g r) line)
-judged_ok table o g r line (Ok v) w high h = grind (arith, common_steps)
-judged_ok table o g r line (Err e) w high h = tt
+judged_ok table o g r line result w high h = grind (arith, common_steps)
 
 pub empty_is : (xs : List LitValue) → (length xs == 0) ≡ has_none xs
-empty_is [] = refl
-empty_is (x ∷ xs) = ne_eqb (length (x ∷ xs)) 0 (λ e. omega (arith, e))
+empty_is xs = grind (arith, nat_tests)

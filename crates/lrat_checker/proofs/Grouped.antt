@@ -1,6 +1,6 @@
 -- Groups one after another.
-use Rattle.std.{proofs.lemmas.{Grind.common_steps, Bool.false≢true}, specs.{List.list_any, BTreeSet.{BTreeSet, contains}, Ordering.nat_cmp}}
-use Rattle.std.proofs.Common.{◌≡◌, ℕ, ◌+◌, ◌<◌, Bool, true, false, List, [], ◌∷◌, length, drop, get_or, Option, Some, None, refl, sym, ap, ◌∙◌, arith, ◌==◌, ◌||◌, ℤ, pos, negsuc, is_some, w64, SFits, of_z, to_z}
+use Rattle.std.{proofs.lemmas.{Bool.Decides.nat_tests, Grind.common_steps}, specs.{List.list_any, BTreeSet.{BTreeSet, contains}, Ordering.nat_cmp}}
+use Rattle.std.proofs.Common.{◌≡◌, ℕ, ◌+◌, ◌<◌, Bool, true, false, List, [], ◌∷◌, length, drop, get_or, Option, Some, None, refl, ap, ◌∙◌, arith, ◌==◌, ◌||◌, ℤ, pos, negsuc, is_some, w64, SFits, of_z, to_z}
 use lib.IntN.{nat_abs}
 use Rattle.cnf_formula.specs.Literals.{LitValue}
 use Rattle.proof_rules.specs.{Held.{Entry, clause_at}, Judging.{Fault, group_fault, groups_fault}, Accepting.{Group, leading, hint_groups_from, groups_of}}
@@ -32,14 +32,8 @@ module _ (held : List Entry) (pivot : LitValue) (start : List LitValue) (hints :
       → hint_groups_from (at + 1) (drop (at + 1) hints) ≡ hint_groups_from next (drop next hints) → Left held pivot start hints named' next
   passes named named' at n next l e f s g = grind arith
 
-  pub faulty_any : (named : BTreeSet ℕ) (at n : ℕ) (o : Option Fault) (l : Left held pivot start hints named at) → is_some o ≡ true → drop at hints ≡ negsuc n ∷ drop (at + 1) hints
-      → o ≡ group_fault held pivot start l.earlier (group_at at (n + 1)) (clause_at held (n + 1)) → o ≡ groups_fault held pivot start [] (groups_of hints)
-  faulty_any named at n (Some fault) l s e f = sym (faulty named at n fault l e (sym f))
-  faulty_any named at n None l s e f = absurd (false≢true s)
-
 pub none_from : {A : Type 0} (o : Option A) → is_some o ≡ false → o ≡ None
-none_from None e = refl
-none_from (Some x) e = absurd (false≢true (sym e))
+none_from o e = grind (arith, nat_tests)
 
 pub group_number : (hints : List ℤ) (at n id : ℕ) → at < length hints → SFits w64 (get_or hints at (pos 0)) → drop at hints ≡ negsuc n ∷ drop (at + 1) hints → id ≡ nat_abs (to_z w64 (of_z w64 (get_or hints at (pos 0)))) → id ≡ n + 1
 group_number hints at n id w f e h = grind (arith, common_steps)
