@@ -1,5 +1,5 @@
 -- What is said does not depend on how the bytes were cut.
-use Rattle.std.proofs.lemmas.{Bool.{Decides.nat_tests, false≢true, cases_Bool}, Grind.common_steps, List.{drop-drop, drop-append-le, length-drop}}
+use Rattle.std.proofs.lemmas.{Bool.{false≢true, cases_Bool}, Grind.common_steps, List.{drop-drop, drop-append-le, length-drop}}
 use Rattle.std.proofs.Common.{◌≡◌, ℕ, suc, ◌+◌, ◌-◌, ◌≤◌, true, false, List, [], ◌∷◌, ◌++◌, length, drop, Option, Some, None, Result, Ok, Err, refl, sym, ap, ◌∙◌, subst, ⊎_elim, arith, ◌==◌}
 use Rattle.text_lines.specs.Text.{Row, onto_row, rows_of}
 use Rattle.cnf_formula.specs.declared.line.LratLine.{LratLine}
@@ -55,7 +55,7 @@ part_says : (place : ℕ) (row : Row) (rows : List Row) → row.whole ≡ false 
 part_says place row rows f = rw f refl
 
 same_said : (r : Option (Result LratLine LratTextFault)) (size : ℕ) (later other : Said) → (SaysNothing (said_at r size later) → ⊥) → ((SaysNothing later → ⊥) → other ≡ later) → said_at r size other ≡ said_at r size later
-same_said r size later other ne h = grind (arith, nat_tests)
+same_said r size later other ne h = grind arith
 
 -- what was said to some lines is said whatever follows
 said_more : (rows : List Row) (bytes piece : List ℕ) (place : ℕ) → rows_of bytes ≡ rows → (SaysNothing (said_by false place rows) → ⊥) → said_by false place (rows_of (bytes ++ piece)) ≡ said_by false place rows
@@ -84,7 +84,7 @@ passed_none : (bytes piece : List ℕ) (place : ℕ) → Passed bytes piece plac
 passed_none bytes piece place = grind (arith, common_steps)
 
 passed_at : (r : Option (Result LratLine LratTextFault)) (size : ℕ) (later : Said) → SaysNothing (said_at r size later) → (r ≡ None) × SaysNothing later
-passed_at r size later n = grind (arith, nat_tests)
+passed_at r size later n = grind arith
 
 -- lines that say nothing may be taken off before more bytes come
 passed : (rows : List Row) (bytes piece : List ℕ) (place : ℕ) → rows_of bytes ≡ rows → SaysNothing (said_by false place rows) → Passed bytes piece place (said_by false place rows).taken

@@ -1,5 +1,4 @@
 -- The text of a line is read as that line.
-use Rattle.std.proofs.lemmas.Bool.Decides.{nat_tests}
 use Rattle.std.proofs.Common.{◌≡◌, ℕ, suc, ◌+◌, ◌-◌, ◌^◌, ◌<◌, Bool, true, false, List, [], ◌∷◌, ◌++◌, length, get_or, map, Some, Result, Ok, refl, sym, ap, ◌∙◌, subst, arith, lit<, length-append, append_assoc, append-nil, nat_lt, filter, All, ℤ, decimal, codes}
 use Rattle.std.{specs.List.{list_all, slice_split, join_with_byte}, proofs.lemmas.{Bool.and_parts, List.{Elements.{All-head, All-tail}, Folds.list_all-append}}}
 use Rattle.text_lines.specs.{Text.{Row, rows_of, line}, Check.{◌>>=◌}}
@@ -28,7 +27,7 @@ above_control (b ∷ bytes) h = grind (arith, above_control bytes)
 
 joined_control : (words : List (List ℕ)) → AreWords words → no_control (join_with_byte 32 words) ≡ true
 joined_control (word ∷ next ∷ words) a = grind (arith, list_all-append, above_control word a.0.above, joined_control (next ∷ words) a.1)
-joined_control words a = grind (arith, nat_tests, above_control)
+joined_control words a = grind (arith, above_control)
 
 rows_whole : (bytes more : List ℕ) → no_control bytes ≡ true → rows_of (bytes ++ 10 ∷ more) ≡ whole bytes ∷ rows_of more
 rows_whole [] more h = refl
@@ -36,7 +35,7 @@ rows_whole (b ∷ bytes) more h = grind (arith, rows_whole bytes more)
 
 byte_above : (bytes : List ℕ) (k : ℕ) → no_control bytes ≡ true → get_or bytes k 0 ≡ 13 → ⊥
 byte_above (b ∷ bytes) (suc k) h e = byte_above bytes k (and_parts (nat_lt 31 b) (no_control bytes) h).1 e
-byte_above bytes k h e = grind (arith, nat_tests)
+byte_above bytes k h e = grind arith
 
 all_content : (bytes : List ℕ) → no_control bytes ≡ true → content (whole bytes) ≡ bytes
 all_content bytes h = grind (arith, byte_above bytes (length bytes - 1) h)

@@ -1,5 +1,5 @@
 -- What is left of a text where no line is said.
-use Rattle.std.{proofs.lemmas.{Bool.{Decides.nat_tests, cases_Bool, eqb-false, ne_eqb}, List.{drop-drop, drop_at, length-append}}, specs.List.{All, flat_map}}
+use Rattle.std.{proofs.lemmas.{Bool.{cases_Bool, eqb-false, ne_eqb}, List.{drop-drop, drop_at, length-append}}, specs.List.{All, flat_map}}
 use Rattle.std.proofs.Common.{◌≡◌, ◌≢◌, ℕ, ◌+◌, Bool, true, false, cond, List, [], ◌∷◌, ◌++◌, length, drop, Option, Some, None, Result, Ok, Err, refl, sym, ap, ◌∙◌, subst, ⊎_elim, arith, ◌==◌, ◌||◌, if◌then◌else◌}
 use Rattle.std.proofs.lemmas.List.Elements.{All-nil, All-cons, All-weaker}
 use Rattle.text_lines.{specs.Text.{Row, onto_row, rows_of, row_text}, proofs.Rows.{rows_back, rows_last}}
@@ -26,7 +26,7 @@ row_size row = go row.whole
     go false = omega arith
 
 at_nothing : (r : Option (Result LratLine LratTextFault)) (size : ℕ) (later : Said) → (said_at r size later).answer ≡ Ok None → (later.answer ≡ Ok None) × ((said_at r size later).taken ≡ size + later.taken)
-at_nothing r size later n = grind (arith, nat_tests)
+at_nothing r size later n = grind arith
 
 left_behind : (finished : Bool) (place : ℕ) (rows : List Row) → (said_by finished place rows).answer ≡ Ok None → drop (said_by finished place rows).taken (flat_map row_text rows) ≡ flat_map row_text (left_of finished rows)
 left_behind finished place [] n = refl
@@ -63,7 +63,7 @@ module _ (b : ℕ) (ne : b ≢ 10) where
   onto_clear bytes false rows clear = All-cons (λ c. c ≢ 10) b (bytes ++ flat_map row_text rows) ne clear
 
   onto_rows : (rows : List Row) → AreClear (flat_map row_text (left_of false rows)) → AreClear (flat_map row_text (left_of false (onto_row b rows)))
-  onto_rows rows clear = grind (arith, nat_tests, All-cons, All-nil, onto_clear)
+  onto_rows rows clear = grind (arith, All-cons, All-nil, onto_clear)
 
 clear_left : (bytes : List ℕ) → AreClear (flat_map row_text (left_of false (rows_of bytes)))
 clear_left [] = All-nil (λ b. b ≢ 10)

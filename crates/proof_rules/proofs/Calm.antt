@@ -1,5 +1,5 @@
 -- Where some assignment satisfies a formula, some assignment satisfies all that is held after any accepted lines, and none of them refutes it.
-use Rattle.std.{proofs.lemmas.Bool.{Decides.nat_tests, or_from, or_cases, or_left, cases_Bool}, specs.List.{list_any, enumerate_from}}
+use Rattle.std.{proofs.lemmas.Bool.{or_from, or_cases, or_left, cases_Bool}, specs.List.{list_any, enumerate_from}}
 use Rattle.std.proofs.Common.{◌≡◌, ℕ, ◌+◌, ◌≤◌, max, Bool, true, false, List, [], ◌∷◌, ◌++◌, length, get_or, refl, sym, ap, ◌∙◌, subst, ⊎_elim, arith, ◌==◌, not, All}
 use Rattle.std.proofs.lemmas.List.Elements.{All-nil, All-push, All-filter}
 use Rattle.cnf_formula.specs.{Literals.{LitValue, same_literal, has_literal, value_of, all_hold}, Formulas.{FormulaValue, Satisfiable}}
@@ -17,7 +17,7 @@ pub record Calm (c : CheckerValue) : Type 0 where
   pub numbered : Numbered c.held (max (length c.formula.clauses) c.greatest + 1)
 
 some_literal : (v : ℕ → Bool) (clause : List LitValue) → holds v clause ≡ true → has_none clause ≡ false
-some_literal v clause h = grind (arith, nat_tests)
+some_literal v clause h = grind arith
 
 with_clause : (c : CheckerValue) (line : ProofLineValue) (v : ℕ → Bool) → IsNew c line → Calm c → All (Holds v) c.held → holds v line.lits ≡ true → Calm (with_line c line)
 with_clause c line v n q all h =

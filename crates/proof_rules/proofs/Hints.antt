@@ -1,6 +1,5 @@
 -- Hints in a row lead to a conflict, or to literals that are false, exactly where they are taken so.
-use Rattle.std.{proofs.lemmas.Bool.Decides.nat_tests, specs.List.list_all}
-use Rattle.std.proofs.Common.{arith, ◌≡◌, ℕ, ◌+◌, true, List, [], ◌∷◌, Option, Some, None, Result, Ok, Err, refl, ap, ◌∙◌}
+use Rattle.std.{specs.List.list_all, proofs.Common.{arith, ◌≡◌, ℕ, ◌+◌, true, List, [], ◌∷◌, Option, Some, None, Result, Ok, Err, refl, ap, ◌∙◌}}
 use Rattle.cnf_formula.specs.Literals.{LitValue, negation, same_literal}
 use Rattle.proof_rules.specs.{declared.verdict.LineCode.{LineCode, TheVariants.HintsAfterConflict}, Held.{Entry, clause_at, open_literals}}
 use Rattle.proof_rules.specs.{Judging.{Fault, given_by, given_by_clause, after_conflict, led_to}, Accepting.{Takes, Falsifies, LeadsTo, Conflicts}}
@@ -44,14 +43,14 @@ conflicts held falses place (id ∷ next ∷ ids) h = go (λ l v. conflicts held
     go more (Err code) e = let none : Led = Ok None in let bad : Err (code, place) ≡ none = rw (e, led_to) at h in absurd (cc)
     go more (Ok None) e = let none : Led = Ok None in let bad : Err (HintsAfterConflict, place + 1) ≡ none = rw (e, led_to) at h in absurd (cc)
     go more (Ok (Some l)) e = (l, takes held falses id l e, more l (rw (e, led_to) at h))
-conflicts held falses place ids h = grind (arith, nat_tests, falsifies)
+conflicts held falses place ids h = grind (arith, falsifies)
 
 pub leads_to_conflict : (held : List Entry) (falses : List LitValue) (place : ℕ) (ids : List ℕ) → Conflicts held falses ids → led_to held falses place ids ≡ Ok None
 leads_to_conflict held falses place (id ∷ next ∷ ids) c = rw (given_some held falses id c.0 c.1, led_to) (leads_to_conflict held (negation c.0 ∷ falses) (place + 1) (next ∷ ids) c.2)
-leads_to_conflict held falses place ids c = grind (arith, nat_tests, given_none)
+leads_to_conflict held falses place ids c = grind (arith, given_none)
 
 never_leads : (place : ℕ) (ids : List ℕ) (last : List LitValue) → after_conflict place ids ≡ Ok (Some last) → ⊥
-never_leads place ids last h = grind (arith, nat_tests)
+never_leads place ids last h = grind arith
 
 pub leads : (held : List Entry) (falses : List LitValue) (place : ℕ) (ids : List ℕ) (last : List LitValue) → led_to held falses place ids ≡ Ok (Some last) → LeadsTo last held falses ids
 leads held falses place [] last h = cc

@@ -1,6 +1,5 @@
 -- What is held stays held under more additions, and so does a conflict.
-use Rattle.std.proofs.{lemmas.Bool.{Decides.nat_tests, and_from}, Math.Logic.{∥∥₁_elim}}
-use Rattle.std.proofs.Common.{◌≡◌, ℕ, suc, max, List, [], ◌∷◌, ◌++◌, length, Some, refl, subst, arith, true, map}
+use Rattle.std.proofs.{lemmas.Bool.and_from, Math.Logic.{∥∥₁_elim}, Common.{◌≡◌, ℕ, suc, max, List, [], ◌∷◌, ◌++◌, length, Some, refl, subst, arith, true, map}}
 use Rattle.cnf_formula.specs.{Literals.{LitValue, negation}, Formulas.FormulaValue, Lines.ProofLineValue, declared.line.LratLine.LratLine}
 use Rattle.cnf_formula.specs.declared.line.LratLine.TheVariants.{Addition}
 use Rattle.proof_rules.specs.{declared.verdict.LineVerdict.TheVariants.Accepted as AcceptedVerdict, Held.{Entry, CheckerValue, start_of, clause_at}}
@@ -17,7 +16,7 @@ keeps_append (entry ∷ held) more id clause h = grind (arith, keeps_append held
 
 pub conflict_kept : (held more : List Entry) → Keeps held more → (falses : List LitValue) (ids : List ℕ) → Conflicts held falses ids → Conflicts more falses ids
 conflict_kept held more k falses (id ∷ next ∷ ids) c = grind (arith, conflict_kept held more k (negation c.0 ∷ falses) (next ∷ ids) c.2)
-conflict_kept held more k falses ids c = grind (arith, nat_tests)
+conflict_kept held more k falses ids c = grind arith
 
 pub additions_keep : (lines : List ProofLineValue) (c : CheckerValue) → Keeps c.held (after_lines c (map Addition lines)).held
 additions_keep [] c id clause h = h
@@ -53,7 +52,7 @@ pub starts_as_checker : (f : FormulaValue) → IsChecker (start_of f)
 starts_as_checker f = record { lines = []; accepted = refl; is = refl }
 
 pub same_formula : (c : CheckerValue) (line : LratLine) → (with_accepted c line).formula ≡ c.formula
-same_formula c line = grind (arith, nat_tests)
+same_formula c line = grind arith
 
 pub stays_checker : (c : CheckerValue) (line : LratLine) → IsChecker c → is_accepted (verdict_on c line) ≡ true → IsChecker (with_accepted c line)
 stays_checker c line i v =

@@ -1,5 +1,5 @@
 -- Propagation by tests is that of the verdicts without their faults, so it is as the relations say.
-use Rattle.std.{proofs.lemmas.Bool.{Decides.nat_tests, false≢true, or_cases}, specs.List.list_all}
+use Rattle.std.{proofs.lemmas.Bool.{false≢true, or_cases}, specs.List.list_all}
 use Rattle.std.proofs.Common.{arith, ◌≡◌, ℕ, ◌+◌, Bool, true, false, List, [], ◌∷◌, Option, Some, None, Result, Ok, Err, refl, sym, ap, ◌∙◌, inl, inr, ⊎_elim, ◌&&◌, if◌then◌else◌, option_map}
 use Rattle.cnf_formula.specs.Literals.{LitValue, negation, same_literal}
 use Rattle.proof_rules.specs.{declared.verdict.LineCode.{LineCode, TheVariants.HintNotUnit}, Held.{Entry, clause_at, open_literals, has_none}}
@@ -31,7 +31,7 @@ judged held falses place ids given = elim given [
 ]
 
 at_end : (place : ℕ) (ids : List ℕ) → (if has_none ids then Some None else None) ≡ plain (after_conflict place ids)
-at_end place ids = grind (arith, nat_tests)
+at_end place ids = grind arith
 
 module _ (held : List Entry) (falses : List LitValue) (place : ℕ) (ids : List ℕ) (more : (l : LitValue) → propagated held (negation l ∷ falses) ids ≡ plain (led_to held (negation l ∷ falses) (place + 1) ids)) where
   by_unit : (l : LitValue) (b : Bool) → (if b then propagated held (negation l ∷ falses) ids else None) ≡ plain (judged held falses place ids (if b then Ok (Some l) else Err HintNotUnit))
@@ -39,10 +39,10 @@ module _ (held : List Entry) (falses : List LitValue) (place : ℕ) (ids : List 
   by_unit l false = refl
 
   by_left : (left : List LitValue) → tested held falses ids (Some left) ≡ plain (judged held falses place ids (given_by left))
-  by_left left = grind (arith, nat_tests, at_end (place + 1) ids, by_unit)
+  by_left left = grind (arith, at_end (place + 1) ids, by_unit)
 
   by_clause : (found : Option (List LitValue)) → tested held falses ids (option_map (open_literals falses) found) ≡ plain (judged held falses place ids (given_by_clause falses found))
-  by_clause found = grind (arith, nat_tests, by_left)
+  by_clause found = grind (arith, by_left)
 
 propagated_plain : (held : List Entry) (falses : List LitValue) (place : ℕ) (ids : List ℕ) → propagated held falses ids ≡ plain (led_to held falses place ids)
 propagated_plain held falses place [] = refl

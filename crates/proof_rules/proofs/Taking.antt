@@ -1,5 +1,5 @@
 -- What a clause gives, by its literals that are not false.
-use Rattle.std.{proofs.lemmas.{Bool.{Decides.nat_tests, false≢true, and_from, eq-eqb}, List.Elements.{All-nil, All-head, All-tail}}, specs.List.list_all}
+use Rattle.std.{proofs.lemmas.{Bool.{false≢true, and_from, eq-eqb}, List.Elements.{All-nil, All-head, All-tail}}, specs.List.list_all}
 use Rattle.std.proofs.Common.{arith, ◌≡◌, Bool, true, false, List, [], ◌∷◌, Some, Ok, refl, eqb, ◌⊎◌, All}
 use Rattle.cnf_formula.specs.Literals.{LitValue, same_sign, same_literal, has_literal}
 use Rattle.proof_rules.specs.{Held.open_literals, Judging.given_by, Accepting.IsFalse}
@@ -46,7 +46,7 @@ some_open falses (x ∷ clause) l s o h = grind (arith, some_open falses clause 
 -- ---- what is given
 
 pub gives_some : (ls : List LitValue) (l : LitValue) → given_by ls ≡ Ok (Some l) → (rest : List LitValue) × (ls ≡ l ∷ rest) × (list_all (same_literal l) rest ≡ true)
-gives_some ls l h = grind (arith, nat_tests)
+gives_some ls l h = grind arith
 
 -- the first of literals that are all one is that one
 pub given_one : (falses clause : List LitValue) (l : LitValue) → has_literal clause l ≡ true → has_literal falses l ≡ false → All (FalseOrIs falses l) clause → given_by (open_literals falses clause) ≡ Ok (Some l)

@@ -1,5 +1,5 @@
 -- An addition has the verdict that it is implied, or that it is accepted without being so, exactly by the definitions.
-use Rattle.std.{proofs.lemmas.{Bool.Decides.nat_tests, Grind.common_steps, List.{Folds.list_any_none, Sums.list_all-from_AllPass}}, specs.List.list_any}
+use Rattle.std.{proofs.lemmas.{Grind.common_steps, List.{Folds.list_any_none, Sums.list_all-from_AllPass}}, specs.List.list_any}
 use Rattle.std.proofs.Common.{◌≡◌, ℕ, ◌<◌, max, Bool, true, false, List, [], ◌∷◌, length, get_or, Some, None, Ok, Err, refl, sym, ap, ◌∙◌, arith, ◌↔◌, ◌==◌, ◌≢◌, if◌then◌else◌, All, AllPairs, nat_le, nat_lt}
 use Rattle.std.proofs.lemmas.Bool.{le-ltb, lt-leb, ne_eqb, or_from}
 use Rattle.list_laws.proofs.Pairs.{pairs_head, pairs_tail}
@@ -65,10 +65,10 @@ new_is i c line a v =
 
 -- whether it is implied says which of the two ways it was
 implied_way : (groups : List Group) (i : Bool) → implied_verdict groups ≡ AcceptedVerdict i → (groups ≡ []) × (i ≡ true)
-implied_way groups i h = grind (arith, nat_tests)
+implied_way groups i h = grind arith
 
 pivotless : (groups : List Group) (i : Bool) → pivotless_verdict groups ≡ AcceptedVerdict i → ⊥
-pivotless groups i h = grind (arith, nat_tests)
+pivotless groups i h = grind arith
 
 -- what the way without a conflict needs
 record Stands (held : List Entry) (start : List LitValue) (groups : List Group) (lits : List LitValue) (i : Bool) : Type 0 where
