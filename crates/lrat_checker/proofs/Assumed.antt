@@ -1,6 +1,6 @@
 -- Literals that are assumed false.
-use Rattle.std.proofs.Common.{◌≡◌, ℕ, suc, ◌+◌, Bool, true, false, List, [], ◌∷◌, drop, eqb, arith, refl, sym, ap, ◌∙◌, ⊎_elim, ◌⊎◌, ◌==◌, not, None, if◌then◌else◌}
-use Rattle.std.{specs.List.list_any, proofs.lemmas.Bool.{false≢true, or_left, or_right, or_from, eq-eqb, Decides.nat_tests}}
+use Rattle.std.proofs.Common.{◌≡◌, ℕ, suc, ◌+◌, Bool, true, false, List, [], ◌∷◌, drop, eqb, arith, refl, sym, ap, ◌∙◌, ◌⊎◌, ◌==◌}
+use Rattle.std.{specs.List.list_any, proofs.lemmas.Bool.{false≢true, or_right, or_from, eq-eqb, Decides.nat_tests}}
 use Rattle.cnf_formula.{specs.Literals.{LitValue, same_literal, has_literal, negation, code_of}, proofs.Clauses.same_is}
 use Rattle.proof_rules.specs.{Judging.{has_variable_twice, assumed}, Accepting.{without_negated, is_made_true}}
 
@@ -31,8 +31,7 @@ twice-drop k ls h = h
 
 -- a literal whose variable stands behind it
 pub twice_here : (ls : List LitValue) (k : ℕ) (l : LitValue) (rest : List LitValue) → drop k ls ≡ l ∷ rest → (has_literal rest l ≡ true) ⊎ (has_literal rest (negation l) ≡ true) → has_variable_twice ls ≡ true
-twice_here ls k l rest e h =
-    twice-drop k ls (ap has_variable_twice e ∙ or_left (has_variable rest l) (has_variable_twice rest) (⊎_elim (λ s. some_literal rest l s) (λ s. some_negation rest l s) h))
+twice_here ls k l rest e h = grind (arith, twice-drop k ls, some_literal rest l, some_negation rest l)
 
 pub once_here : (ls : List LitValue) (k : ℕ) (l : LitValue) (rest : List LitValue) → drop k ls ≡ l ∷ rest → has_literal rest l ≡ false → has_literal rest (negation l) ≡ false → has_variable_twice rest ≡ false → has_variable_twice (drop k ls) ≡ false
 once_here ls k l rest e f g t = ap has_variable_twice e ∙ or_from (has_variable rest l) (has_variable_twice rest) (no_variable rest l f g) t
@@ -41,10 +40,3 @@ once_here ls k l rest e f g t = ap has_variable_twice e ∙ or_from (has_variabl
 
 pub differs : (a b : LitValue) → eqb (code_of a) (code_of b) ≡ false → same_literal b a ≡ false
 differs a b e = grind (arith, nat_tests, same_is b a)
-
-pub assume_step : (pivot : LitValue) (falses clause : List LitValue) (k : ℕ) (l : LitValue) → drop k clause ≡ l ∷ drop (k + 1) clause → same_literal (negation pivot) l ≡ false → is_made_true falses l ≡ false
-    → assumed falses (without_negated pivot (drop k clause)) ≡ assumed (l ∷ falses) (without_negated pivot (drop (k + 1) clause))
-assume_step pivot falses clause k l e other open' =
-    let rest = without_negated pivot (drop (k + 1) clause) in
-    let kept : without_negated pivot (l ∷ drop (k + 1) clause) ≡ l ∷ rest = ap (λ b. if not b then l ∷ rest else rest) other in
-    ap (λ ls. assumed falses (without_negated pivot ls)) e ∙ ap (assumed falses) kept ∙ ap (λ b. if b then None else assumed (l ∷ falses) rest) open'

@@ -1,45 +1,21 @@
 -- A checker stays one, line by line.
-use Rattle.std.proofs.Common.{◌≡◌, ℕ, ◌<◌, ◌≤◌, max, Bool, true, false, List, [], ◌∷◌, ◌++◌, length, take, Result, Ok, Err, refl, sym, ap, ◌∙◌, subst, arith, ◌&&◌, ◌||◌, ◌==◌, not, filter, IfOk, if◌then◌else◌}
-use Rattle.std.{specs.List.list_any, proofs.lemmas.{Bool.{false≢true, lt-leb, ne_eqb}, List.{take-append-le, length-take-le, length_push}}}
+use Rattle.std.{proofs.lemmas.{Bool.Decides.nat_tests, Grind.common_steps}, specs.List.list_any}
+use Rattle.std.proofs.Common.{◌≡◌, ℕ, ◌<◌, ◌≤◌, max, Bool, true, false, List, [], ◌∷◌, ◌++◌, length, Result, ap, arith, ◌&&◌, ◌||◌, ◌==◌, not, filter, IfOk, if◌then◌else◌}
 use Rattle.cnf_formula.specs.{Lines.{ProofLineValue, DeletionValue}, Literals.LitValue, declared.line.LratLine.TheVariants.{Addition, Deletion}}
 use Rattle.proof_rules.specs.{declared.verdict.LineVerdict.{LineVerdict, TheVariants.{Accepted, Refused}}, Held.{Entry, CheckerValue, has_none}}
-use Rattle.proof_rules.specs.{declared.verdict.LineCode.TheVariants.{IdNotGreater, VariableRange, VariableTwice}, Testing.{are_held, has_number_twice}}
-use Rattle.proof_rules.specs.{Judging.{verdict_of, deletion_verdict, is_foreign, has_variable_twice, led_verdict, is_accepted}, Accepting.IsNew}
-use Rattle.proof_rules.specs.Refuting.{with_line, IsChecker}
-use Rattle.proof_rules.proofs.{Kept.stays_checker, Verdicts.{implied_by, redundant_by}}
+use Rattle.proof_rules.specs.{declared.verdict.LineCode.TheVariants.{VariableRange, VariableTwice}, Testing.{are_held, has_number_twice}}
+use Rattle.proof_rules.{specs.Judging.{verdict_of, deletion_verdict, is_foreign, has_variable_twice, led_verdict, is_accepted}, proofs.Kept.stays_checker}
 use Rattle.lrat_checker.specs.{inner.Marking.MarksValue, Stored.TableValue, Checking.{checker_of, CanCheck}}
-
-accepted_new : (c : CheckerValue) (line : ProofLineValue) → is_accepted (verdict_of c line) ≡ true → IsNew c line
-accepted_new c line a = go (verdict_of c line) refl a
-  where
-    go : (v : LineVerdict) → verdict_of c line ≡ v → is_accepted v ≡ true → IsNew c line
-    go (Accepted true) e a = (implied_by c line e).new
-    go (Accepted false) e a = (redundant_by c line e).new
-    go (Refused code hint) e a = absurd (false≢true a)
 
 -- ---- one line more
 
 abbrev pub table_with : TableValue → ProofLineValue → TableValue
 table_with table line = record { vars = table.vars; clauses = table.clauses ++ line.lits ∷ []; held = table.held ++ (line.id, line.lits) ∷ []; last = line.id }
 
-pub with_line_is : (table : TableValue) (o g : ℕ) (r : Bool) (line : ProofLineValue) → o ≤ length table.clauses → checker_of (table_with table line) o line.id (r || has_none line.lits) ≡ with_line (checker_of table o g r) line
-with_line_is table o g r line w = cc (take-append-le o table.clauses (line.lits ∷ []) w)
-
 pub can_add : (table : TableValue) (marks : MarksValue) (o g : ℕ) (r : Bool) (line : ProofLineValue) → CanCheck table marks o g r → is_accepted (verdict_of (checker_of table o g r) line) ≡ true
     → CanCheck (table_with table line) marks o line.id (r || has_none line.lits)
 can_add table marks o g r line c a =
-    let n = accepted_new (checker_of table o g r) line a in
-    let long : length (take o table.clauses) ≡ o = length-take-le o table.clauses c.many in
-    let high : o < line.id = let h = n.above_formula in omega (arith, h, long) in
-    let m = c.many in
-    let p = length_push table.clauses line.lits in
-    record {
-      unmarked = c.unmarked;
-      same = c.same;
-      many = omega (arith, m, p);
-      last = omega (arith, high);
-      checker = subst IsChecker (sym (with_line_is table o g r line c.many)) (stays_checker (checker_of table o g r) (Addition line) c.checker a);
-    }
+    grind (arith, common_steps, stays_checker (checker_of table o g r) (Addition line) c.checker a)
 
 -- ---- some clauses fewer
 
@@ -52,8 +28,7 @@ deletion_accepted c deletion h = grind arith
 pub can_delete : (table : TableValue) (marks : MarksValue) (o g : ℕ) (r : Bool) (deletion : DeletionValue) → CanCheck table marks o g r → (are_held table.held deletion.ids && not (has_number_twice deletion.ids)) ≡ true
     → CanCheck (table_without table deletion.ids) marks o g r
 can_delete table marks o g r deletion c h =
-    let checker = stays_checker (checker_of table o g r) (Deletion deletion) c.checker (ap is_accepted (deletion_accepted (checker_of table o g r) deletion h)) in
-    assumption (c, checker)
+    grind (arith, stays_checker (checker_of table o g r) (Deletion deletion) c.checker (ap is_accepted (deletion_accepted (checker_of table o g r) deletion h)))
 
 -- ---- the verdict
 
@@ -65,12 +40,7 @@ judged vars held line =
 
 pub judged_ok : {E : Type 0} (table : TableValue) (o g : ℕ) (r : Bool) (line : ProofLineValue) (result : Result LineVerdict E) → o ≤ length table.clauses → max g o < line.id
     → IfOk result (λ v. v ≡ judged table.vars table.held line) → IfOk result (λ v. v ≡ verdict_of (checker_of table o g r) line)
-judged_ok table o g r line (Ok v) w high h =
-    let long : length (take o table.clauses) ≡ o = length-take-le o table.clauses w in
-    let low : max (length (take o table.clauses)) g < line.id = omega (arith, long, high) in
-    h ∙ sym (ap (λ b. if b then Refused IdNotGreater 0 else judged table.vars table.held line) (lt-leb line.id (max (length (take o table.clauses)) g) low))
-judged_ok table o g r line (Err e) w high h = tt
+judged_ok table o g r line result w high h = grind (arith, common_steps)
 
 pub empty_is : (xs : List LitValue) → (length xs == 0) ≡ has_none xs
-empty_is [] = refl
-empty_is (x ∷ xs) = ne_eqb (length (x ∷ xs)) 0 (λ e. omega (arith, e))
+empty_is xs = grind (arith, nat_tests)

@@ -1,9 +1,9 @@
 -- Lists without the places of clauses that are no longer held.
-use Rattle.std.proofs.Common.{◌≡◌, ◌⊎◌, ℕ, ◌<◌, Bool, true, List, [], length, set, sym, ap, ◌∙◌, subst, ⊎_elim, arith, All, Contains, filter}
+use Rattle.std.proofs.Common.{◌≡◌, ◌⊎◌, ℕ, ◌<◌, Bool, true, List, length, set, arith, All, Contains, filter}
 use Rattle.std.proofs.lemmas.{Bool.cases_eq, List.{get_or-set_same, get_or-set_other, length-set, Elements.filter_passes}}
 use Rattle.list_laws.proofs.Members.{Contains-filter}
-use Rattle.cnf_formula.specs.Literals.{LitValue, code_of}
-use Rattle.lrat_checker.specs.{declared.leads.LedClause.LedClause, Stored.{list_at, is_held, kept_live, IsIndexed, IsStored}}
+use Rattle.cnf_formula.specs.Literals.{LitValue}
+use Rattle.lrat_checker.specs.{declared.leads.LedClause.LedClause, Stored.{list_at, is_held, kept_live, IsStored}}
 use Rattle.lrat_checker.proofs.{Placed.live_within, Removed.{kept_at, kept_long}}
 
 -- a list without what is no longer held
@@ -15,18 +15,11 @@ still_there live lists code other k w a h =
     grind (arith, Contains-filter (is_held live) (list_at lists code) k a, get_or-set_same, get_or-set_other, cases_eq other code)
 
 pub all_held : (live : List Bool) (lists new : List (List ℕ)) (code : ℕ) → code < length lists → new ≡ cleaned live lists code → All (λ k. is_held live k ≡ true) (list_at new code)
-all_held live lists new code w e =
-    let kept = filter (is_held live) (list_at lists code) in
-    subst (All (λ k. is_held live k ≡ true)) (sym (ap (λ ls. list_at ls code) e ∙ get_or-set_same lists code kept [] w)) (filter_passes (is_held live) (list_at lists code))
+all_held live lists new code w e = grind (arith, get_or-set_same lists code, filter_passes (is_held live) (list_at lists code))
 
 pub stored_cleaned : (vars : ℕ) (ids : List ℕ) (live : List Bool) (clauses : List (List LitValue)) (lists : List (List ℕ)) (leads : List (List LedClause)) (code : ℕ) → IsStored vars ids live clauses lists leads → code < length lists
     → IsStored vars ids live clauses (cleaned live lists code) leads
-stored_cleaned vars ids live clauses lists leads code s w =
-    let indexed : IsIndexed vars live clauses (cleaned live lists code) = record {
-      long = length-set lists code _ ∙ s.indexed.long;
-      each = λ k l a h. still_there live lists code (code_of l) k w a (s.indexed.each k l a h);
-    } in
-    assumption (s, indexed)
+stored_cleaned vars ids live clauses lists leads code s w = grind (arith, length-set lists code, still_there live lists code)
 
 -- ---- clauses that are let go
 
@@ -35,7 +28,4 @@ held_before ids live gone k l a = grind (arith, live_within (kept_live ids live 
 
 pub stored_let_go : (vars : ℕ) (ids : List ℕ) (live live' : List Bool) (clauses : List (List LitValue)) (lists : List (List ℕ)) (leads : List (List LedClause)) (gone : List ℕ) → IsStored vars ids live clauses lists leads
     → (live' ≡ kept_live ids live gone) ⊎ (live' ≡ live) → IsStored vars ids live' clauses lists leads
-stored_let_go vars ids live live' clauses lists leads gone s new =
-    let indexed : IsIndexed vars (kept_live ids live gone) clauses lists = record { long = s.indexed.long; each = λ k l a h. s.indexed.each k l (held_before ids live gone k s.lives a) h } in
-    let fewer : IsStored vars ids (kept_live ids live gone) clauses lists leads = assumption (s, indexed, kept_long ids live gone s.lives) in
-    ⊎_elim (λ e. subst (λ bs. IsStored vars ids bs clauses lists leads) (sym e) fewer) (λ e. subst (λ bs. IsStored vars ids bs clauses lists leads) (sym e) s) new
+stored_let_go vars ids live live' clauses lists leads gone s new = grind (arith, held_before ids live gone, kept_long ids live gone s.lives)

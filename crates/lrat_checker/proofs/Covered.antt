@@ -1,6 +1,6 @@
 -- Held clauses of which every literal stands in a clause.
-use Rattle.std.proofs.Common.{◌≡◌, ℕ, zero, suc, ◌<◌, Bool, true, false, List, [], ◌∷◌, length, get_or, refl, sym, ap, ◌∙◌, ⊎_elim, arith, ◌||◌, Contains}
-use Rattle.std.{specs.List.list_any, proofs.lemmas.{Bool.{false≢true, cases_Bool, or_parts}, List.{get_or_default, Elements.All-contains}}}
+use Rattle.std.{proofs.lemmas.{Bool.{Decides.nat_tests, false≢true, cases_Bool, or_parts}, List.{get_or_default, Elements.All-contains}}, specs.List.list_any}
+use Rattle.std.proofs.Common.{◌≡◌, ℕ, suc, ◌<◌, Bool, true, false, List, [], ◌∷◌, length, get_or, refl, sym, ap, ◌∙◌, ⊎_elim, arith, ◌||◌, Contains}
 use Rattle.std.proofs.lemmas.{List.Sums.AllPass-from_list_all, Map.Views.Contains-from_any}
 use Rattle.cnf_formula.{specs.Literals.{LitValue, has_literal, is_superset, code_of}, proofs.Clauses.same_is}
 use Rattle.lrat_checker.specs.{inner.Leads.{signature_of, IsLead}, declared.leads.LedClause.LedClause, Stored.{list_at, led_as, IsLed, held_of, finds}}
@@ -11,9 +11,8 @@ use Rattle.proof_rules.specs.Held.{Entry}
 
 module _ (test : Entry → Bool) where
   pub any_by_place : (ids : List ℕ) (live : List Bool) (clauses : List (List LitValue)) (k : ℕ) → length live ≡ length ids → length clauses ≡ length ids → k < length ids → get_or live k false ≡ true → test (get_or ids k 0, get_or clauses k []) ≡ true → list_any test (held_of ids live clauses) ≡ true
-  any_by_place (x ∷ ids) (b ∷ live) (c ∷ clauses) zero l m w t f = rw (t, f) refl
   any_by_place (x ∷ ids) (b ∷ live) (c ∷ clauses) (suc k) l m w t f = grind (arith, any_by_place ids live clauses k (omega (arith, l)) (omega (arith, m)) (omega (arith, w)) t f)
-  any_by_place ids live clauses k l m w t f = absurd (omega (arith, w, l, m))
+  any_by_place ids live clauses k l m w t f = grind (arith, nat_tests)
 
   pub none_by_place : (ids : List ℕ) (live : List Bool) (clauses : List (List LitValue)) → ((k : ℕ) → k < length ids → get_or live k false ≡ true → test (get_or ids k 0, get_or clauses k []) ≡ false) → list_any test (held_of ids live clauses) ≡ false
   none_by_place (x ∷ ids) (b ∷ live) (c ∷ clauses) h = grind (arith, h 0 (omega arith), none_by_place ids live clauses (λ k w t. h (suc k) (omega (arith, w)) t))
@@ -32,9 +31,8 @@ some_passes test d (x ∷ xs) h =
     (cases_Bool (test x))
 
 none_passes : {A : Type 0} (test : A → Bool) (d : A) (xs : List A) → list_any test xs ≡ false → (j : ℕ) → j < length xs → test (get_or xs j d) ≡ false
-none_passes test d [] h j w = absurd (omega (arith, w))
-none_passes test d (x ∷ xs) h zero w = (or_parts (test x) (list_any test xs) h).0
 none_passes test d (x ∷ xs) h (suc j) w = none_passes test d xs (or_parts (test x) (list_any test xs) h).1 j (omega (arith, w))
+none_passes test d xs h j w = grind (arith, nat_tests)
 
 -- ---- what is held by a table
 

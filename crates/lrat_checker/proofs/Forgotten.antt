@@ -1,8 +1,8 @@
 -- A table of what is held and of the first clauses, place by place.
-use Rattle.std.proofs.Common.{◌≡◌, ℕ, ◌+◌, ◌-◌, ◌<◌, ◌≤◌, Bool, false, List, [], ◌∷◌, ◌++◌, length, take, get_or, sym, ap, ◌∙◌, ⊎_elim, arith, if◌then◌else◌}
-use Rattle.std.proofs.lemmas.{Bool.cases_lt, List.{take_more, take_all, take-append-le, length-take-le, length_push, append-nil}}
+use Rattle.std.proofs.Common.{◌≡◌, ℕ, ◌+◌, ◌-◌, ◌<◌, ◌≤◌, Bool, false, List, [], ◌∷◌, ◌++◌, length, take, get_or, sym, ap, ◌∙◌, arith, if◌then◌else◌}
+use Rattle.std.proofs.lemmas.List.{take_more, take_all, take-append-le, length-take-le, length_push, append-nil}
 use Rattle.cnf_formula.specs.Literals.{LitValue}
-use Rattle.lrat_checker.{specs.Stored.{TableValue, HasForgotten, held_of, last_of, Rises}, proofs.Placed.{held_push, rises_weakly}}
+use Rattle.lrat_checker.{specs.Stored.{TableValue, HasForgotten, held_of, last_of, Rises}, proofs.Placed.held_push}
 
 -- a table has what is held before a place, and the first so many clauses
 pub record IsPart (count first k : ℕ) (ids : List ℕ) (live : List Bool) (clauses : List (List LitValue)) (table : TableValue) : Type 0 where
@@ -43,44 +43,12 @@ module _ (vars first k : ℕ) (ids : List ℕ) (live : List Bool) (clauses : Lis
   room n a b = grind (arith, p.long, p.many)
 
   pub part_push : (b : Bool) → get_or live k false ≡ b → IsPart vars first (k + 1) ids live clauses (record { vars = table.vars; clauses = table.clauses ++ clause ∷ []; held = table.held ++ (if b then (number, clause) ∷ [] else []); last = number })
-  part_push b e = record {
-    vars = p.vars;
-    held = sym (more_held b e);
-    long = λ u. grind (arith, p.long, n);
-    many = λ u. grind (arith, p.long, p.many, n);
-    front = λ q a u. ⊎_elim (λ lt. let in' : q ≤ k = omega (arith, lt) in take-append-le q table.clauses (clause ∷ []) (room q a in') ∙ p.front q a in')
-        (λ ge. let at : q ≡ k + 1 = omega (arith, ge, u) in ap (λ r. take r (table.clauses ++ clause ∷ [])) at ∙ whole (omega (arith, at, a)) ∙ sym (ap (λ r. take r clauses) at)) (cases_lt q (k + 1));
-    below = λ j u v. rises k j (omega (arith, u)) v;
-    last = rises_weakly ids rises k (length ids - 1) (omega (arith, w)) (omega (arith, w));
-  }
-    where
-      n : length (table.clauses ++ clause ∷ []) ≡ length table.clauses + 1
-      n = length_push table.clauses clause
-
-      whole : k < first → take (k + 1) (table.clauses ++ clause ∷ []) ≡ take (k + 1) clauses
-      whole u =
-          let long = p.long (omega (arith, u)) in
-          take_all (k + 1) (table.clauses ++ clause ∷ []) (omega (arith, n, long))
-          ∙ ap (λ cs. cs ++ clause ∷ []) (sym (take_all k table.clauses (omega (arith, long))) ∙ p.front k (omega (arith, u)) (omega arith))
-          ∙ sym (take_more clauses k [] (omega (arith, w, m)))
+  part_push b e =
+      grind (arith, more_held b e, take-append-le, length_push table.clauses clause, take_all (k + 1) (table.clauses ++ clause ∷ []), take_all k table.clauses, take_more clauses k [])
 
   pub part_skip : get_or live k false ≡ false → first ≤ k → IsPart vars first (k + 1) ids live clauses table
-  part_skip e u = record {
-    vars = p.vars;
-    held = sym (more_held false e ∙ append-nil table.held);
-    long = λ v. absurd (omega (arith, u, v));
-    many = λ v. p.many u;
-    front = λ q a v. p.front q a (omega (arith, a, u));
-    below = λ j a v. p.below j (omega (arith, a)) v;
-    last = p.last;
-  }
+  part_skip e u = grind (arith, more_held false e, append-nil table.held)
 
 pub part_all : (vars first k : ℕ) (ids : List ℕ) (live : List Bool) (clauses : List (List LitValue)) (table : TableValue) → length live ≡ length ids → length clauses ≡ length ids → first ≤ length clauses → length ids ≤ k → IsPart vars first k ids live clauses table
     → HasForgotten first (record { vars = vars; clauses = clauses; held = held_of ids live clauses; last = last_of ids }) table
-part_all vars first k ids live clauses table l m w u p = record {
-  vars = p.vars;
-  many = p.many (omega (arith, w, u, m));
-  clauses = p.front first (omega arith) (omega (arith, w, u, m));
-  held = p.held ∙ ap (λ xs. held_of xs (take k live) (take k clauses)) (take_all k ids u) ∙ ap (λ bs. held_of ids bs (take k clauses)) (take_all k live (omega (arith, u, l))) ∙ ap (held_of ids live) (take_all k clauses (omega (arith, u, m)));
-  last = p.last;
-}
+part_all vars first k ids live clauses table l m w u p = grind (arith, take_all k ids u, take_all k live, take_all k clauses)

@@ -1,6 +1,6 @@
 -- Groups one after another.
-use Rattle.std.proofs.Common.{◌≡◌, ℕ, ◌+◌, ◌<◌, Bool, true, false, List, [], ◌∷◌, length, drop, get_or, Option, Some, None, refl, sym, ap, ◌∙◌, arith, ◌==◌, ◌||◌, ℤ, pos, negsuc, is_some, w64, SFits, of_z, to_z}
-use Rattle.std.{specs.{List.list_any, BTreeSet.{BTreeSet, contains}, Ordering.nat_cmp}, proofs.lemmas.{Bool.false≢true, Int.to_z-of_z, List.drop_more}}
+use Rattle.std.{proofs.lemmas.{Bool.Decides.nat_tests, Grind.common_steps}, specs.{List.list_any, BTreeSet.{BTreeSet, contains}, Ordering.nat_cmp}}
+use Rattle.std.proofs.Common.{◌≡◌, ℕ, ◌+◌, ◌<◌, Bool, true, false, List, [], ◌∷◌, length, drop, get_or, Option, Some, None, refl, ap, ◌∙◌, arith, ◌==◌, ◌||◌, ℤ, pos, negsuc, is_some, w64, SFits, of_z, to_z}
 use lib.IntN.{nat_abs}
 use Rattle.cnf_formula.specs.Literals.{LitValue}
 use Rattle.proof_rules.specs.{Held.{Entry, clause_at}, Judging.{Fault, group_fault, groups_fault}, Accepting.{Group, leading, hint_groups_from, groups_of}}
@@ -30,30 +30,10 @@ module _ (held : List Entry) (pivot : LitValue) (start : List LitValue) (hints :
   pub passes : (named named' : BTreeSet ℕ) (at n next : ℕ) (l : Left held pivot start hints named at) → drop at hints ≡ negsuc n ∷ drop (at + 1) hints
       → group_fault held pivot start l.earlier (group_at at (n + 1)) (clause_at held (n + 1)) ≡ None → ((k : ℕ) → contains nat_cmp named' k ≡ (n + 1 == k || contains nat_cmp named k))
       → hint_groups_from (at + 1) (drop (at + 1) hints) ≡ hint_groups_from next (drop next hints) → Left held pivot start hints named' next
-  passes named named' at n next l e f s g = record {
-    earlier = (n + 1) ∷ l.earlier;
-    same = λ k. s k ∙ ap (λ b. n + 1 == k || b) (l.same k);
-    fault = l.fault ∙ ap (groups_fault held pivot start l.earlier) (group_here at n e) ∙ rw (f, groups_fault) (ap (groups_fault held pivot start ((n + 1) ∷ l.earlier)) g);
-    names = λ id.
-        l.names id ∙ ap (λ gs. list_any (λ other. other == id) l.earlier || list_any (λ group. group.named == id) gs) (group_here at n e)
-        ∙ ap (λ gs. list_any (λ other. other == id) l.earlier || (n + 1 == id || list_any (λ group. group.named == id) gs)) g
-        ∙ swap (list_any (λ other. other == id) l.earlier) (n + 1 == id) (list_any (λ group. group.named == id) (hint_groups_from next (drop next hints)));
-  }
-
-  pub faulty_any : (named : BTreeSet ℕ) (at n : ℕ) (o : Option Fault) (l : Left held pivot start hints named at) → is_some o ≡ true → drop at hints ≡ negsuc n ∷ drop (at + 1) hints
-      → o ≡ group_fault held pivot start l.earlier (group_at at (n + 1)) (clause_at held (n + 1)) → o ≡ groups_fault held pivot start [] (groups_of hints)
-  faulty_any named at n (Some fault) l s e f = sym (faulty named at n fault l e (sym f))
-  faulty_any named at n None l s e f = absurd (false≢true s)
+  passes named named' at n next l e f s g = grind arith
 
 pub none_from : {A : Type 0} (o : Option A) → is_some o ≡ false → o ≡ None
-none_from None e = refl
-none_from (Some x) e = absurd (false≢true (sym e))
-
-negative_is : (z : ℤ) (rest rest' : List ℤ) (n : ℕ) → z ∷ rest ≡ negsuc n ∷ rest' → nat_abs z ≡ n + 1
-negative_is (pos k) rest rest' n e = absurd (cc)
-negative_is (negsuc k) rest rest' n e = let same : k ≡ n = cc in omega (arith, same)
+none_from o e = grind (arith, nat_tests)
 
 pub group_number : (hints : List ℤ) (at n id : ℕ) → at < length hints → SFits w64 (get_or hints at (pos 0)) → drop at hints ≡ negsuc n ∷ drop (at + 1) hints → id ≡ nat_abs (to_z w64 (of_z w64 (get_or hints at (pos 0)))) → id ≡ n + 1
-group_number hints at n id w f e h =
-    let z = get_or hints at (pos 0) in
-    h ∙ ap nat_abs (to_z-of_z w64 z f) ∙ negative_is z (drop (at + 1) hints) (drop (at + 1) hints) n (sym (drop_more hints at (pos 0) w) ∙ e)
+group_number hints at n id w f e h = grind (arith, common_steps)

@@ -1,6 +1,6 @@
 -- Marks on literals, counted in a table.
-use Rattle.std.proofs.Common.{◌≡◌, ℕ, ◌+◌, ◌-◌, ◌<◌, ◌≤◌, Bool, true, false, cond, List, [], ◌∷◌, ◌++◌, length, take, drop, get_or, set, refl, sym, ap, ◌∙◌, subst, arith, ◌||◌, nat_lt, All, reverse}
-use Rattle.std.proofs.lemmas.{Bool.{false≢true, cases_Bool, Decides.nat_tests}, List.{Folds.list_any-append, Elements.{All-head, All-tail, All-push}}}
+use Rattle.std.proofs.Common.{◌≡◌, ℕ, ◌+◌, ◌-◌, ◌≤◌, Bool, true, false, cond, List, [], ◌∷◌, ◌++◌, length, take, drop, get_or, set, refl, sym, ap, ◌∙◌, subst, arith, ◌||◌, nat_lt, All, reverse}
+use Rattle.std.proofs.lemmas.{Bool.{false≢true, Decides.nat_tests}, List.{Folds.list_any-append, Elements.{All-head, All-tail, All-push}}}
 use Rattle.std.proofs.lemmas.List.{length-set, get_or_append_left, get_or-set_same, get_or-set_other, length_push, reverse-append, length-reverse, take-append-drop, drop_at, length-drop, get_or_read}
 use Rattle.cnf_formula.specs.{Literals.{LitValue, same_literal, has_literal, code_of}, Formulas.IsAbout}
 use Rattle.cnf_formula.proofs.{Clauses.same_is, Codes.{same_code, code_within}}
@@ -40,11 +40,8 @@ apart : (l x : LitValue) → same_literal l x ≡ false → code_of l ≡ code_o
 apart l x f e = false≢true (sym f ∙ subst (λ y. same_literal l y ≡ true) (same_code l x e) (same_itself l))
 
 pub counted_more : (vars : ℕ) (counts : List ℕ) (marked : List LitValue) (x : LitValue) (n : ℕ) → IsCounted vars counts marked → IsAbout vars x → n ≡ get_or counts (code_of x) 0 → IsCounted vars (set counts (code_of x) (n + 1)) (marked ++ x ∷ [])
-counted_more vars counts marked x n c a e = record {
-  long = length-set counts (code_of x) (n + 1) ∙ c.long;
-  about = All-push (IsAbout vars) marked x c.about a;
-  each = λ l b. grind (arith, same_is l x, apart l x, code_within vars x a, c.each l b, c.long, times-push l x marked, get_or-set_same, get_or-set_other, cases_Bool (same_literal l x));
-}
+counted_more vars counts marked x n c a e =
+    grind (arith, length-set counts (code_of x) (n + 1), All-push (IsAbout vars) marked x c.about a, times-push, get_or-set_same, get_or-set_other)
 
 pub some_times : (marked : List LitValue) (x : LitValue) → times x (marked ++ x ∷ []) ≡ times x marked + 1
 some_times marked x = rw (same_itself x) at (times-push x x marked)
@@ -55,16 +52,7 @@ about_last vars (m ∷ ms) x h = about_last vars ms x (All-tail (IsAbout vars) m
 
 pub counted_fewer : (vars : ℕ) (counts : List ℕ) (marked : List LitValue) (x : LitValue) (n : ℕ) → IsCounted vars counts (marked ++ x ∷ []) → n ≡ get_or counts (code_of x) 0 → IsCounted vars (set counts (code_of x) (n - 1)) marked
 counted_fewer vars counts marked x n c e =
-    let last : length marked < length (marked ++ x ∷ []) = omega (arith, length_push marked x) in
-    let a : IsAbout vars x = about_last vars marked x c.about in
-    record {
-      long = length-set counts (code_of x) (n - 1) ∙ c.long;
-      about = about_front marked c.about;
-      each = λ l b. grind (arith, same_is l x, apart l x, code_within vars x a, c.each l b, c.long, times-push l x marked, get_or-set_same, get_or-set_other, cases_Bool (same_literal l x));
-    }
-  where
-    about_front : (ms : List LitValue) → All (IsAbout vars) (ms ++ x ∷ []) → All (IsAbout vars) ms
-    about_front ms h = λ k d w. subst (IsAbout vars) (get_or_append_left ms (x ∷ []) d k w) (h k d (omega (arith, w, length_push ms x)))
+    grind (arith, length_push marked x, about_last vars marked x c.about, length-set counts (code_of x) (n - 1), same_is, apart, code_within vars x, times-push, get_or-set_same, get_or-set_other, get_or_append_left, length_push)
 
 -- ---- marks are taken back
 
@@ -77,9 +65,7 @@ reverse-take k xs w =
 -- ---- what is read
 
 pub at_code : (vars : ℕ) (counts : List ℕ) (marked : List LitValue) (l : LitValue) (code n : ℕ) → IsCounted vars counts marked → IsAbout vars l → code ≡ code_of l → n ≡ get_or counts code n → n ≡ get_or counts (code_of l) 0
-at_code vars counts marked l code n c a e h =
-    let w = code_within vars l a in
-    get_or_read counts code n (omega (arith, w, c.long, e)) h 0 ∙ ap (λ k. get_or counts k 0) e
+at_code vars counts marked l code n c a e h = grind (arith, get_or_read counts code n)
 
 pub read_times : (vars : ℕ) (counts : List ℕ) (marked : List LitValue) (l : LitValue) (code n : ℕ) → IsCounted vars counts marked → IsAbout vars l → code ≡ code_of l → n ≡ get_or counts code n → n ≡ times l marked
 read_times vars counts marked l code n c a e h = at_code vars counts marked l code n c a e h ∙ c.each l a

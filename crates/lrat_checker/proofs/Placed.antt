@@ -1,6 +1,6 @@
 -- Clauses by their places, and what is held.
-use Rattle.std.proofs.Common.{◌≡◌, ℕ, zero, suc, ◌+◌, ◌-◌, ◌<◌, ◌≤◌, Bool, true, false, List, [], ◌∷◌, ◌++◌, length, get_or, Some, None, refl, sym, ap, ◌∙◌, ⊎_elim, arith, ◌≢◌, ◌&&◌, if◌then◌else◌, All}
-use Rattle.std.{specs.List.{list_all, enumerate_from}, proofs.lemmas.Bool.{false≢true, cases_Bool, cases_lt, Decides.nat_tests}}
+use Rattle.std.{proofs.lemmas.{Grind.common_steps, Bool.{false≢true, cases_Bool, cases_lt, Decides.nat_tests}}, specs.List.{list_all, enumerate_from}}
+use Rattle.std.proofs.Common.{◌≡◌, ℕ, zero, suc, ◌+◌, ◌-◌, ◌<◌, ◌≤◌, Bool, true, false, List, [], ◌∷◌, ◌++◌, length, get_or, Some, None, refl, sym, ap, ⊎_elim, arith, ◌≢◌, ◌&&◌, if◌then◌else◌, All}
 use Rattle.std.proofs.lemmas.List.{get_or_default, get_or_past, length_push, get_or_append_left, get_or_push, Elements.{All-head, All-tail}}
 use Rattle.cnf_formula.specs.Literals.{LitValue}
 use Rattle.proof_rules.specs.Held.{Entry, clause_at}
@@ -49,15 +49,12 @@ held_at ids live clauses place r l m w = absurd (omega (arith, w, l, m))
 
 pub held_push : (ids : List ℕ) (live : List Bool) (clauses : List (List LitValue)) (id : ℕ) (clause : List LitValue) (held : Bool) → length live ≡ length ids → length clauses ≡ length ids
     → held_of (ids ++ id ∷ []) (live ++ held ∷ []) (clauses ++ clause ∷ []) ≡ held_of ids live clauses ++ (if held then (id, clause) ∷ [] else [])
-held_push [] [] [] id clause held l m = grind arith
 held_push (x ∷ ids) (b ∷ live) (c ∷ clauses) id clause held l m = grind (arith, held_push ids live clauses id clause held (omega (arith, l)) (omega (arith, m)))
-held_push ids live clauses id clause held l m = absurd (omega (arith, l, m))
+held_push ids live clauses id clause held l m = grind (arith, common_steps)
 
 pub enumerate-push : (n : ℕ) (clauses : List (List LitValue)) (clause : List LitValue) → enumerate_from n (clauses ++ clause ∷ []) ≡ enumerate_from n clauses ++ (n + length clauses, clause) ∷ []
 enumerate-push n [] clause = let e : n ≡ n + 0 = omega arith in ap (λ k. (k, clause) ∷ []) e
-enumerate-push n (c ∷ clauses) clause =
-    let e : n + 1 + length clauses ≡ n + length (c ∷ clauses) = omega arith in
-    ap (λ es. (n, c) ∷ es) (enumerate-push (n + 1) clauses clause ∙ ap (λ k. enumerate_from (n + 1) clauses ++ (k, clause) ∷ []) e)
+enumerate-push n (c ∷ clauses) clause = grind (arith, enumerate-push (n + 1) clauses clause)
 
 -- ---- a test of all that is held
 
@@ -67,9 +64,8 @@ module _ (test : Entry → Bool) where
   all_by_place ids live clauses h = refl
 
   pub not_all : (ids : List ℕ) (live : List Bool) (clauses : List (List LitValue)) (k : ℕ) → length live ≡ length ids → length clauses ≡ length ids → k < length ids → get_or live k false ≡ true → test (get_or ids k 0, get_or clauses k []) ≡ false → list_all test (held_of ids live clauses) ≡ false
-  not_all (x ∷ ids) (b ∷ live) (c ∷ clauses) zero l m w t f = rw (t, f) refl
   not_all (x ∷ ids) (b ∷ live) (c ∷ clauses) (suc k) l m w t f = grind (arith, not_all ids live clauses k (omega (arith, l)) (omega (arith, m)) (omega (arith, w)) t f)
-  not_all ids live clauses k l m w t f = absurd (omega (arith, w, l, m))
+  not_all ids live clauses k l m w t f = grind (arith, nat_tests)
 
 some_fails_here : (test : ℕ → Bool) (x : ℕ) (xs : List ℕ) → (test x && list_all test xs) ≡ false → test x ≡ true → list_all test xs ≡ false
 some_fails_here test x xs h t = grind arith

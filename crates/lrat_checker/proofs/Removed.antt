@@ -1,7 +1,7 @@
 -- Clauses that are let go, and held again.
-use Rattle.std.proofs.Common.{◌≡◌, ℕ, zero, suc, ◌+◌, ◌<◌, Bool, true, false, List, [], ◌∷◌, ◌++◌, length, take, drop, get_or, set, refl, sym, ap, ◌∙◌, inl, inr, ⊎_elim, arith, ◌⊎◌, ◌≢◌, ◌==◌, ◌&&◌, ◌||◌, not, filter}
-use Rattle.std.{specs.List.{list_any, list_all}, proofs.lemmas.{Bool.Decides.nat_tests, List.Elements.{All-head, All-tail}}}
-use Rattle.std.proofs.lemmas.Bool.{false≢true, eqb-true, cases_eq, and_cases, and_parts, not-true, not-false}
+use Rattle.std.proofs.lemmas.Grind.{common_steps}
+use Rattle.std.proofs.Common.{◌≡◌, ℕ, zero, suc, ◌+◌, ◌<◌, Bool, true, false, List, [], ◌∷◌, ◌++◌, length, take, get_or, set, refl, sym, ap, ◌∙◌, arith, ◌⊎◌, ◌≢◌, ◌==◌, ◌&&◌, ◌||◌, not, filter}
+use Rattle.std.{specs.List.{list_any, list_all}, proofs.lemmas.{Bool.{Decides.nat_tests, false≢true, eqb-true, cases_eq}, List.Elements.{All-head, All-tail}}}
 use Rattle.std.proofs.lemmas.List.{length-set, get_or-set_same, get_or-set_other, get_or_default, same_lists, drop_more, take_more, take-append-drop}
 use Rattle.cnf_formula.specs.Literals.{LitValue}
 use Rattle.proof_rules.specs.Testing.{has_number_twice, are_held}
@@ -22,9 +22,8 @@ live_at (x ∷ ids) (b ∷ live) (suc place) r l w = grind (arith, nat_tests, he
 live_at ids live place r l w = absurd (omega (arith, w, l))
 
 pub held_live : (ids : List ℕ) (live : List Bool) (clauses : List (List LitValue)) (id : ℕ) → length live ≡ length ids → length clauses ≡ length ids → list_any (λ entry. entry.0 == id) (held_of ids live clauses) ≡ is_live ids live id
-held_live [] live clauses id l m = refl
 held_live (x ∷ ids) (b ∷ live) (c ∷ clauses) id l m = grind (arith, held_live ids live clauses id (omega (arith, l)) (omega (arith, m)))
-held_live ids live clauses id l m = absurd (omega (arith, l, m))
+held_live ids live clauses id l m = grind (arith, nat_tests)
 
 pub all_held_live : (ids : List ℕ) (live : List Bool) (clauses : List (List LitValue)) (gone : List ℕ) → length live ≡ length ids → length clauses ≡ length ids → are_held (held_of ids live clauses) gone ≡ list_all (λ id. is_live ids live id) gone
 all_held_live ids live clauses [] l m = refl
@@ -33,25 +32,21 @@ all_held_live ids live clauses (g ∷ gone) l m = rw (held_live ids live clauses
 -- ---- what stays
 
 pub kept_long : (ids : List ℕ) (live : List Bool) (gone : List ℕ) → length live ≡ length ids → length (kept_live ids live gone) ≡ length ids
-kept_long [] live gone l = refl
-kept_long (x ∷ ids) [] gone l = absurd (omega (arith, l))
 kept_long (x ∷ ids) (b ∷ live) gone l = ap suc (kept_long ids live gone (omega (arith, l)))
+kept_long ids live gone l = grind (arith, nat_tests)
 
 pub kept_at : (ids : List ℕ) (live : List Bool) (gone : List ℕ) (k : ℕ) → length live ≡ length ids → k < length ids → get_or (kept_live ids live gone) k false ≡ (get_or live k false && not (among gone (get_or ids k 0)))
-kept_at (x ∷ ids) (b ∷ live) gone zero l w = refl
 kept_at (x ∷ ids) (b ∷ live) gone (suc k) l w = kept_at ids live gone k (omega (arith, l)) (omega (arith, w))
-kept_at ids live gone k l w = absurd (omega (arith, w, l))
+kept_at ids live gone k l w = grind (arith, nat_tests)
 
 pub kept_none : (ids : List ℕ) (live : List Bool) → length live ≡ length ids → kept_live ids live [] ≡ live
-kept_none [] [] l = refl
 kept_none (x ∷ ids) (b ∷ live) l = grind (arith, kept_none ids live (omega (arith, l)))
-kept_none ids live l = absurd (omega (arith, l))
+kept_none ids live l = grind (arith, common_steps)
 
 pub held_kept : (ids : List ℕ) (live : List Bool) (clauses : List (List LitValue)) (gone : List ℕ) → length live ≡ length ids → length clauses ≡ length ids
     → held_of ids (kept_live ids live gone) clauses ≡ filter (λ entry. not (list_any (λ id. id == entry.0) gone)) (held_of ids live clauses)
-held_kept [] live clauses gone l m = refl
 held_kept (x ∷ ids) (b ∷ live) (c ∷ clauses) gone l m = grind (arith, held_kept ids live clauses gone (omega (arith, l)) (omega (arith, m)))
-held_kept ids live clauses gone l m = absurd (omega (arith, l, m))
+held_kept ids live clauses gone l m = grind (arith, nat_tests)
 
 -- ---- one more is let go
 
@@ -110,16 +105,7 @@ pub record Goes (ids : List ℕ) (live now : List Bool) (gone : List ℕ) (place
 pub one_goes : (ids : List ℕ) (live now : List Bool) (gone : List ℕ) (place k : ℕ) → Rises ids → length live ≡ length ids → k < length gone → place < length ids → get_or ids place 0 ≡ get_or gone k 0
     → now ≡ kept_live ids live (take k gone) → get_or now place false ≡ true → list_all (λ id. is_live ids live id) (take k gone) ≡ true → has_number_twice (take k gone) ≡ false → Goes ids live now gone place k
 one_goes ids live now gone place k r l w p at is t held once =
-    let g = get_or gone k 0 in
-    let kept = kept_live ids live (take k gone) in
-    let more = take_more gone k 0 w in
-    let here : is_live ids kept g ≡ true = ap (is_live ids kept) (sym at) ∙ live_at ids kept place r (kept_long ids live (take k gone) l) p ∙ ap (λ bs. get_or bs place false) (sym is) ∙ t in
-    let parts = and_parts (is_live ids live g) (not (among (take k gone) g)) (sym (live_kept ids live (take k gone) g) ∙ here) in
-    record {
-      lives = ap (λ bs. set bs place false) is ∙ goes ids live (take k gone) place r l p ∙ ap (λ y. kept_live ids live (take k gone ++ y ∷ [])) at ∙ ap (kept_live ids live) (sym more);
-      held = ap (list_all (λ id. is_live ids live id)) more ∙ all_push (λ id. is_live ids live id) (take k gone) g held parts.0;
-      once = ap has_number_twice more ∙ twice_push (take k gone) g once (not-true (among (take k gone) g) parts.1);
-    }
+    grind (arith, take_more gone k 0 w, live_at ids, kept_long ids live (take k gone) l, live_kept ids live (take k gone), goes ids live (take k gone) place r l p, all_push, twice_push (take k gone))
 
 refused : (a b : Bool) → (a ≡ false) ⊎ (b ≡ true) → (a && not b) ≡ false
 refused a b h = grind arith
@@ -127,15 +113,7 @@ refused a b h = grind arith
 pub one_stays : (ids : List ℕ) (live now : List Bool) (gone : List ℕ) (k : ℕ) → k < length gone → now ≡ kept_live ids live (take k gone) → is_live ids now (get_or gone k 0) ≡ false
     → (list_all (λ id. is_live ids live id) gone && not (has_number_twice gone)) ≡ false
 one_stays ids live now gone k w is f =
-    let g = get_or gone k 0 in
-    let before = take k gone in
-    let more = drop (k + 1) gone in
-    let split : gone ≡ before ++ g ∷ more = sym (take-append-drop k gone) ∙ ap (λ ys. before ++ ys) (drop_more gone k 0 w) in
-    let no : (is_live ids live g && not (among before g)) ≡ false = sym (live_kept ids live before g) ∙ ap (λ bs. is_live ids bs g) (sym is) ∙ f in
-    refused (list_all (λ id. is_live ids live id) gone) (has_number_twice gone)
-    (⊎_elim (λ e. inl (ap (list_all (λ id. is_live ids live id)) split ∙ not_all_live (λ id. is_live ids live id) before g more e))
-    (λ e. inr (ap has_number_twice split ∙ twice_again before g more (not-false (among before g) e)))
-    (and_cases (is_live ids live g) (not (among before g)) no))
+    grind (arith, take-append-drop k gone, drop_more gone k 0 w, live_kept ids live, not_all_live, twice_again)
 
 -- ---- clauses are held again
 
@@ -148,9 +126,6 @@ back_first ids live before gone n e k w f = grind (arith, kept_at ids before gon
 pub back_one : (ids : List ℕ) (live before : List Bool) (rest : List ℕ) (g place : ℕ) → Rises ids → length live ≡ length ids → length before ≡ length ids → place < length ids → get_or ids place 0 ≡ g → is_live ids before g ≡ true
     → Back ids live before (g ∷ rest) → Back ids (set live place true) before rest
 back_one ids live before rest g place r l m p at t b k w f = grind (arith, nat_tests, live_at ids before place r m p, places_apart ids r place k p w, b k w, get_or-set_same, get_or-set_other, cases_eq k place)
-
-pub back_none : (ids : List ℕ) (live before : List Bool) (rest : List ℕ) (g : ℕ) → Others g ids → Back ids live before (g ∷ rest) → Back ids live before rest
-back_none ids live before rest g o b k w f = grind (arith, nat_tests, b k w, o k 0 w)
 
 pub back_all : (ids : List ℕ) (live before : List Bool) → length live ≡ length ids → length before ≡ length ids → Back ids live before [] → live ≡ before
 back_all ids live before l m b = same_lists live before (l ∙ sym m) (λ k d w. grind (arith, b k, get_or_default))

@@ -1,19 +1,15 @@
 -- Signatures of clauses: one that stands in another has no bit that the other lacks.
-use Rattle.std.proofs.Common.{◌≡◌, ℕ, ◌+◌, ◌<◌, ◌≤◌, true, List, [], ◌∷◌, ◌++◌, length, take, get_or, sym, ap, ◌∙◌, subst, ⊎_elim, arith, max, bit_or}
-use Rattle.std.{specs.Int.{bit_at, Bits.{or_zero_r, or_zero_l}}, proofs.Math.Nat.{le_trans, le-max_left, le-max_right, max-le, max-eq_right}}
-use Rattle.std.proofs.lemmas.{Bool.{false≢true, eq-eqb, and_parts, or_cases}, List.take_more, Nat.Bits.{bit_at_or, bit_at-zero, same_from_bits}}
-use Rattle.cnf_formula.{specs.Literals.{LitValue, same_literal, has_literal, is_superset}, proofs.Clauses.same_is}
+use Rattle.std.proofs.Common.{◌≡◌, ℕ, ◌+◌, ◌<◌, ◌≤◌, true, List, [], ◌∷◌, ◌++◌, length, take, get_or, sym, ap, ◌∙◌, subst, arith, bit_or}
+use Rattle.std.{specs.Int.{bit_at, Bits.{or_zero_r, or_zero_l}}, proofs.Math.Nat.max-eq_right}
+use Rattle.std.proofs.lemmas.{Bool.{false≢true, eq-eqb}, List.take_more, Nat.Bits.{bit_at_or, bit_at-zero, same_from_bits}}
+use Rattle.cnf_formula.specs.Literals.{LitValue, has_literal, is_superset}
 use Rattle.lrat_checker.specs.inner.Leads.{bit_of, signature_of, has_bits_within}
 
 -- ---- one literal more
 
-max_assoc : (a b c : ℕ) → max (max a b) c ≡ max a (max b c)
-max_assoc a b c = omega arith
-
 or_assoc : (a b c : ℕ) → bit_or (bit_or a b) c ≡ bit_or a (bit_or b c)
-or_assoc a b c = same_from_bits (bit_or (bit_or a b) c) (bit_or a (bit_or b c))
-    (λ i. bit_at_or (bit_or a b) c i ∙ ap (λ n. max n (bit_at c i)) (bit_at_or a b i) ∙ max_assoc (bit_at a i) (bit_at b i) (bit_at c i)
-    ∙ ap (max (bit_at a i)) (sym (bit_at_or b c i)) ∙ sym (bit_at_or a (bit_or b c) i))
+or_assoc a b c =
+    grind (arith, same_from_bits (bit_or (bit_or a b) c) (bit_or a (bit_or b c)), bit_at_or (bit_or a b) c, bit_at_or a b, bit_at_or b c, bit_at_or a (bit_or b c))
 
 signature-push : (xs : List LitValue) (x : LitValue) → signature_of (xs ++ x ∷ []) ≡ bit_or (signature_of xs) (bit_of x)
 signature-push [] x = or_zero_r (bit_of x) ∙ sym (or_zero_l (bit_of x))
@@ -26,17 +22,11 @@ one_bit_more xs k x w is = sym (ap signature_of (take_more xs k x w ∙ ap (λ y
 
 bits_of_literal : (ys : List LitValue) (x : LitValue) → has_literal ys x ≡ true → (i : ℕ) → bit_at (bit_of x) i ≤ bit_at (signature_of ys) i
 bits_of_literal [] x h i = absurd (false≢true h)
-bits_of_literal (y ∷ ys) x h i = subst (λ n. bit_at (bit_of x) i ≤ n) (sym (bit_at_or (bit_of y) (signature_of ys) i))
-    (⊎_elim
-    (λ here. subst (λ z. bit_at (bit_of x) i ≤ max (bit_at (bit_of z) i) (bit_at (signature_of ys) i)) (same_is x y here) (le-max_left (bit_at (bit_of x) i) (bit_at (signature_of ys) i)))
-    (λ later. le_trans (bits_of_literal ys x later i) (le-max_right (bit_at (bit_of y) i) (bit_at (signature_of ys) i)))
-    (or_cases (same_literal x y) (has_literal ys x) h))
+bits_of_literal (y ∷ ys) x h i = grind (arith, bit_at_or (bit_of y) (signature_of ys) i, bits_of_literal ys x)
 
 bits_of_clause : (ys xs : List LitValue) → is_superset ys xs ≡ true → (i : ℕ) → bit_at (signature_of xs) i ≤ bit_at (signature_of ys) i
 bits_of_clause ys [] h i = subst (λ n. n ≤ bit_at (signature_of ys) i) (sym (bit_at-zero i)) (omega arith)
-bits_of_clause ys (x ∷ xs) h i =
-    let parts = and_parts (has_literal ys x) (is_superset ys xs) h in
-    subst (λ n. n ≤ bit_at (signature_of ys) i) (sym (bit_at_or (bit_of x) (signature_of xs) i)) (max-le (bits_of_literal ys x parts.0 i) (bits_of_clause ys xs parts.1 i))
+bits_of_clause ys (x ∷ xs) h i = grind (arith, bit_at_or (bit_of x) (signature_of xs) i, bits_of_literal ys x, bits_of_clause ys xs)
 
 pub signature_within : (ys xs : List LitValue) → is_superset ys xs ≡ true → has_bits_within (signature_of xs) (signature_of ys) ≡ true
 signature_within ys xs h =

@@ -1,11 +1,10 @@
 -- One hint after another.
-use Rattle.std.proofs.Common.{◌≡◌, ℕ, ◌+◌, ◌<◌, true, false, List, [], ◌∷◌, ◌++◌, length, drop, get_or, Option, Some, None, Result, Ok, Err, refl, sym, ap, ◌∙◌, subst, ⊎_elim, append_assoc, if◌then◌else◌, ℤ, pos, negsuc, All, w64, SFits, of_z, to_z}
-use Rattle.std.{specs.List.list_all, proofs.lemmas.{Int.to_z-of_z, Bool.{false≢true, or_cases}, List.{drop_more, Elements.{All-head, All-tail}}}}
+use Rattle.std.proofs.Common.{arith, ◌≡◌, ℕ, ◌+◌, ◌<◌, true, false, List, [], ◌∷◌, ◌++◌, length, drop, get_or, Option, Some, None, Result, Ok, Err, refl, sym, ap, ◌∙◌, subst, ⊎_elim, append_assoc, if◌then◌else◌, ℤ, pos, All, w64, SFits, of_z, to_z}
+use Rattle.std.{proofs.lemmas.{Grind.common_steps, Bool.{false≢true, or_cases}, List.Elements.{All-head, All-tail}}, specs.List.list_all}
 use lib.{IntN.nat_abs, Signed.lt_z}
 use Rattle.cnf_formula.{specs.{Literals.{LitValue, same_literal, has_literal, negation}, Formulas.IsAbout}, proofs.Clauses.same_is}
 use Rattle.proof_rules.specs.{declared.verdict.LineCode.{LineCode, TheVariants.HintNotUnit}, Held.{Entry, clause_at, open_literals}, Judging.{given_by, led_to}}
-use Rattle.proof_rules.specs.Accepting.{leading}
-use Rattle.proof_rules.proofs.Taking.{gives_some, first_open}
+use Rattle.proof_rules.{specs.Accepting.leading, proofs.Taking.first_open}
 use Rattle.lrat_checker.specs.inner.Marking.{Extends}
 
 -- ---- the literals of a clause
@@ -39,18 +38,9 @@ stands_about vars (x ∷ clause) l a h =
     (or_cases (same_literal l x) (has_literal clause l) h)
 
 pub given_about : (vars : ℕ) (falses clause : List LitValue) (l : LitValue) → All (IsAbout vars) clause → given_by (open_literals falses clause) ≡ Ok (Some l) → IsAbout vars l
-given_about vars falses clause l a h =
-    let s = gives_some (open_literals falses clause) l h in
-    stands_about vars clause l a (first_open falses clause l s.0 s.1).0
+given_about vars falses clause l a h = grind (arith, stands_about vars clause l a, first_open falses clause l)
 
 -- ---- a hint that is read
 
-hint_is : (z : ℤ) (id : ℕ) → lt_z z (pos 0) ≡ false → id ≡ nat_abs z → z ≡ pos id
-hint_is (pos n) id h e = ap pos (sym e)
-hint_is (negsuc n) id h e = absurd (cc)
-
 pub hint_here : (hints : List ℤ) (place id : ℕ) → place < length hints → SFits w64 (get_or hints place (pos 0)) → lt_z (to_z w64 (of_z w64 (get_or hints place (pos 0)))) (pos 0) ≡ false → id ≡ nat_abs (to_z w64 (of_z w64 (get_or hints place (pos 0)))) → drop place hints ≡ pos id ∷ drop (place + 1) hints
-hint_here hints place id w f h e =
-    let z = get_or hints place (pos 0) in
-    let same : to_z w64 (of_z w64 z) ≡ z = to_z-of_z w64 z f in
-    drop_more hints place (pos 0) w ∙ ap (λ y. y ∷ drop (place + 1) hints) (hint_is z id (ap (λ y. lt_z y (pos 0)) (sym same) ∙ h) (e ∙ ap nat_abs same))
+hint_here hints place id w f h e = grind (arith, common_steps)

@@ -1,6 +1,6 @@
 -- The tokens of bytes, by the spaces and tabs at their front.
-use Rattle.std.proofs.Common.{◌≡◌, ℕ, ◌+◌, ◌-◌, ◌<◌, ◌≤◌, Bool, true, false, List, [], ◌∷◌, ◌++◌, length, get_or, drop, slice_range, ◌≢◌, refl, sym, ap, ◌∙◌, arith, ◌==◌, ◌||◌, nat_lt, filter}
-use Rattle.std.{specs.List.All, proofs.lemmas.{Bool.lt-ltb, List.{append-nil, length-drop, length-take, get_or-take, get_or-drop, take_rest, Folds.drop_split}}}
+use Rattle.std.{proofs.lemmas.{Grind.common_steps, List.{length-drop, length-take, get_or-take, get_or-drop, take_rest, Folds.drop_split}}, specs.List.All}
+use Rattle.std.proofs.Common.{◌≡◌, ℕ, ◌+◌, ◌-◌, ◌<◌, ◌≤◌, Bool, true, false, List, ◌∷◌, ◌++◌, length, get_or, drop, slice_range, ◌≢◌, sym, ap, ◌∙◌, arith, ◌==◌, ◌||◌, nat_lt, filter}
 use Rattle.std.proofs.lemmas.List.{Elements.All-from_get_or, Splits.{slice_split_at, slice_split_none, slice_split-cons_yes}}
 use Rattle.lrat_text.specs.Tokens.{Token, placed_from, tokens_from}
 
@@ -23,14 +23,7 @@ AreApart word = All (λ b. is_blank b ≡ false) word
 
 -- a word that a blank ends, or nothing
 word_first : (place : ℕ) (word rest : List ℕ) → 0 < length word → AreApart word → (0 < length rest → is_blank (get_or rest 0 0) ≡ true) → tokens_from place (word ++ rest) ≡ token place word ∷ tokens_from (place + length word) rest
-word_first place word [] some apart ends =
-    let kept : nat_lt 0 (length word) ≡ true = lt-ltb 0 (length word) some in
-    ap (tokens_from place) (append-nil word) ∙ ap (λ pieces. filled (placed_from place pieces)) (slice_split_none is_blank word apart) ∙ rw kept refl
-word_first place word (b ∷ rest) some apart ends =
-    let kept : nat_lt 0 (length word) ≡ true = lt-ltb 0 (length word) some in
-    let blank : is_blank b ≡ true = ends (omega arith) in
-    ap (λ pieces. filled (placed_from place pieces)) (slice_split_at is_blank word b rest apart blank)
-    ∙ rw kept (ap (λ ts. token place word ∷ ts) (sym (blank_first (place + length word) b rest blank)))
+word_first place word rest some apart ends = grind (arith, common_steps, slice_split_none is_blank word apart, slice_split_at, blank_first)
 
 -- the token between blanks
 pub token_between : (bytes : List ℕ) (start end place : ℕ) → start ≤ end → start ≢ end → end ≤ length bytes → tokens_from place bytes ≡ tokens_from (place + start) (drop start bytes)

@@ -1,6 +1,6 @@
 -- What is said does not depend on how the bytes were cut.
+use Rattle.std.proofs.lemmas.{Bool.{false≢true, cases_Bool}, Grind.common_steps, List.{drop-drop, drop-append-le, length-drop}}
 use Rattle.std.proofs.Common.{◌≡◌, ℕ, suc, ◌+◌, ◌-◌, ◌≤◌, true, false, List, [], ◌∷◌, ◌++◌, length, drop, Option, Some, None, Result, Ok, Err, refl, sym, ap, ◌∙◌, subst, ⊎_elim, arith, ◌==◌}
-use Rattle.std.proofs.lemmas.{Bool.{false≢true, cases_Bool}, List.{drop-drop, drop-append-le, length-drop}}
 use Rattle.text_lines.specs.Text.{Row, onto_row, rows_of}
 use Rattle.cnf_formula.specs.declared.line.LratLine.{LratLine}
 use Rattle.lrat_text.specs.declared.fault.LratTextFault.{LratTextFault}
@@ -55,9 +55,7 @@ part_says : (place : ℕ) (row : Row) (rows : List Row) → row.whole ≡ false 
 part_says place row rows f = rw f refl
 
 same_said : (r : Option (Result LratLine LratTextFault)) (size : ℕ) (later other : Said) → (SaysNothing (said_at r size later) → ⊥) → ((SaysNothing later → ⊥) → other ≡ later) → said_at r size other ≡ said_at r size later
-same_said None size later other ne h = ap (said_at None size) (h ne)
-same_said (Some (Ok line)) size later other ne h = refl
-same_said (Some (Err fault)) size later other ne h = refl
+same_said r size later other ne h = grind arith
 
 -- what was said to some lines is said whatever follows
 said_more : (rows : List Row) (bytes piece : List ℕ) (place : ℕ) → rows_of bytes ≡ rows → (SaysNothing (said_by false place rows) → ⊥) → said_by false place (rows_of (bytes ++ piece)) ≡ said_by false place rows
@@ -83,72 +81,27 @@ record Passed (bytes piece : List ℕ) (place taken : ℕ) : Type 0 where
   same : said_by false place (rows_of (bytes ++ piece)) ≡ behind_bytes taken (said_by false (place + taken) (rows_of (drop taken bytes ++ piece)))
 
 passed_none : (bytes piece : List ℕ) (place : ℕ) → Passed bytes piece place 0
-passed_none bytes piece place = record {
-  within = omega arith;
-  same =
-      let said = said_by false place (rows_of (bytes ++ piece)) in
-      let zero_more : said ≡ behind_bytes 0 said = let e : said.taken ≡ 0 + said.taken = omega arith in ap (λ n. record { answer = said.answer; taken = n }) e in
-      let here : place ≡ place + 0 = omega arith in
-      zero_more ∙ ap (λ p. behind_bytes 0 (said_by false p (rows_of (bytes ++ piece)))) here;
-}
+passed_none bytes piece place = grind (arith, common_steps)
 
 passed_at : (r : Option (Result LratLine LratTextFault)) (size : ℕ) (later : Said) → SaysNothing (said_at r size later) → (r ≡ None) × SaysNothing later
-passed_at None size later n = (refl, n)
-passed_at (Some (Ok line)) size later n = absurd (cc)
-passed_at (Some (Err fault)) size later n = absurd (cc)
+passed_at r size later n = grind arith
 
 -- lines that say nothing may be taken off before more bytes come
 passed : (rows : List Row) (bytes piece : List ℕ) (place : ℕ) → rows_of bytes ≡ rows → SaysNothing (said_by false place rows) → Passed bytes piece place (said_by false place rows).taken
 passed [] bytes piece place e n = passed_none bytes piece place
 passed (row ∷ rows) bytes piece place e n =
-    ⊎_elim (λ w.
-    let f = first_of bytes piece row rows e w in
-    let size = size_of row in
-    let next = place + size in
-    let said = whole_says place row rows w in
-    let p = passed_at (row_says place row) size (said_by false next rows) (sym (ap (λ s. s.answer) said) ∙ n) in
-    let k = (said_by false next rows).taken in
-    let later = passed rows f.rest piece next (sym f.rows_are) p.1 in
-    let taken : (said_by false place (row ∷ rows)).taken ≡ size + k = ap (λ s. s.taken) (said ∙ ap (λ r. said_at r size (said_by false next rows)) p.0) in
-    let left : drop (size + k) bytes ≡ drop k f.rest = sym (drop-drop k size bytes) ∙ ap (drop k) f.behind in
-    let room : k ≤ length f.rest = later.within in
-    let rest_length : length f.rest ≡ length bytes - size = ap length (sym f.behind) ∙ length-drop size bytes in
-    let all : Passed bytes piece place (size + k) = record {
-      within = omega (arith, room, rest_length, f.within);
-      same =
-          let last : List ℕ → ℕ → Said = λ tail at. said_by false at (rows_of (tail ++ piece)) in
-          let told = last (drop k f.rest) (next + k) in
-          let sum : size + (k + told.taken) ≡ size + k + told.taken = omega arith in
-          let at : next + k ≡ place + (size + k) = omega arith in
-          ap (said_by false place) f.more ∙ whole_says place row (rows_of (f.rest ++ piece)) w
-          ∙ ap (λ r. said_at r size (said_by false next (rows_of (f.rest ++ piece)))) p.0
-          ∙ ap (said_at None size) later.same
-          ∙ ap (λ t. record { answer = told.answer; taken = t }) sum
-          ∙ ap (λ p. behind_bytes (size + k) (last (drop k f.rest) p)) at
-          ∙ ap (λ tail. behind_bytes (size + k) (last tail (place + (size + k)))) (sym left);
-    } in
-    subst (Passed bytes piece place) (sym taken) all)
-    (λ p. let none : 0 ≡ (said_by false place (row ∷ rows)).taken = sym (ap (λ s. s.taken) (part_says place row rows p)) in subst (Passed bytes piece place) none (passed_none bytes piece place))
-    (cases_Bool row.whole)
+    grind (arith, first_of bytes piece row rows e, whole_says place row rows, passed_at (row_says place row), passed rows, drop-drop, length-drop, part_says place row rows, passed_none bytes piece place)
 
 -- ---- readers
 
 said_free : (r : ReaderValue) → r.fault ≡ None → r.finished ≡ false → said_to r ≡ said_by false r.place (rows_of r.rest)
-said_free r e unfinished =
-    let free : said_to r ≡ said_by r.finished r.place (rows_of r.rest) = rw (e, said_to) refl in
-    free ∙ ap (λ f. said_by f r.place (rows_of r.rest)) unfinished
+said_free r e unfinished = grind arith
 
 pub said_fault : (r : ReaderValue) (fault : LratTextFault) → r.fault ≡ Some fault → said_to r ≡ record { answer = Err fault; taken = 0 }
 said_fault r fault e = rw (e, said_to) refl
 
 pub said_whatever_follows : (r : ReaderValue) (piece : List ℕ) → r.finished ≡ false → ((said_to r).answer ≡ Ok None → ⊥) → said_to (fed r piece) ≡ said_to r
-said_whatever_follows r piece unfinished ne = go r.fault refl
-  where
-    go : (fault : Option LratTextFault) → r.fault ≡ fault → said_to (fed r piece) ≡ said_to r
-    go (Some fault) e = said_fault (fed r piece) fault e ∙ sym (said_fault r fault e)
-    go None e =
-        let said = said_free r e unfinished in
-        said_free (fed r piece) e unfinished ∙ said_more (rows_of r.rest) r.rest piece r.place refl (λ n. ne (ap (λ s. s.answer) said ∙ n)) ∙ sym said
+said_whatever_follows r piece unfinished ne = grind (arith, said_fault, said_free, said_more (rows_of r.rest) r.rest piece r.place)
 
 pub nothing_is_lost : (r : ReaderValue) (piece : List ℕ) → r.finished ≡ false → (said_to r).answer ≡ Ok None
     → ((said_to (fed (after_next r) piece)).answer ≡ (said_to (fed r piece)).answer) × (after_next (fed (after_next r) piece) ≡ after_next (fed r piece))

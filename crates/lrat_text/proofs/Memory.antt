@@ -1,18 +1,17 @@
 -- No text is at fault for out of memory.
-use Rattle.std.proofs.Common.{◌≡◌, ◌≢◌, ℕ, ◌+◌, Bool, true, false, cond, List, [], ◌∷◌, length, Option, None, Some, Result, Ok, Err, ap, ◌==◌, ◌||◌, not, nat_lt, codes, slice_index}
-use Rattle.std.specs.Str.Parse.{digits_value}
+use Rattle.std.proofs.Common.{arith, ◌≡◌, ◌≢◌, ℕ, ◌+◌, Bool, true, false, cond, List, [], ◌∷◌, length, Option, Some, Result, Ok, Err, not, nat_lt, codes, slice_index}
+use Rattle.std.{proofs.lemmas.Bool.Decides.nat_tests, specs.Str.Parse.digits_value}
 use Rattle.text_lines.specs.{Text.Row, Check.{◌>>=◌, refuse}}
 use Rattle.cnf_formula.specs.declared.line.LratLine.{LratLine}
 use Rattle.lrat_text.specs.declared.fault.LratTextFault.{LratTextFault, TheVariants.{BadToken, NumberRange, Truncated, OutOfMemory}}
 use Rattle.lrat_text.specs.Tokens.{Token, tokens_from, content, is_word, is_number, number_from, after_minus, id_of, literal_of, hint_of}
-use Rattle.lrat_text.specs.Reading.{up_to_zero, no_more, addition_of, deletion_of, behind_id, line_of, row_says, size_of, Said, nothing_said, said_at, said_by}
+use Rattle.lrat_text.specs.Reading.{up_to_zero, no_more, addition_of, deletion_of, behind_id, line_of, row_says, size_of, Said, said_at, said_by}
 
 abbrev IsToldOf : {A : Type 0} → Result A LratTextFault → Type 0
 IsToldOf r = r ≢ Err OutOfMemory
 
 bind_told : {A B : Type 0} (r : Result A LratTextFault) (f : A → Result B LratTextFault) → IsToldOf r → ((x : A) → IsToldOf (f x)) → IsToldOf (r >>= f)
-bind_told (Ok x) f first rest = rest x
-bind_told (Err e) f first rest = λ h. let same : e ≡ OutOfMemory = cc in first (ap (λ c. Err c) same)
+bind_told r f first rest = grind (arith, nat_tests)
 
 refuse_told : (b : Bool) (code : LratTextFault) → code ≢ OutOfMemory → IsToldOf (refuse b code)
 refuse_told true code ne = λ h. let same : code ≡ OutOfMemory = cc in ne same
@@ -45,8 +44,7 @@ module _ (lack : LratTextFault) (ne : lack ≢ OutOfMemory) where
       go rest false = bind_told (read t) next (told t) (λ x. bind_told (up_to_zero read lack ts) _ rest (λ more h. absurd (cc)))
 
   no_more_told : (ts : List Token) → IsToldOf (no_more ts)
-  no_more_told [] = λ h. absurd (cc)
-  no_more_told (t ∷ ts) = λ h. absurd (cc)
+  no_more_told ts = grind (arith, nat_tests)
 
   addition_told : (id : ℕ) (ts : List Token) → IsToldOf (addition_of lack id ts)
   addition_told id ts =
@@ -65,15 +63,7 @@ module _ (lack : LratTextFault) (ne : lack ≢ OutOfMemory) where
       go false = addition_told id (t ∷ ts)
 
   line_told : (ts : List Token) → line_of lack ts ≢ Some (Err OutOfMemory)
-  line_told [] = λ h. absurd (cc)
-  line_told (t ∷ ts) = go (slice_index t.bytes 0 == 99)
-    where
-      read : Result LratLine LratTextFault
-      read = id_of t >>= λ id. behind_id lack id ts
-
-      go : (b : Bool) → cond b None (Some read) ≢ Some (Err OutOfMemory)
-      go true = λ h. absurd (cc)
-      go false = λ h. let same : read ≡ Err OutOfMemory = cc in bind_told (id_of t) _ (id_told t) (λ id. behind_told id ts) same
+  line_told ts = grind (arith, nat_tests, slice_index, lack, bind_told, id_told, behind_told)
 
 row_told : (place : ℕ) (row : Row) → row_says place row ≢ Some (Err OutOfMemory)
 row_told place row = line_told (lack row.whole) (ne row.whole) (tokens_from place (content row))
@@ -86,17 +76,8 @@ row_told place row = line_told (lack row.whole) (ne row.whole) (tokens_from plac
     ne false = λ h. absurd (cc)
 
 at_told : (r : Option (Result LratLine LratTextFault)) (size : ℕ) (later : Said) → r ≢ Some (Err OutOfMemory) → later.answer ≢ Err OutOfMemory → (said_at r size later).answer ≢ Err OutOfMemory
-at_told None size later here behind = behind
-at_told (Some (Ok line)) size later here behind = λ h. absurd (cc)
-at_told (Some (Err fault)) size later here behind = λ h. let same : fault ≡ OutOfMemory = cc in here (ap (λ f. Some (Err f)) same)
+at_told r size later here behind = grind (arith, nat_tests)
 
 pub said_told : (finished : Bool) (place : ℕ) (rows : List Row) → (said_by finished place rows).answer ≢ Err OutOfMemory
 said_told finished place [] = λ h. absurd (cc)
-said_told finished place (row ∷ rows) = go (said_told finished (place + size_of row) rows) (row.whole || finished)
-  where
-    first : Said
-    first = said_at (row_says place row) (size_of row) (said_by finished (place + size_of row) rows)
-
-    go : (said_by finished (place + size_of row) rows).answer ≢ Err OutOfMemory → (b : Bool) → (cond b first nothing_said).answer ≢ Err OutOfMemory
-    go behind true = at_told (row_says place row) (size_of row) (said_by finished (place + size_of row) rows) (row_told place row) behind
-    go behind false = λ h. absurd (cc)
+said_told finished place (row ∷ rows) = grind (arith, nat_tests, said_told finished (place + size_of row) rows, at_told, row_told place row)

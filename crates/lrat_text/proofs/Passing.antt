@@ -1,5 +1,5 @@
 -- Lines that are passed over, one after the other.
-use Rattle.std.proofs.Common.{◌≡◌, ℕ, ◌+◌, ◌-◌, ◌^◌, ◌<◌, ◌≤◌, Bool, true, false, List, length, get_or, drop, slice_range, refl, sym, ap, ◌∙◌, ⊎_elim, arith}
+use Rattle.std.proofs.Common.{◌≡◌, ℕ, ◌+◌, ◌-◌, ◌<◌, ◌≤◌, Bool, true, false, List, length, get_or, drop, slice_range, refl, ap, ◌∙◌, ⊎_elim, arith}
 use Rattle.std.proofs.lemmas.{Bool.cases_lt, List.{drop-drop, drop_all, get_or-drop, length-take, length-drop}}
 use Rattle.text_lines.{specs.Text.rows_of, proofs.Rows.{rows_step, rows_end_at}}
 use Rattle.lrat_text.specs.{declared.holding.HeldLine.HeldLine, Reading.{Said, nothing_said, said_by}, inner.Holding.{IsClear, IsFirstFrom, IsHolding}}
@@ -63,12 +63,4 @@ pub record IsPassed (finished : Bool) (place : ℕ) (bytes : List ℕ) (taken : 
 
 pub taken_off : (bytes rest : List ℕ) (start before place taken searched : ℕ) → IsHolding bytes start before place → rest ≡ drop start bytes → taken ≤ searched → searched ≤ length rest → IsClear rest taken searched → IsHolding bytes (start + taken) (searched - taken) (place + taken)
 taken_off bytes rest start before place taken searched held same ordered within clear =
-    let left : drop taken rest ≡ drop (start + taken) bytes = ap (drop taken) same ∙ drop-drop taken start bytes in
-    let size : length rest ≡ length bytes - start = ap length same ∙ length-drop start bytes in
-    let size_left : length (drop (start + taken) bytes) ≡ length bytes - (start + taken) = length-drop (start + taken) bytes in
-    let room : place + (length bytes - start) < 2 ^ 64 = omega (arith, held.room, length-drop start bytes) in
-    record {
-      within = omega (arith, held.within, size, within, ordered);
-      clear = λ k low high e. clear (taken + k) (omega arith) (omega arith) (sym (get_or-drop taken rest k 0) ∙ ap (λ bs. get_or bs k 0) left ∙ e);
-      room = omega (arith, size_left, room, held.within, size, within, ordered);
-    }
+    grind (arith, drop-drop taken start bytes, length-drop start bytes, length-drop (start + taken) bytes, get_or-drop taken rest)

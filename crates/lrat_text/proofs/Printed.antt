@@ -1,15 +1,13 @@
 -- The text of a line is read as that line.
-use Rattle.std.proofs.Common.{◌≡◌, ℕ, zero, suc, ◌+◌, ◌-◌, ◌^◌, ◌<◌, Bool, true, false, List, [], ◌∷◌, ◌++◌, length, get_or, map, Some, Result, Ok, refl, sym, ap, ◌∙◌, subst, arith, lit<, length-append, append_assoc, append-nil, ◌==◌, nat_lt, filter, All, ℤ, decimal, codes}
-use Rattle.std.{specs.List.{list_all, slice_split, join_with_byte}, proofs.lemmas.Bool.{and_parts, and_from, or_from, ne_eqb, lt-ltb, ltb-true}}
-use Rattle.std.proofs.lemmas.List.{Elements.{All-head, All-tail}, Folds.list_all-append}
-use Rattle.text_lines.specs.{Text.{Row, onto_row, rows_of, line}, Check.◌>>=◌}
+use Rattle.std.proofs.Common.{◌≡◌, ℕ, suc, ◌+◌, ◌-◌, ◌^◌, ◌<◌, Bool, true, false, List, [], ◌∷◌, ◌++◌, length, get_or, map, Some, Result, Ok, refl, sym, ap, ◌∙◌, subst, arith, lit<, length-append, append_assoc, append-nil, nat_lt, filter, All, ℤ, decimal, codes}
+use Rattle.std.{specs.List.{list_all, slice_split, join_with_byte}, proofs.lemmas.{Bool.and_parts, List.{Elements.{All-head, All-tail}, Folds.list_all-append}}}
+use Rattle.text_lines.specs.{Text.{Row, rows_of, line}, Check.{◌>>=◌}}
 use Rattle.cnf_formula.specs.{Literals.{LitValue, IsLit}, Lines.{ProofLineValue, DeletionValue}, declared.line.LratLine.LratLine}
 use Rattle.cnf_formula.specs.declared.line.LratLine.TheVariants.{Addition, Deletion}
-use Rattle.lrat_text.specs.declared.fault.LratTextFault.{LratTextFault, TheVariants.BadToken}
-use Rattle.lrat_text.specs.Printing.{literal_word, hint_word, closed, line_words, IsId, IsHint, IsReadable}
-use Rattle.lrat_text.specs.Tokens.{Token, placed_from, tokens_from, content, id_of, literal_of, hint_of}
-use Rattle.lrat_text.specs.Reading.{up_to_zero, no_more, addition_of, deletion_of, behind_id, line_of, row_says, size_of, Said, said_at, said_by}
-use Rattle.lrat_text.proofs.{Spelled.{IsWord, ReadsAs, id_reads, literal_reads, hint_reads, no_comment}, Blanks.{is_blank, token}}
+use Rattle.lrat_text.specs.{declared.fault.LratTextFault.LratTextFault, Printing.{literal_word, hint_word, closed, line_words, IsId, IsHint, IsReadable}}
+use Rattle.lrat_text.{specs.Tokens.{Token, placed_from, tokens_from, content, id_of, literal_of, hint_of}, proofs.Blanks.{is_blank, token}}
+use Rattle.lrat_text.specs.Reading.{up_to_zero, no_more, addition_of, deletion_of, behind_id, line_of, row_says, said_by}
+use Rattle.lrat_text.proofs.Spelled.{IsWord, ReadsAs, id_reads, literal_reads, hint_reads, no_comment}
 
 abbrev pub whole : List ℕ → Row
 whole bytes = record { bytes = bytes; whole = true }
@@ -25,57 +23,35 @@ no_control bytes = list_all (λ b. nat_lt 31 b) bytes
 
 above_control : (bytes : List ℕ) → list_all (λ b. nat_lt 32 b) bytes ≡ true → no_control bytes ≡ true
 above_control [] h = refl
-above_control (b ∷ bytes) h =
-    let parts = and_parts (nat_lt 32 b) (list_all (λ c. nat_lt 32 c) bytes) h in
-    let over = ltb-true 32 b parts.0 in
-    and_from (nat_lt 31 b) (no_control bytes) (lt-ltb 31 b (omega (arith, over))) (above_control bytes parts.1)
+above_control (b ∷ bytes) h = grind (arith, above_control bytes)
 
 joined_control : (words : List (List ℕ)) → AreWords words → no_control (join_with_byte 32 words) ≡ true
-joined_control [] a = refl
-joined_control (word ∷ []) a = above_control word a.0.above
-joined_control (word ∷ next ∷ words) a =
-    let rest = join_with_byte 32 (next ∷ words) in
-    list_all-append (λ b. nat_lt 31 b) word (32 ∷ rest) ∙ and_from (no_control word) (no_control (32 ∷ rest)) (above_control word a.0.above) (and_from (nat_lt 31 32) (no_control rest) refl (joined_control (next ∷ words) a.1))
+joined_control (word ∷ next ∷ words) a = grind (arith, list_all-append, above_control word a.0.above, joined_control (next ∷ words) a.1)
+joined_control words a = grind (arith, above_control)
 
 rows_whole : (bytes more : List ℕ) → no_control bytes ≡ true → rows_of (bytes ++ 10 ∷ more) ≡ whole bytes ∷ rows_of more
 rows_whole [] more h = refl
-rows_whole (b ∷ bytes) more h =
-    let parts = and_parts (nat_lt 31 b) (no_control bytes) h in
-    let over = ltb-true 31 b parts.0 in
-    let other : (b == 10) ≡ false = ne_eqb b 10 (λ e. omega (arith, e, over)) in
-    rw other (ap (onto_row b) (rows_whole bytes more parts.1))
+rows_whole (b ∷ bytes) more h = grind (arith, rows_whole bytes more)
 
 byte_above : (bytes : List ℕ) (k : ℕ) → no_control bytes ≡ true → get_or bytes k 0 ≡ 13 → ⊥
-byte_above [] k h e = omega (arith, e)
-byte_above (b ∷ bytes) zero h e =
-    let parts = and_parts (nat_lt 31 b) (no_control bytes) h in
-    let over = ltb-true 31 b parts.0 in
-    omega (arith, over, e)
 byte_above (b ∷ bytes) (suc k) h e = byte_above bytes k (and_parts (nat_lt 31 b) (no_control bytes) h).1 e
+byte_above bytes k h e = grind arith
 
 all_content : (bytes : List ℕ) → no_control bytes ≡ true → content (whole bytes) ≡ bytes
-all_content bytes h =
-    let last : (get_or bytes (length bytes - 1) 0 == 13) ≡ false = ne_eqb (get_or bytes (length bytes - 1) 0) 13 (λ e. byte_above bytes (length bytes - 1) h e) in
-    rw last refl
+all_content bytes h = grind (arith, byte_above bytes (length bytes - 1) h)
 
 -- ---- its tokens
 
 not_blank : (b : ℕ) → nat_lt 32 b ≡ true → is_blank b ≡ false
-not_blank b h =
-    let over = ltb-true 32 b h in
-    or_from (b == 32) (b == 9) (ne_eqb b 32 (λ e. omega (arith, e, over))) (ne_eqb b 9 (λ e. omega (arith, e, over)))
+not_blank b h = grind arith
 
 split_last : (word : List ℕ) → list_all (λ b. nat_lt 32 b) word ≡ true → slice_split is_blank word ≡ word ∷ []
 split_last [] h = refl
-split_last (b ∷ word) h =
-    let parts = and_parts (nat_lt 32 b) (list_all (λ c. nat_lt 32 c) word) h in
-    rw (not_blank b parts.0) (rw (split_last word parts.1) refl)
+split_last (b ∷ word) h = grind (arith, not_blank b, split_last word)
 
 split_first : (word more : List ℕ) → list_all (λ b. nat_lt 32 b) word ≡ true → slice_split is_blank (word ++ 32 ∷ more) ≡ word ∷ slice_split is_blank more
 split_first [] more h = refl
-split_first (b ∷ word) more h =
-    let parts = and_parts (nat_lt 32 b) (list_all (λ c. nat_lt 32 c) word) h in
-    rw (not_blank b parts.0) (rw (split_first word more parts.1) refl)
+split_first (b ∷ word) more h = grind (arith, not_blank b, split_first word more)
 
 split_words : (word : List ℕ) (words : List (List ℕ)) → AreWords (word ∷ words) → slice_split is_blank (join_with_byte 32 (word ∷ words)) ≡ word ∷ words
 split_words word [] a = split_last word a.0.above
@@ -83,8 +59,7 @@ split_words word (next ∷ words) a = split_first word (join_with_byte 32 (next 
 
 all_kept : (words : List (List ℕ)) (place : ℕ) → AreWords words → filter (λ t. nat_lt 0 (length t.bytes)) (placed_from place words) ≡ placed_from place words
 all_kept [] place a = refl
-all_kept (word ∷ words) place a =
-    rw (lt-ltb 0 (length word) a.0.some) (ap (λ ts. token place word ∷ ts) (all_kept words (place + length word + 1) a.1))
+all_kept (word ∷ words) place a = grind (arith, token place word, all_kept words (place + length word + 1) a.1)
 
 tokens_are : (word : List ℕ) (words : List (List ℕ)) (place : ℕ) → AreWords (word ∷ words) → tokens_from place (join_with_byte 32 (word ∷ words)) ≡ placed_from place (word ∷ words)
 tokens_are word words place a = ap (λ ps. filter (λ t. nat_lt 0 (length t.bytes)) (placed_from place ps)) (split_words word words a) ∙ all_kept (word ∷ words) place a
@@ -173,10 +148,7 @@ id_first lack place id ts i =
 
 tokens_say : (lack : LratTextFault) (place : ℕ) (line : LratLine) → IsReadable line → line_of lack (placed_from place (line_words line)) ≡ Some (Ok line)
 tokens_say lack place (Addition line) r =
-    let next = place + length (decimal line.id) + 1 in
-    let rest = placed_from next (closed (map literal_word line.lits) ++ closed (map hint_word line.hints)) in
-    id_first lack place line.id rest r.0
-    ∙ ap (λ q. Some q) (behind_is lack line.id next line.lits (closed (map hint_word line.hints)) (lits_read line.lits r.1) ∙ addition_read lack next line r.1 r.2)
+    grind (arith, decimal line.id, id_first lack place line.id, behind_is lack line.id, lits_read line.lits r.1, addition_read lack)
 tokens_say lack place (Deletion deletion) r =
     let next = place + length (decimal deletion.id) + 1 in
     let rest = placed_from next (codes "d" ∷ closed (map decimal deletion.ids)) in
@@ -194,15 +166,7 @@ row_of_line l more r =
 
 -- and says the line
 pub row_says_line : (l : LratLine) (place : ℕ) → IsReadable l → row_says place (whole (join_with_byte 32 (line_words l))) ≡ Some (Ok l)
-row_says_line l place r =
-    let bytes = join_with_byte 32 (line_words l) in
-    let lack = BadToken (place + length bytes) in
-    ap (λ bs. line_of lack (tokens_from place bs)) (all_content bytes (joined_control (line_words l) (words_are l r))) ∙ ap (line_of lack) (tokens_of_line l place r) ∙ tokens_say lack place l r
+row_says_line l place r = grind (arith, all_content, joined_control (line_words l) (words_are l r), words_are l r, tokens_of_line l place r, tokens_say)
 
 pub read_back : (l : LratLine) (more : List ℕ) (finished : Bool) (place : ℕ) → IsReadable l → said_by finished place (rows_of (line (line_words l) ++ more)) ≡ record { answer = Ok (Some l); taken = length (line (line_words l)) }
-read_back l more finished place r =
-    let bytes = join_with_byte 32 (line_words l) in
-    let later = said_by finished (place + size_of (whole bytes)) (rows_of more) in
-    let size : size_of (whole bytes) ≡ length (bytes ++ 10 ∷ []) = sym (length-append bytes (10 ∷ [])) in
-    let made : ℕ → Said = λ n. record { answer = Ok (Some l); taken = n } in
-    ap (said_by finished place) (row_of_line l more r) ∙ ap (λ q. said_at q (size_of (whole bytes)) later) (row_says_line l place r) ∙ ap made size
+read_back l more finished place r = grind (arith, length-append, row_of_line l more r, row_says_line l place r)

@@ -1,12 +1,11 @@
 -- What is left of a text where no line is said.
+use Rattle.std.{proofs.lemmas.{Bool.{cases_Bool, eqb-false, ne_eqb}, List.{drop-drop, drop_at, length-append}}, specs.List.{All, flat_map}}
 use Rattle.std.proofs.Common.{◌≡◌, ◌≢◌, ℕ, ◌+◌, Bool, true, false, cond, List, [], ◌∷◌, ◌++◌, length, drop, Option, Some, None, Result, Ok, Err, refl, sym, ap, ◌∙◌, subst, ⊎_elim, arith, ◌==◌, ◌||◌, if◌then◌else◌}
-use Rattle.std.{specs.List.{All, flat_map}, proofs.lemmas.{Bool.{cases_Bool, eqb-false, ne_eqb}, List.{drop-drop, drop_at, length-append}}}
 use Rattle.std.proofs.lemmas.List.Elements.{All-nil, All-cons, All-weaker}
 use Rattle.text_lines.{specs.Text.{Row, onto_row, rows_of, row_text}, proofs.Rows.{rows_back, rows_last}}
 use Rattle.cnf_formula.specs.declared.line.LratLine.{LratLine}
-use Rattle.lrat_text.specs.declared.fault.LratTextFault.{LratTextFault}
+use Rattle.lrat_text.{specs.declared.fault.LratTextFault.LratTextFault, proofs.Cutting.said_fault}
 use Rattle.lrat_text.specs.Reading.{row_says, size_of, Said, nothing_said, said_at, said_by, ReaderValue, said_to, fault_of, after_next}
-use Rattle.lrat_text.proofs.Cutting.{said_fault}
 
 -- no line feed is among them
 abbrev AreClear : List ℕ → Type 0
@@ -27,9 +26,7 @@ row_size row = go row.whole
     go false = omega arith
 
 at_nothing : (r : Option (Result LratLine LratTextFault)) (size : ℕ) (later : Said) → (said_at r size later).answer ≡ Ok None → (later.answer ≡ Ok None) × ((said_at r size later).taken ≡ size + later.taken)
-at_nothing None size later n = (n, refl)
-at_nothing (Some (Ok line)) size later n = absurd (cc)
-at_nothing (Some (Err fault)) size later n = absurd (cc)
+at_nothing r size later n = grind arith
 
 left_behind : (finished : Bool) (place : ℕ) (rows : List Row) → (said_by finished place rows).answer ≡ Ok None → drop (said_by finished place rows).taken (flat_map row_text rows) ≡ flat_map row_text (left_of finished rows)
 left_behind finished place [] n = refl
@@ -56,11 +53,7 @@ left_behind finished place (row ∷ rows) n = go (left_behind finished (place + 
 
 none_left : (rows : List Row) → left_of true rows ≡ []
 none_left [] = refl
-none_left (row ∷ rows) = go (none_left rows) row.whole
-  where
-    go : left_of true rows ≡ [] → (w : Bool) → cond (w || true) (left_of true rows) (row ∷ rows) ≡ []
-    go e true = e
-    go e false = e
+none_left (row ∷ rows) = grind (arith, none_left rows)
 
 -- one more byte in front
 module _ (b : ℕ) (ne : b ≢ 10) where
@@ -70,8 +63,7 @@ module _ (b : ℕ) (ne : b ≢ 10) where
   onto_clear bytes false rows clear = All-cons (λ c. c ≢ 10) b (bytes ++ flat_map row_text rows) ne clear
 
   onto_rows : (rows : List Row) → AreClear (flat_map row_text (left_of false rows)) → AreClear (flat_map row_text (left_of false (onto_row b rows)))
-  onto_rows [] clear = All-cons (λ c. c ≢ 10) b [] ne (All-nil (λ c. c ≢ 10))
-  onto_rows (r ∷ rows) clear = onto_clear r.bytes r.whole rows clear
+  onto_rows rows clear = grind (arith, All-cons, All-nil, onto_clear)
 
 clear_left : (bytes : List ℕ) → AreClear (flat_map row_text (left_of false (rows_of bytes)))
 clear_left [] = All-nil (λ b. b ≢ 10)
@@ -83,11 +75,7 @@ pub kept_fault : (r : ReaderValue) (fault : LratTextFault) → (said_to r).answe
 kept_fault r fault e = ap fault_of e
 
 said_free : (r : ReaderValue) → (said_to r).answer ≡ Ok None → said_to r ≡ said_by r.finished r.place (rows_of r.rest)
-said_free r n = go r.fault refl
-  where
-    go : (fault : Option LratTextFault) → r.fault ≡ fault → said_to r ≡ said_by r.finished r.place (rows_of r.rest)
-    go (Some fault) e = let bad : Err fault ≡ Ok None = sym (ap (λ s. s.answer) (said_fault r fault e)) ∙ n in absurd (cc)
-    go None e = rw (e, said_to) refl
+said_free r n = grind (arith, said_fault)
 
 rest_is : (r : ReaderValue) (finished : Bool) → r.finished ≡ finished → (said_to r).answer ≡ Ok None → (after_next r).rest ≡ flat_map row_text (left_of finished (rows_of r.rest))
 rest_is r finished f n =
@@ -107,6 +95,4 @@ part_says place [] clear = refl
 part_says place (b ∷ bytes) clear = ap (said_by false place) (rows_last b bytes (All-weaker (λ c. c ≢ 10) (λ c. (c == 10) ≡ false) (λ c ne. ne_eqb c 10 ne) (b ∷ bytes) clear))
 
 pub nothing_in_clear : (r : ReaderValue) → r.fault ≡ None → r.finished ≡ false → All (λ b. b ≢ 10) r.rest → said_to r ≡ nothing_said
-nothing_in_clear r free unfinished clear =
-    let all : said_to r ≡ said_by r.finished r.place (rows_of r.rest) = rw (free, said_to) refl in
-    all ∙ ap (λ f. said_by f r.place (rows_of r.rest)) unfinished ∙ part_says r.place r.rest clear
+nothing_in_clear r free unfinished clear = grind (arith, part_says r.place r.rest clear)

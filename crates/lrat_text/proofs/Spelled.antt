@@ -1,13 +1,12 @@
 -- The words of numbers, literals and hints are read as what they spell.
+use Rattle.std.proofs.lemmas.Grind.{common_steps}
 use Rattle.std.proofs.Common.{◌≡◌, ◌⊎◌, inl, inr, ℕ, suc, ◌+◌, ◌^◌, ◌<◌, ◌≤◌, Bool, true, false, List, [], ◌∷◌, length, get_or, drop, Result, Ok, refl, ap, ◌∙◌, ⊎_elim, arith, lit<, ◌&&◌, ◌==◌, not, nat_lt, nat_le, if◌then◌else◌, ℤ, pos, negsuc, neg_ℤ, decimal, bytes_eq, codes}
 use Rattle.std.{specs.{List.list_all, Str.Parse.{AllDigits, digits_value}}, proofs.lemmas.Fmt.{decimal_is_IsNumeral, decimal_nonempty, first_decimal}}
-use Rattle.std.proofs.lemmas.{Bool.{and_from, ne_eqb, lt-ltb, le-ltb, le-leb, false_from_ne_true, cases_Bool}, Slice.Eq.bytes_eq-Decides}
-use Rattle.std.proofs.lemmas.Str.Parse.{digit_from_value}
+use Rattle.std.proofs.lemmas.{Bool.{and_from, ne_eqb, lt-ltb, le-ltb, false_from_ne_true, cases_Bool}, Slice.Eq.bytes_eq-Decides, Str.Parse.digit_from_value}
 use Rattle.text_lines.specs.Check.{◌>>=◌}
 use Rattle.cnf_formula.specs.Literals.{LitValue, IsLit}
-use Rattle.lrat_text.specs.{declared.fault.LratTextFault.LratTextFault, Printing.{literal_word, hint_word, IsId, IsHint}}
+use Rattle.lrat_text.{specs.{declared.fault.LratTextFault.LratTextFault, Printing.{literal_word, hint_word, IsId, IsHint}}, proofs.Blanks.token}
 use Rattle.lrat_text.specs.Tokens.{Token, is_word, is_number, number_from, has_minus, after_minus, id_of, literal_of, hint_of}
-use Rattle.lrat_text.proofs.Blanks.{token}
 
 -- a word of bytes above the space
 pub record IsWord (word : List ℕ) : Type 0 where
@@ -18,19 +17,14 @@ pub record IsWord (word : List ℕ) : Type 0 where
 
 digits_pass : (ds : List ℕ) → AllDigits 10 ds → list_all (λ b. nat_le 48 b && nat_le b 57) ds ≡ true
 digits_pass [] a = refl
-digits_pass (c ∷ ds) a =
-    let r = digit_from_value c a.0 in
-    and_from (nat_le 48 c && nat_le c 57) (list_all (λ b. nat_le 48 b && nat_le b 57) ds) (and_from (nat_le 48 c) (nat_le c 57) (le-leb 48 c r.0) (le-leb c 57 r.1)) (digits_pass ds a.1)
+digits_pass (c ∷ ds) a = grind (arith, digit_from_value c a.0, digits_pass ds a.1)
 
 digits_above : (ds : List ℕ) → AllDigits 10 ds → list_all (λ b. nat_lt 32 b) ds ≡ true
 digits_above [] a = refl
-digits_above (c ∷ ds) a =
-    let r = digit_from_value c a.0 in
-    and_from (nat_lt 32 c) (list_all (λ b. nat_lt 32 b) ds) (lt-ltb 32 c (omega (arith, r.0))) (digits_above ds a.1)
+digits_above (c ∷ ds) a = grind (arith, digit_from_value c a.0, digits_above ds a.1)
 
 first_digit : (ds : List ℕ) → 0 < length ds → AllDigits 10 ds → get_or ds 0 0 ≤ 57
-first_digit [] some a = absurd (omega (arith, some))
-first_digit (c ∷ ds) some a = (digit_from_value c a.0).1
+first_digit ds some a = grind (arith, common_steps, digit_from_value)
 
 module _ (n : ℕ) (some : 0 < n) (small : n < 2 ^ 64) where
   decimal_first : (48 < get_or (decimal n) 0 0) × (get_or (decimal n) 0 0 ≤ 57)
@@ -80,22 +74,13 @@ small_var : (n : ℕ) → n ≤ 2147483647 → n < 2 ^ 64
 small_var n h = let big : 2147483647 < 2 ^ 64 = lit< tt in omega (arith, h, big)
 
 pub id_reads : (n : ℕ) → IsId n → ReadsAs id_of (decimal n) n
-id_reads n i =
-    let small = small_id n i.small in
-    record {
-      is_a_word = decimal_word n i.some small;
-      no_zero = λ place. other_first n i.some small 48 [] (inl (omega arith));
-      no_d = λ place. other_first n i.some small 100 [] (inr (omega arith));
-      reads = λ place. number_read n i.some small place 4294967295 i.small;
-    }
+id_reads n i = grind (arith, small_id n i.small, decimal_word n i.some, other_first n i.some, number_read n i.some)
 
 minus_word : (n : ℕ) → 0 < n → n < 2 ^ 64 → IsWord (45 ∷ decimal n)
 minus_word n some small = record { some = omega arith; above = (decimal_word n some small).above }
 
 literal_by : (t : Token) (minus : Bool) (digits : List ℕ) (n : ℕ) → has_minus t ≡ minus → after_minus t ≡ digits → number_from t.place 2147483647 digits ≡ Ok n → literal_of t ≡ Ok (record { var = n; positive = not minus })
-literal_by t minus digits n m d r =
-    let next : ℕ → Result LitValue LratTextFault = λ v. Ok (record { var = v; positive = not (has_minus t) }) in
-    ap (λ ds. number_from t.place 2147483647 ds >>= next) d ∙ ap (λ q. q >>= next) r ∙ ap (λ b. Ok (record { var = n; positive = not b })) m
+literal_by t minus digits n m d r = grind arith
 
 hint_by : (t : Token) (minus : Bool) (digits : List ℕ) (n : ℕ) → has_minus t ≡ minus → after_minus t ≡ digits → number_from t.place 4294967295 digits ≡ Ok n → hint_of t ≡ Ok (if minus then neg_ℤ (pos n) else pos n)
 hint_by t minus digits n m d r =

@@ -1,5 +1,5 @@
 -- Words with a space behind each, and lines of them.
-use Rattle.std.{proofs.Common.{◌≡◌, ℕ, List, [], ◌∷◌, ◌++◌, refl, sym, ap, ◌∙◌, append_assoc, append-nil}, specs.List.join_with_byte}
+use Rattle.std.{proofs.{Common.{arith, ◌≡◌, ℕ, List, [], ◌∷◌, ◌++◌, refl, sym, ap, ◌∙◌, append_assoc}, lemmas.Grind.common_steps}, specs.List.join_with_byte}
 use Rattle.text_lines.specs.Text.{line}
 use Rattle.lrat_text.specs.Printing.{trailed, closed}
 
@@ -9,10 +9,9 @@ trailed-append (x ∷ xs) ys = ap (λ z. x ++ 32 ∷ [] ++ z) (trailed-append xs
 
 -- the words of a line, the last without a space
 pub joined : (words : List (List ℕ)) (last : List ℕ) → join_with_byte 32 (words ++ last ∷ []) ≡ trailed words ++ last
-joined [] last = refl
-joined (w ∷ []) last = sym (ap (λ z. z ++ last) (append-nil (w ++ 32 ∷ [])) ∙ append_assoc w (32 ∷ []) last)
 joined (w ∷ next ∷ words) last =
     ap (λ z. w ++ 32 ∷ z) (joined (next ∷ words) last) ∙ sym (append_assoc (w ++ 32 ∷ []) (trailed (next ∷ words)) last ∙ append_assoc w (32 ∷ []) (trailed (next ∷ words) ++ last))
+joined words last = grind (arith, common_steps)
 
 pub line_closed : (words : List (List ℕ)) → line (closed words) ≡ trailed words ++ 48 ∷ 10 ∷ []
 line_closed words = ap (λ z. z ++ 10 ∷ []) (joined words (48 ∷ [])) ∙ append_assoc (trailed words) (48 ∷ []) (10 ∷ [])

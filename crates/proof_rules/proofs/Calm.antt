@@ -1,14 +1,13 @@
 -- Where some assignment satisfies a formula, some assignment satisfies all that is held after any accepted lines, and none of them refutes it.
+use Rattle.std.{proofs.lemmas.Bool.{or_from, or_cases, or_left, cases_Bool}, specs.List.{list_any, enumerate_from}}
 use Rattle.std.proofs.Common.{◌≡◌, ℕ, ◌+◌, ◌≤◌, max, Bool, true, false, List, [], ◌∷◌, ◌++◌, length, get_or, refl, sym, ap, ◌∙◌, subst, ⊎_elim, arith, ◌==◌, not, All}
-use Rattle.std.{specs.List.{list_any, enumerate_from}, proofs.lemmas.Bool.{false≢true, and_parts, or_from, or_cases, or_left, cases_Bool}}
-use Rattle.std.proofs.lemmas.List.Elements.{All-nil, All-cons, All-push, All-filter}
-use Rattle.cnf_formula.specs.{Literals.{LitValue, same_literal, has_literal, value_of, all_hold, clause_holds}, Formulas.{FormulaValue, Satisfiable}}
+use Rattle.std.proofs.lemmas.List.Elements.{All-nil, All-push, All-filter}
+use Rattle.cnf_formula.specs.{Literals.{LitValue, same_literal, has_literal, value_of, all_hold}, Formulas.{FormulaValue, Satisfiable}}
 use Rattle.cnf_formula.specs.{Lines.ProofLineValue, declared.line.LratLine.{LratLine, TheVariants.{Addition, Deletion}}}
-use Rattle.proof_rules.specs.{Held.{CheckerValue, start_of, has_none}, Testing.{is_rup, is_rat, accepts}}
-use Rattle.proof_rules.specs.Accepting.{Implied, Redundant, groups_of, leading, IsNew}
-use Rattle.proof_rules.specs.Refuting.{with_line, with_accepted, all_accepted, after_lines, IsChecker, Refutes}
-use Rattle.proof_rules.proofs.{Tested.{rup_by, rat_by}, Sound.{none_any, is_so, holds, Holds, no_conflict, still_untrue, turned, own_holds, entry_holds}}
-use Rattle.proof_rules.proofs.{Taking.same_itself, Numbered.{Numbered, start_numbered, more_numbered, fewer_numbered}}
+use Rattle.proof_rules.proofs.{Sound.{none_any, is_so, holds, Holds, no_conflict, still_untrue, turned, own_holds, entry_holds}, Tested.{rup_by, rat_by}}
+use Rattle.proof_rules.specs.{Refuting.{with_line, with_accepted, all_accepted, after_lines, IsChecker, Refutes}, Held.{CheckerValue, start_of, has_none}}
+use Rattle.proof_rules.{proofs.Numbered.{Numbered, start_numbered, more_numbered, fewer_numbered}, specs.Testing.{is_rup, is_rat, accepts}}
+use Rattle.proof_rules.{specs.Accepting.{Implied, Redundant, groups_of, leading, IsNew}, proofs.Taking.same_itself}
 
 -- all that is held can be satisfied together, each by its number, and nothing was refuted
 pub record Calm (c : CheckerValue) : Type 0 where
@@ -18,8 +17,7 @@ pub record Calm (c : CheckerValue) : Type 0 where
   pub numbered : Numbered c.held (max (length c.formula.clauses) c.greatest + 1)
 
 some_literal : (v : ℕ → Bool) (clause : List LitValue) → holds v clause ≡ true → has_none clause ≡ false
-some_literal v [] h = absurd (false≢true h)
-some_literal v (l ∷ clause) h = refl
+some_literal v clause h = grind arith
 
 with_clause : (c : CheckerValue) (line : ProofLineValue) (v : ℕ → Bool) → IsNew c line → Calm c → All (Holds v) c.held → holds v line.lits ≡ true → Calm (with_line c line)
 with_clause c line v n q all h =
@@ -37,8 +35,7 @@ with_clause c line v n q all h =
 by_implied_line : (c : CheckerValue) (line : ProofLineValue) → Implied c line → Calm c → Calm (with_line c line)
 by_implied_line c line i q =
     let v = q.values in
-    let h : holds v line.lits ≡ true =
-    ⊎_elim (λ t. t) (λ f. absurd (no_conflict v c.held line.lits (leading line.hints) q.all (none_any (is_so v) line.lits f) i.conflict)) (cases_Bool (holds v line.lits)) in
+    let h : holds v line.lits ≡ true = grind (arith, no_conflict v c.held line.lits (leading line.hints) q.all, none_any (is_so v) line.lits) in
     with_clause c line v i.new q q.all h
 
 by_redundant_line : (c : CheckerValue) (line : ProofLineValue) → Redundant c line → Calm c → Calm (with_line c line)
@@ -66,15 +63,12 @@ stays_calm c (Deletion deletion) h q =
 
 pub all_calm : (lines : List LratLine) (c : CheckerValue) → all_accepted c lines ≡ true → Calm c → Calm (after_lines c lines)
 all_calm [] c a q = q
-all_calm (line ∷ lines) c a q =
-    let parts = and_parts (accepts c line) (all_accepted (with_accepted c line) lines) a in
-    all_calm lines (with_accepted c line) parts.1 (stays_calm c line parts.0 q)
+all_calm (line ∷ lines) c a q = grind (arith, all_calm lines (with_accepted c line), stays_calm c line)
 
 start_holds : (values : List Bool) (clauses : List (List LitValue)) (n : ℕ) → all_hold values clauses ≡ true → All (Holds (value_of values)) (enumerate_from n clauses)
 start_holds values [] n h = All-nil (Holds (value_of values))
 start_holds values (clause ∷ clauses) n h =
-    let parts = and_parts (clause_holds values clause) (all_hold values clauses) h in
-    All-cons (Holds (value_of values)) (n, clause) (enumerate_from (n + 1) clauses) parts.0 (start_holds values clauses (n + 1) parts.1)
+    grind (arith, start_holds values clauses (n + 1))
 
 pub starts_calm : (f : FormulaValue) → Satisfiable f → Calm (start_of f)
 starts_calm f s =
@@ -87,9 +81,7 @@ starts_calm f s =
     }
 
 pub never_refuted : (f : FormulaValue) (lines : List LratLine) → Satisfiable f → Refutes lines f → ⊥
-never_refuted f lines s r =
-    let end = all_calm lines (start_of f) r.accepted (starts_calm f s) in
-    false≢true (sym end.calm ∙ r.refuted)
+never_refuted f lines s r = grind (arith, all_calm lines (start_of f) r.accepted (starts_calm f s))
 
 pub never_refuted_after : (c : CheckerValue) → IsChecker c → c.refuted ≡ true → Satisfiable c.formula → ⊥
 never_refuted_after c i r s = never_refuted c.formula i.lines s (record { accepted = i.accepted; refuted = ap (λ d. d.refuted) i.is ∙ r })

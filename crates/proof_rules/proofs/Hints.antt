@@ -1,9 +1,9 @@
 -- Hints in a row lead to a conflict, or to literals that are false, exactly where they are taken so.
-use Rattle.std.{proofs.Common.{◌≡◌, ℕ, ◌+◌, true, List, [], ◌∷◌, Option, Some, None, Result, Ok, Err, refl, sym, ap, ◌∙◌, subst}, specs.List.list_all}
+use Rattle.std.{specs.List.list_all, proofs.Common.{arith, ◌≡◌, ℕ, ◌+◌, true, List, [], ◌∷◌, Option, Some, None, Result, Ok, Err, refl, ap, ◌∙◌}}
 use Rattle.cnf_formula.specs.Literals.{LitValue, negation, same_literal}
 use Rattle.proof_rules.specs.{declared.verdict.LineCode.{LineCode, TheVariants.HintsAfterConflict}, Held.{Entry, clause_at, open_literals}}
 use Rattle.proof_rules.specs.{Judging.{Fault, given_by, given_by_clause, after_conflict, led_to}, Accepting.{Takes, Falsifies, LeadsTo, Conflicts}}
-use Rattle.proof_rules.proofs.Taking.{none_open, open_none, rest_is, first_open, gives_none, gives_some, given_one, all_same}
+use Rattle.proof_rules.proofs.Taking.{none_open, open_none, rest_is, first_open, gives_some, given_one, all_same}
 
 -- ---- one hint
 
@@ -11,16 +11,10 @@ abbrev pub given : List Entry → List LitValue → ℕ → Result (Option LitVa
 given held falses id = given_by_clause falses (clause_at held id)
 
 pub named : (held : List Entry) (falses : List LitValue) (id : ℕ) (o : Option LitValue) → given held falses id ≡ Ok o → (clause : List LitValue) × (clause_at held id ≡ Some clause) × (given_by (open_literals falses clause) ≡ Ok o)
-named held falses id o h = go (clause_at held id) refl h
-  where
-    go : (found : Option (List LitValue)) → clause_at held id ≡ found → given_by_clause falses found ≡ Ok o → (clause : List LitValue) × (clause_at held id ≡ Some clause) × (given_by (open_literals falses clause) ≡ Ok o)
-    go None e g = absurd (cc)
-    go (Some clause) e g = (clause, e, g)
+named held falses id o h = grind arith
 
 pub falsifies : (held : List Entry) (falses : List LitValue) (id : ℕ) → given held falses id ≡ Ok None → Falsifies held falses id
-falsifies held falses id h =
-    let n = named held falses id None h in
-    record { clause = n.0; names = n.1; each = none_open falses n.0 (gives_none (open_literals falses n.0) n.2) }
+falsifies held falses id h = grind (arith, none_open falses)
 
 pub given_none : (held : List Entry) (falses : List LitValue) (id : ℕ) → Falsifies held falses id → given held falses id ≡ Ok None
 given_none held falses id f = ap (given_by_clause falses) f.names ∙ ap given_by (open_none falses f.clause f.each)
@@ -30,8 +24,7 @@ takes held falses id l h =
     let n = named held falses id (Some l) h in
     let s = gives_some (open_literals falses n.0) l n.2 in
     let first = first_open falses n.0 l s.0 s.1 in
-    let all : list_all (same_literal l) (open_literals falses n.0) ≡ true =
-    subst (λ ls. list_all (same_literal l) ls ≡ true) (sym s.1) (all_same l s.0 s.2) in
+    let all : list_all (same_literal l) (open_literals falses n.0) ≡ true = cc (all_same l s.0 s.2) in
     record { clause = n.0; names = n.1; stands = first.0; not_false = first.1; others = rest_is falses n.0 l all }
 
 pub given_some : (held : List Entry) (falses : List LitValue) (id : ℕ) (l : LitValue) → Takes held falses id l → given held falses id ≡ Ok (Some l)
@@ -43,13 +36,6 @@ abbrev pub Led : Type 0
 Led = Result (Option (List LitValue)) Fault
 
 pub conflicts : (held : List Entry) (falses : List LitValue) (place : ℕ) (ids : List ℕ) → led_to held falses place ids ≡ Ok None → Conflicts held falses ids
-conflicts held falses place [] h = absurd (cc)
-conflicts held falses place (id ∷ []) h = go (given held falses id) refl
-  where
-    go : (r : Result (Option LitValue) LineCode) → given held falses id ≡ r → Falsifies held falses id
-    go (Err code) e = let none : Led = Ok None in let bad : Err (code, place) ≡ none = rw (e, led_to) at h in absurd (cc)
-    go (Ok None) e = falsifies held falses id e
-    go (Ok (Some l)) e = let none : Led = Ok None in let bad : Ok (Some (negation l ∷ falses)) ≡ none = rw (e, led_to) at h in absurd (cc)
 conflicts held falses place (id ∷ next ∷ ids) h = go (λ l v. conflicts held (negation l ∷ falses) (place + 1) (next ∷ ids) v) (given held falses id) refl
   where
     go : ((l : LitValue) → led_to held (negation l ∷ falses) (place + 1) (next ∷ ids) ≡ Ok None → Conflicts held (negation l ∷ falses) (next ∷ ids))
@@ -57,15 +43,14 @@ conflicts held falses place (id ∷ next ∷ ids) h = go (λ l v. conflicts held
     go more (Err code) e = let none : Led = Ok None in let bad : Err (code, place) ≡ none = rw (e, led_to) at h in absurd (cc)
     go more (Ok None) e = let none : Led = Ok None in let bad : Err (HintsAfterConflict, place + 1) ≡ none = rw (e, led_to) at h in absurd (cc)
     go more (Ok (Some l)) e = (l, takes held falses id l e, more l (rw (e, led_to) at h))
+conflicts held falses place ids h = grind (arith, falsifies)
 
 pub leads_to_conflict : (held : List Entry) (falses : List LitValue) (place : ℕ) (ids : List ℕ) → Conflicts held falses ids → led_to held falses place ids ≡ Ok None
-leads_to_conflict held falses place [] c = absurd c
-leads_to_conflict held falses place (id ∷ []) c = rw (given_none held falses id c, led_to) refl
 leads_to_conflict held falses place (id ∷ next ∷ ids) c = rw (given_some held falses id c.0 c.1, led_to) (leads_to_conflict held (negation c.0 ∷ falses) (place + 1) (next ∷ ids) c.2)
+leads_to_conflict held falses place ids c = grind (arith, given_none)
 
 never_leads : (place : ℕ) (ids : List ℕ) (last : List LitValue) → after_conflict place ids ≡ Ok (Some last) → ⊥
-never_leads place [] last h = cc
-never_leads place (id ∷ ids) last h = cc
+never_leads place ids last h = grind arith
 
 pub leads : (held : List Entry) (falses : List LitValue) (place : ℕ) (ids : List ℕ) (last : List LitValue) → led_to held falses place ids ≡ Ok (Some last) → LeadsTo last held falses ids
 leads held falses place [] last h = cc

@@ -1,8 +1,8 @@
 -- Additions that follow from what is held, each in its turn: one line more, and what they are among all lines.
-use Rattle.std.proofs.{Common.{◌≡◌, true, List, [], ◌∷◌, ◌++◌, map, refl, ap, ◌∙◌, ◌↔◌, ◌&&◌}, lemmas.Bool.{and_parts, and_from}}
+use Rattle.std.proofs.{Common.{arith, ◌≡◌, true, List, [], ◌∷◌, ◌++◌, map, refl, ◌↔◌}, lemmas.Bool.Decides.nat_tests}
 use Rattle.cnf_formula.specs.{Lines.ProofLineValue, declared.line.LratLine.TheVariants.Addition}
-use Rattle.proof_rules.specs.{declared.verdict.LineVerdict.TheVariants.Accepted, Held.CheckerValue, Testing.{is_rup, accepts}, Learning.{AllImplied, AllFresh}}
-use Rattle.proof_rules.specs.{Judging.{verdict_of, is_accepted}, Refuting.{all_accepted, after_lines, with_line, is_fresh, are_learned}}
+use Rattle.proof_rules.specs.{declared.verdict.LineVerdict.TheVariants.Accepted, Held.CheckerValue, Learning.{AllImplied, AllFresh}}
+use Rattle.proof_rules.specs.{Judging.verdict_of, Refuting.{all_accepted, after_lines, with_line, are_learned}}
 use Rattle.proof_rules.proofs.{Verdicts.{implied_by, by_implied}, Tested.{rup_by, by_rup, acceptance_said}}
 
 -- the checker after one line more
@@ -17,24 +17,17 @@ implied_more (l ∷ lines) c line all last = (all.0, implied_more lines (with_li
 -- lines that follow are accepted
 pub implied_accepted : (lines : List ProofLineValue) (c : CheckerValue) → AllImplied c lines → all_accepted c (map Addition lines) ≡ true
 implied_accepted [] c all = refl
-implied_accepted (l ∷ lines) c all =
-    and_from (accepts c (Addition l)) (all_accepted (with_line c l) (map Addition lines)) (acceptance_said c (Addition l) ∙ ap is_accepted all.0) (implied_accepted lines (with_line c l) all.1)
+implied_accepted (l ∷ lines) c all = grind (arith, acceptance_said c (Addition l), implied_accepted lines (with_line c l) all.1)
 
 -- lines are learned where each follows and is fresh
 pub are_learned_by : (lines : List ProofLineValue) (c : CheckerValue) → AllImplied c lines → AllFresh c lines → are_learned c (map Addition lines) ≡ true
 are_learned_by [] c all fresh = refl
 are_learned_by (l ∷ lines) c all fresh =
-    and_from (is_rup c l && is_fresh c l.lits) (are_learned (with_line c l) (map Addition lines))
-    (and_from (is_rup c l) (is_fresh c l.lits) (by_rup c l (implied_by c l all.0)) fresh.0)
-    (are_learned_by lines (with_line c l) all.1 fresh.1)
+    grind (arith, by_rup c l (implied_by c l all.0), are_learned_by lines (with_line c l) all.1 fresh.1)
 
 pub learned_in_turn : (lines : List ProofLineValue) (c : CheckerValue) → are_learned c (map Addition lines) ≡ true → AllImplied c lines × AllFresh c lines
 learned_in_turn [] c h = (tt, tt)
-learned_in_turn (l ∷ lines) c h =
-    let outer = and_parts (is_rup c l && is_fresh c l.lits) (are_learned (with_line c l) (map Addition lines)) h in
-    let inner = and_parts (is_rup c l) (is_fresh c l.lits) outer.0 in
-    let rest = learned_in_turn lines (with_line c l) outer.1 in
-    ((by_implied c l (rup_by c l inner.0), rest.0), (inner.1, rest.1))
+learned_in_turn (l ∷ lines) c h = grind (arith, nat_tests, learned_in_turn lines (with_line c l), by_implied c l, rup_by c l)
 
 pub learned_exactly : (c : CheckerValue) (lines : List ProofLineValue) → (AllImplied c lines × AllFresh c lines) ↔ (are_learned c (map Addition lines) ≡ true)
 learned_exactly c lines = (λ both. are_learned_by lines c both.0 both.1, λ h. learned_in_turn lines c h)

@@ -1,8 +1,7 @@
 -- What is held stays held under more additions, and so does a conflict.
-use Rattle.std.proofs.Common.{ap, sym, ◌∙◌, ◌≡◌, ℕ, suc, max, List, [], ◌∷◌, ◌++◌, length, Some, refl, subst, ⊎_elim, arith, ◌==◌, true, map}
-use Rattle.std.proofs.{Math.Logic.∥∥₁_elim, lemmas.{Bool.{cases_Bool, and_parts, and_from}, List.Elements.All-nil}}
-use Rattle.cnf_formula.specs.{Literals.{LitValue, negation}, Formulas.{FormulaValue, IsAbout}, Lines.ProofLineValue, declared.line.LratLine.LratLine}
-use Rattle.cnf_formula.specs.declared.line.LratLine.TheVariants.{Addition, Deletion}
+use Rattle.std.proofs.{lemmas.Bool.and_from, Math.Logic.{∥∥₁_elim}, Common.{◌≡◌, ℕ, suc, max, List, [], ◌∷◌, ◌++◌, length, Some, refl, subst, arith, true, map}}
+use Rattle.cnf_formula.specs.{Literals.{LitValue, negation}, Formulas.FormulaValue, Lines.ProofLineValue, declared.line.LratLine.LratLine}
+use Rattle.cnf_formula.specs.declared.line.LratLine.TheVariants.{Addition}
 use Rattle.proof_rules.specs.{declared.verdict.LineVerdict.TheVariants.Accepted as AcceptedVerdict, Held.{Entry, CheckerValue, start_of, clause_at}}
 use Rattle.proof_rules.specs.{Testing.accepts, Judging.{verdict_of, is_accepted, verdict_on}, Accepting.{Conflicts, Implied, leading}}
 use Rattle.proof_rules.specs.Refuting.{with_line, with_accepted, all_accepted, after_lines, IsChecker, Exhaustion, Exhausted}
@@ -13,20 +12,11 @@ Keeps held more = (id : ℕ) (clause : List LitValue) → clause_at held id ≡ 
 
 pub keeps_append : (held more : List Entry) → Keeps held (held ++ more)
 keeps_append [] more id clause h = absurd (cc)
-keeps_append (entry ∷ held) more id clause h =
-    ⊎_elim (λ e. let here : Some (entry.1) ≡ Some clause = rw e at h in rw e here)
-    (λ e. rw e (keeps_append held more id clause (rw e at h)))
-    (cases_Bool (entry.0 == id))
+keeps_append (entry ∷ held) more id clause h = grind (arith, keeps_append held more id clause)
 
 pub conflict_kept : (held more : List Entry) → Keeps held more → (falses : List LitValue) (ids : List ℕ) → Conflicts held falses ids → Conflicts more falses ids
-conflict_kept held more k falses [] c = c
-conflict_kept held more k falses (id ∷ []) c = record { clause = c.clause; names = k id c.clause c.names; each = c.each }
-conflict_kept held more k falses (id ∷ next ∷ ids) c =
-    let t = c.1 in (
-      c.0,
-      record { clause = t.clause; names = k id t.clause t.names; stands = t.stands; not_false = t.not_false; others = t.others },
-      conflict_kept held more k (negation c.0 ∷ falses) (next ∷ ids) c.2,
-    )
+conflict_kept held more k falses (id ∷ next ∷ ids) c = grind (arith, conflict_kept held more k (negation c.0 ∷ falses) (next ∷ ids) c.2)
+conflict_kept held more k falses ids c = grind arith
 
 pub additions_keep : (lines : List ProofLineValue) (c : CheckerValue) → Keeps c.held (after_lines c (map Addition lines)).held
 additions_keep [] c id clause h = h
@@ -39,12 +29,7 @@ no_exhaustion f line n e v x =
     let conflict = subst (λ lits. Conflicts (start_of f).held lits (leading line.hints)) e i.conflict in
     let again : ProofLineValue = record { id = suc (max (length end.formula.clauses) end.greatest); lits = []; hints = line.hints } in
     let implied : Implied end again = record {
-      new = record {
-        above_formula = omega arith;
-        above_lines = omega arith;
-        in_range = All-nil (IsAbout end.formula.vars);
-        once = λ i j d a b. absurd (omega (arith, b));
-      };
+      new = grind arith;
       no_groups = i.no_groups;
       conflict = conflict_kept (start_of f).held end.held (additions_keep x.lines (start_of f)) [] (leading line.hints) conflict;
     } in
@@ -57,9 +42,7 @@ never_exhausted f line n e v x = ∥∥₁_elim x (λ a b. absurd a) (no_exhaust
 
 more_accepted : (lines : List LratLine) (c : CheckerValue) (line : LratLine) → all_accepted c lines ≡ true → accepts (after_lines c lines) line ≡ true → all_accepted c (lines ++ line ∷ []) ≡ true
 more_accepted [] c line a v = and_from (accepts c line) true v refl
-more_accepted (l ∷ lines) c line a v =
-    let parts = and_parts (accepts c l) (all_accepted (with_accepted c l) lines) a in
-    and_from (accepts c l) (all_accepted (with_accepted c l) (lines ++ line ∷ [])) parts.0 (more_accepted lines (with_accepted c l) line parts.1 v)
+more_accepted (l ∷ lines) c line a v = grind (arith, more_accepted lines (with_accepted c l) line)
 
 after_more : (lines : List LratLine) (c : CheckerValue) (line : LratLine) → after_lines c (lines ++ line ∷ []) ≡ with_accepted (after_lines c lines) line
 after_more [] c line = refl
@@ -69,16 +52,8 @@ pub starts_as_checker : (f : FormulaValue) → IsChecker (start_of f)
 starts_as_checker f = record { lines = []; accepted = refl; is = refl }
 
 pub same_formula : (c : CheckerValue) (line : LratLine) → (with_accepted c line).formula ≡ c.formula
-same_formula c (Addition line) = refl
-same_formula c (Deletion deletion) = refl
+same_formula c line = grind arith
 
 pub stays_checker : (c : CheckerValue) (line : LratLine) → IsChecker c → is_accepted (verdict_on c line) ≡ true → IsChecker (with_accepted c line)
 stays_checker c line i v =
-    let accepted : all_accepted (start_of c.formula) (i.lines ++ line ∷ []) ≡ true = more_accepted i.lines (start_of c.formula) line i.accepted (ap (λ d. accepts d line) i.is ∙ (acceptance_said c line ∙ v)) in
-    let is : after_lines (start_of c.formula) (i.lines ++ line ∷ []) ≡ with_accepted c line = after_more i.lines (start_of c.formula) line ∙ ap (λ d. with_accepted d line) i.is in
-    let e : c.formula ≡ (with_accepted c line).formula = sym (same_formula c line) in
-    record {
-      lines = i.lines ++ line ∷ [];
-      accepted = subst (λ f. all_accepted (start_of f) (i.lines ++ line ∷ []) ≡ true) e accepted;
-      is = subst (λ f. after_lines (start_of f) (i.lines ++ line ∷ []) ≡ with_accepted c line) e is;
-    }
+    grind (arith, more_accepted i.lines (start_of c.formula) line i.accepted, acceptance_said c line, after_more i.lines (start_of c.formula) line, same_formula c line)

@@ -1,7 +1,6 @@
 -- Each clause that is held is found by its number.
-use Rattle.std.proofs.Common.{◌≡◌, ℕ, ◌+◌, ◌<◌, ◌≤◌, Bool, true, List, [], ◌∷◌, ◌++◌, length, get_or, Some, refl, sym, ap, ◌∙◌, ⊎_elim, arith, ◌==◌, filter, All}
-use Rattle.std.{specs.List.enumerate_from, proofs.lemmas.Bool.{false≢true, eq-eqb, ne_eqb, cases_Bool}}
-use Rattle.std.proofs.lemmas.List.Elements.{All-nil, All-cons, All-head, All-tail, All-append, All-filter}
+use Rattle.std.proofs.{Common.{◌≡◌, ℕ, ◌+◌, ◌<◌, ◌≤◌, Bool, true, List, [], ◌∷◌, ◌++◌, length, Some, refl, arith, filter, All}, lemmas.Bool.{eq-eqb, ne_eqb}}
+use Rattle.std.{proofs.lemmas.{List.Elements.{All-nil, All-cons, All-head, All-tail, All-filter}, Grind.common_steps}, specs.List.enumerate_from}
 use Rattle.cnf_formula.specs.Literals.{LitValue}
 use Rattle.proof_rules.specs.Held.{Entry, clause_at}
 
@@ -38,12 +37,7 @@ later held entry other apart f = rw (ne_eqb entry.0 other.0 apart) f
 
 start_found : (n : ℕ) (clauses : List (List LitValue)) → All (Found (enumerate_from n clauses)) (enumerate_from n clauses)
 start_found n [] = All-nil (Found [])
-start_found n (clause ∷ clauses) =
-    let rest = enumerate_from (n + 1) clauses in
-    let over = above (n + 1) clauses in
-    let found = start_found (n + 1) clauses in
-    All-cons (Found ((n, clause) ∷ rest)) (n, clause) rest (here rest n clause)
-    (λ k d w. later rest (n, clause) (get_or rest k d) (λ e. let a = over k d w in absurd (omega (arith, a, e))) (found k d w))
+start_found n (clause ∷ clauses) = grind (arith, above (n + 1) clauses, start_found (n + 1) clauses)
 
 pub start_numbered : (clauses : List (List LitValue)) → Numbered (enumerate_from 1 clauses) (length clauses + 1)
 start_numbered clauses =
@@ -54,27 +48,16 @@ start_numbered clauses =
 
 kept : (held more : List Entry) (id : ℕ) (clause : List LitValue) → clause_at held id ≡ Some clause → clause_at (held ++ more) id ≡ Some clause
 kept [] more id clause h = absurd (cc)
-kept (entry ∷ held) more id clause h =
-    ⊎_elim (λ e. let found : Some (entry.1) ≡ Some clause = rw e at h in rw e found)
-    (λ e. rw e (kept held more id clause (rw e at h)))
-    (cases_Bool (entry.0 == id))
+kept (entry ∷ held) more id clause h = grind (arith, kept held more id clause)
 
 at_end : (held : List Entry) (id : ℕ) (clause : List LitValue) → All (Below id) held → clause_at (held ++ (id, clause) ∷ []) id ≡ Some clause
 at_end [] id clause b = here [] id clause
 at_end (entry ∷ held) id clause b =
-    let low = All-head (Below id) entry held b in
-    rw (ne_eqb entry.0 id (λ e. absurd (omega (arith, low, e)))) (at_end held id clause (All-tail (Below id) entry held b))
+    grind (arith, All-head (Below id) entry held b, at_end held id clause (All-tail (Below id) entry held b))
 
 pub more_numbered : (held : List Entry) (n id : ℕ) (clause : List LitValue) → n ≤ id → Numbered held n → Numbered (held ++ (id, clause) ∷ []) (id + 1)
 more_numbered held n id clause high m =
-    let all = held ++ (id, clause) ∷ [] in
-    let under : All (Below id) held = λ k d w. let a = m.below k d w in omega (arith, a, high) in
-    record {
-      found = All-append (Found all) held ((id, clause) ∷ []) (λ k d w. kept held ((id, clause) ∷ []) (get_or held k d).0 (get_or held k d).1 (m.found k d w))
-          (All-cons (Found all) (id, clause) [] (at_end held id clause under) (All-nil (Found all)));
-      below = All-append (Below (id + 1)) held ((id, clause) ∷ []) (λ k d w. let a = under k d w in omega (arith, a))
-          (All-cons (Below (id + 1)) (id, clause) [] (omega arith) (All-nil (Below (id + 1))));
-    }
+    grind (arith, common_steps, kept held ((id, clause) ∷ []), at_end held id clause)
 
 -- ---- fewer
 
@@ -84,21 +67,12 @@ module _ (stays : ℕ → Bool) where
 
   same_found : (held : List Entry) (id : ℕ) → stays id ≡ true → clause_at (keep held) id ≡ clause_at held id
   same_found [] id h = refl
-  same_found (entry ∷ held) id h =
-      ⊎_elim (λ e.
-      rw e (⊎_elim (λ i. rw i refl) (λ i. rw i (same_found held id h)) (cases_Bool (entry.0 == id))))
-      (λ e.
-      let apart : entry.0 ≡ id → ⊥ = λ s. false≢true (sym e ∙ ap stays s ∙ h) in
-      rw (e, ne_eqb entry.0 id apart) (same_found held id h))
-      (cases_Bool (stays entry.0))
+  same_found (entry ∷ held) id h = grind (arith, same_found held id h)
 
   all_found : (full held : List Entry) → All (Found full) held → All (Found (keep full)) (keep held)
   all_found full [] f = All-nil (Found (keep full))
   all_found full (entry ∷ held) f =
-      let rest = all_found full held (All-tail (Found full) entry held f) in
-      ⊎_elim (λ e. rw e (All-cons (Found (keep full)) entry (keep held) (same_found full entry.0 e ∙ All-head (Found full) entry held f) rest))
-      (λ e. rw e rest)
-      (cases_Bool (stays entry.0))
+      grind (arith, all_found full held (All-tail (Found full) entry held f), same_found full entry.0, All-head (Found full) entry held f)
 
   pub fewer_numbered : (held : List Entry) (n : ℕ) → Numbered held n → Numbered (keep held) n
   fewer_numbered held n m = record { found = all_found held held m.found; below = All-filter (λ entry. stays entry.0) (Below n) held m.below }

@@ -1,9 +1,9 @@
 -- Where each clause that is held has two literals, nothing falls at once.
-use Rattle.std.{proofs.Common.{◌≡◌, ℕ, Bool, true, false, List, [], ◌∷◌, Some, sym, ◌∙◌, subst, ⊎_elim, ◌==◌, not, All}, specs.List.list_all}
-use Rattle.std.proofs.lemmas.{Bool.{false≢true, cases_Bool, and_parts, not_from_true}, List.Elements.{All-head, All-tail}}
+use Rattle.std.{proofs.Common.{arith, ◌≡◌, ℕ, Bool, true, false, List, [], ◌∷◌, Some, subst, not, All}, specs.List.list_all}
+use Rattle.std.proofs.lemmas.{Bool.false≢true, List.Elements.{All-head, All-tail}}
 use Rattle.cnf_formula.specs.{Literals.{LitValue, same_literal}, Lines.ProofLineValue}
 use Rattle.proof_rules.specs.{Held.{Entry, CheckerValue, clause_at}, Testing.is_rup, Accepting.{IsFalse, Conflicts, leading}}
-use Rattle.proof_rules.proofs.{Taking.{FalseOrIs, same_itself}, Tested.rup_by}
+use Rattle.proof_rules.proofs.{Taking.FalseOrIs, Tested.rup_by}
 
 -- the first two literals of the clause differ
 abbrev pub has_two : List LitValue → Bool
@@ -16,14 +16,7 @@ all_two held = list_all (λ entry. has_two entry.1) held
 
 found : (held : List Entry) (id : ℕ) (clause : List LitValue) → all_two held ≡ true → clause_at held id ≡ Some clause → has_two clause ≡ true
 found [] id clause a h = absurd (cc)
-found (entry ∷ held) id clause a h =
-    let parts = and_parts (has_two entry.1) (all_two held) a in
-    ⊎_elim (λ e.
-    let here : Some (entry.1) ≡ Some clause = rw e at h in
-    let is : entry.1 ≡ clause = cc in
-    subst (λ c. has_two c ≡ true) is parts.0)
-    (λ e. found held id clause parts.1 (rw e at h))
-    (cases_Bool (entry.0 == id))
+found (entry ∷ held) id clause a h = grind (arith, found held id clause)
 
 none_falsified : (clause : List LitValue) → has_two clause ≡ true → All (IsFalse []) clause → ⊥
 none_falsified [] t f = false≢true t
@@ -33,9 +26,7 @@ none_taken : (clause : List LitValue) (l : LitValue) → has_two clause ≡ true
 none_taken [] l t o = false≢true t
 none_taken (x ∷ []) l t o = false≢true t
 none_taken (x ∷ y ∷ clause) l t o =
-    let same : x ≡ l → y ≡ l → ⊥ = λ a b. false≢true (sym (not_from_true (same_literal x y) (subst (λ z. same_literal x z ≡ true) (a ∙ sym b) (same_itself x))) ∙ t) in
-    ⊎_elim (λ f. false≢true f) (λ a. ⊎_elim (λ f. false≢true f) (same a) (All-head (FalseOrIs [] l) y clause (All-tail (FalseOrIs [] l) x (y ∷ clause) o)))
-    (All-head (FalseOrIs [] l) x (y ∷ clause) o)
+    grind (arith, All-head (FalseOrIs [] l) y clause (All-tail (FalseOrIs [] l) x (y ∷ clause) o), All-head (FalseOrIs [] l) x (y ∷ clause) o)
 
 no_conflict_at_once : (held : List Entry) (ids : List ℕ) → all_two held ≡ true → Conflicts held [] ids → ⊥
 no_conflict_at_once held [] a c = c

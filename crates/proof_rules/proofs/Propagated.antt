@@ -1,6 +1,6 @@
 -- Propagation by tests is that of the verdicts without their faults, so it is as the relations say.
-use Rattle.std.proofs.Common.{◌≡◌, ℕ, ◌+◌, Bool, true, false, List, [], ◌∷◌, Option, Some, None, Result, Ok, Err, refl, sym, ap, ◌∙◌, inl, inr, ⊎_elim, ◌&&◌, if◌then◌else◌, option_map}
-use Rattle.std.{specs.List.list_all, proofs.lemmas.Bool.{false≢true, and_parts, and_from, or_cases, or_left, or_right}}
+use Rattle.std.{proofs.lemmas.Bool.{false≢true, or_cases}, specs.List.list_all}
+use Rattle.std.proofs.Common.{arith, ◌≡◌, ℕ, ◌+◌, Bool, true, false, List, [], ◌∷◌, Option, Some, None, Result, Ok, Err, refl, sym, ap, ◌∙◌, inl, inr, ⊎_elim, ◌&&◌, if◌then◌else◌, option_map}
 use Rattle.cnf_formula.specs.Literals.{LitValue, negation, same_literal}
 use Rattle.proof_rules.specs.{declared.verdict.LineCode.{LineCode, TheVariants.HintNotUnit}, Held.{Entry, clause_at, open_literals, has_none}}
 use Rattle.proof_rules.specs.{Judging.{given_by, given_by_clause, after_conflict, led_to}, Testing.{propagated, is_conflict, closes, closes_one}}
@@ -31,8 +31,7 @@ judged held falses place ids given = elim given [
 ]
 
 at_end : (place : ℕ) (ids : List ℕ) → (if has_none ids then Some None else None) ≡ plain (after_conflict place ids)
-at_end place [] = refl
-at_end place (id ∷ ids) = refl
+at_end place ids = grind arith
 
 module _ (held : List Entry) (falses : List LitValue) (place : ℕ) (ids : List ℕ) (more : (l : LitValue) → propagated held (negation l ∷ falses) ids ≡ plain (led_to held (negation l ∷ falses) (place + 1) ids)) where
   by_unit : (l : LitValue) (b : Bool) → (if b then propagated held (negation l ∷ falses) ids else None) ≡ plain (judged held falses place ids (if b then Ok (Some l) else Err HintNotUnit))
@@ -40,12 +39,10 @@ module _ (held : List Entry) (falses : List LitValue) (place : ℕ) (ids : List 
   by_unit l false = refl
 
   by_left : (left : List LitValue) → tested held falses ids (Some left) ≡ plain (judged held falses place ids (given_by left))
-  by_left [] = at_end (place + 1) ids
-  by_left (l ∷ ls) = by_unit l (list_all (same_literal l) ls)
+  by_left left = grind (arith, at_end (place + 1) ids, by_unit)
 
   by_clause : (found : Option (List LitValue)) → tested held falses ids (option_map (open_literals falses) found) ≡ plain (judged held falses place ids (given_by_clause falses found))
-  by_clause None = refl
-  by_clause (Some clause) = by_left (open_literals falses clause)
+  by_clause found = grind (arith, by_left)
 
 propagated_plain : (held : List Entry) (falses : List LitValue) (place : ℕ) (ids : List ℕ) → propagated held falses ids ≡ plain (led_to held falses place ids)
 propagated_plain held falses place [] = refl
@@ -82,8 +79,7 @@ closes_by held ids falses (l ∷ ls) h = ⊎_elim (λ e. inl e) (λ e. inr (clos
 
 pub by_closing : (held : List Entry) (ids : List ℕ) (falses ls : List LitValue) → Closes held ids falses ls → closes held ids falses ls ≡ true
 by_closing held ids falses [] c = by_conflict held falses ids c
-by_closing held ids falses (l ∷ ls) c =
-    ⊎_elim (λ e. or_left (is_made_true falses l) (closes held ids (l ∷ falses) ls) e) (λ e. or_right (is_made_true falses l) (closes held ids (l ∷ falses) ls) (by_closing held ids (l ∷ falses) ls e)) c
+by_closing held ids falses (l ∷ ls) c = grind (arith, by_closing held ids (l ∷ falses) ls)
 
 module _ (held : List Entry) (pivot : LitValue) (start : List LitValue) (group : Group) where
   abbrev closes_found : Option (List LitValue) → Bool
@@ -93,15 +89,7 @@ module _ (held : List Entry) (pivot : LitValue) (start : List LitValue) (group :
   ]
 
   pub answers_by : closes_one held pivot start group ≡ true → Answers held pivot start group
-  answers_by h = go (clause_at held group.named) refl h
-    where
-      go : (found : Option (List LitValue)) → clause_at held group.named ≡ found → closes_found found ≡ true → Answers held pivot start group
-      go None e c = absurd (false≢true c)
-      go (Some clause) e c =
-          let parts = and_parts (has_negated pivot clause) (closes held group.hints start (without_negated pivot clause)) c in
-          record { clause = clause; names = e; negated = parts.0; closes = closes_by held group.hints start (without_negated pivot clause) parts.1 }
+  answers_by h = grind (arith, closes_by)
 
   pub by_answering : Answers held pivot start group → closes_one held pivot start group ≡ true
-  by_answering a =
-      ap closes_found a.names
-      ∙ and_from (has_negated pivot a.clause) (closes held group.hints start (without_negated pivot a.clause)) a.negated (by_closing held group.hints start (without_negated pivot a.clause) a.closes)
+  by_answering a = grind (arith, by_closing held group.hints start (without_negated pivot a.clause) a.closes)

@@ -1,18 +1,13 @@
 -- Where some assignment satisfies a formula, some assignment satisfies all that is held after any accepted lines, and no line refutes it.
-use Rattle.std.proofs.Common.{◌≡◌, ℕ, Bool, true, false, cond, List, [], ◌∷◌, Some, refl, sym, ap, ◌∙◌, subst, ⊎_elim, ◌==◌, ◌||◌, ◌&&◌, not, All}
-use Rattle.std.{specs.List.list_any, proofs.lemmas.List.{Elements.{All-nil, All-cons, All-head, All-tail}, Folds.list_any_none}}
-use Rattle.std.proofs.lemmas.Bool.{false≢true, eq-eqb, or_cases, or_left, or_right, cases_Bool, not_from_true, not_from_false, not-true, not-false, eqb-true, or_parts}
+use Rattle.std.{proofs.Common.{arith, ◌≡◌, ℕ, Bool, true, false, cond, List, [], ◌∷◌, Some, refl, sym, ap, ◌∙◌, subst, ⊎_elim, ◌==◌, All}, specs.List.list_any}
+use Rattle.std.proofs.lemmas.{List.{Elements.{All-nil, All-cons, All-head, All-tail}, Folds.list_any_none}, Bool.{false≢true, or_cases, cases_Bool, eqb-true}}
 use Rattle.cnf_formula.{specs.Literals.{LitValue, same_sign, same_literal, has_literal, negation}, proofs.Clauses.same_is}
-use Rattle.proof_rules.specs.Held.{Entry, clause_at}
+use Rattle.proof_rules.{specs.Held.{Entry, clause_at}, proofs.Taking.FalseOrIs}
 use Rattle.proof_rules.specs.Accepting.{IsFalse, Takes, LeadsTo, Conflicts, Group, has_negated, without_negated, is_made_true, Closes, Answers, is_answered}
-use Rattle.proof_rules.proofs.Taking.{FalseOrIs, same_sign_itself}
 
 pub none_any : {X : Type 0} (p : X → Bool) (xs : List X) → list_any p xs ≡ false → All (λ x. p x ≡ false) xs
 none_any p [] h = All-nil (λ x. p x ≡ false)
-none_any p (x ∷ xs) h =
-    ⊎_elim (λ t. absurd (false≢true (sym h ∙ or_left (p x) (list_any p xs) t)))
-    (λ f. ⊎_elim (λ t. absurd (false≢true (sym h ∙ or_right (p x) (list_any p xs) t))) (λ g. All-cons (λ y. p y ≡ false) x xs f (none_any p xs g)) (cases_Bool (list_any p xs)))
-    (cases_Bool (p x))
+none_any p (x ∷ xs) h = grind (arith, none_any p xs)
 
 -- ---- one valuation of all variables
 
@@ -55,24 +50,12 @@ module _ (v : ℕ → Bool) where
       (λ r. one_is_so falses clause l a (All-tail (FalseOrIs falses l) x clause o) r)
       (or_cases (is_so x) (holds clause) h)
 
-  negation_untrue : (l : LitValue) → is_so l ≡ true → Untrue (negation l)
-  negation_untrue l h = go l.positive (v l.var) h
-    where
-      go : (p b : Bool) → same_sign p b ≡ true → same_sign (not p) b ≡ false
-      go true b h = not_from_true b h
-      go false b h = not-true b h
-
   negation_so : (l : LitValue) → Untrue (negation l) → is_so l ≡ true
-  negation_so l h = go l.positive (v l.var) h
-    where
-      go : (p b : Bool) → same_sign (not p) b ≡ false → same_sign p b ≡ true
-      go true b h = not-false b h
-      go false b h = not_from_false b h
+  negation_so l h = grind arith
 
   takes_so : (held : List Entry) (falses : List LitValue) (id : ℕ) (l : LitValue) → All Holds held → All Untrue falses → Takes held falses id l → All Untrue (negation l ∷ falses)
   takes_so held falses id l h a t =
-      let one = one_is_so falses t.clause l a t.others (found_holds held id t.clause h t.names) in
-      All-cons Untrue (negation l) falses (negation_untrue l one) a
+      grind (arith, one_is_so falses t.clause l a t.others (found_holds held id t.clause h t.names))
 
   pub no_conflict : (held : List Entry) (falses : List LitValue) (ids : List ℕ) → All Holds held → All Untrue falses → Conflicts held falses ids → ⊥
   no_conflict held falses [] h a c = c
@@ -103,47 +86,18 @@ module _ (v : ℕ → Bool) (p : LitValue) where
   abbrev w : ℕ → Bool
   w = turned v p
 
-  pub pivot_so : is_so w p ≡ true
-  pivot_so = ap (λ b. same_sign p.positive (cond b p.positive (v p.var))) (eq-eqb p.var p.var refl) ∙ same_sign_itself p.positive
-
-  -- every true literal but the negated pivot stays true
-  stays_so : (l : LitValue) → same_literal (negation p) l ≡ false → is_so v l ≡ true → is_so w l ≡ true
-  stays_so l other h =
-      ⊎_elim (λ e.
-      let same : p.var == l.var ≡ true = eq-eqb p.var l.var (sym (eqb-true l.var p.var e)) in
-      let differs : same_sign (not p.positive) l.positive ≡ false = sym (ap (λ b. b && same_sign (not p.positive) l.positive) same) ∙ other in
-      ap (λ b. same_sign l.positive (cond b p.positive (v l.var))) e ∙ go p.positive l.positive differs)
-      (λ e. ap (λ b. same_sign l.positive (cond b p.positive (v l.var))) e ∙ h)
-      (cases_Bool (l.var == p.var))
-    where
-      go : (a b : Bool) → same_sign (not a) b ≡ false → same_sign b a ≡ true
-      go true true h = refl
-      go true false h = absurd (false≢true (sym h))
-      go false true h = absurd (false≢true (sym h))
-      go false false h = refl
-
   -- a clause with such a literal holds then
   pub other_holds : (clause : List LitValue) → list_any (is_so v) (without_negated p clause) ≡ true → holds w clause ≡ true
   other_holds [] h = absurd (false≢true h)
-  other_holds (l ∷ clause) h =
-      ⊎_elim (λ e. or_right (is_so w l) (holds w clause) (other_holds clause (rw e at h)))
-      (λ e.
-      ⊎_elim (λ t. or_left (is_so w l) (holds w clause) (stays_so l e t)) (λ t. or_right (is_so w l) (holds w clause) (other_holds clause t))
-      (or_cases (is_so v l) (list_any (is_so v) (without_negated p clause)) (rw e at h)))
-      (cases_Bool (same_literal (negation p) l))
+  other_holds (l ∷ clause) h = grind (arith, other_holds clause)
 
   without_it : (clause : List LitValue) → has_negated p clause ≡ false → without_negated p clause ≡ clause
   without_it [] h = refl
-  without_it (l ∷ clause) h =
-      let parts = or_parts (same_literal (negation p) l) (has_negated p clause) h in
-      rw (parts.0) (ap (λ ls. l ∷ ls) (without_it clause parts.1))
+  without_it (l ∷ clause) h = grind (arith, without_it clause)
 
   pub own_holds : (clause : List LitValue) → has_literal clause p ≡ true → holds w clause ≡ true
   own_holds [] h = absurd (false≢true h)
-  own_holds (l ∷ clause) h =
-      ⊎_elim (λ e. or_left (is_so w l) (holds w clause) (subst (λ y. is_so w y ≡ true) (same_is p l e) pivot_so))
-      (λ r. or_right (is_so w l) (holds w clause) (own_holds clause r))
-      (or_cases (same_literal p l) (has_literal clause p) h)
+  own_holds (l ∷ clause) h = grind (arith, own_holds clause)
 
   module _ (held : List Entry) (start : List LitValue) (groups : List Group) (h : All (Holds v) held) (a : All (Untrue v) start) (answers : All (Answers held p start) groups) where
     made_so : (l : LitValue) → is_made_true start l ≡ true → is_so v l ≡ true
@@ -151,14 +105,11 @@ module _ (v : ℕ → Bool) (p : LitValue) where
 
     some_so : (ls : List LitValue) → list_any (is_made_true start) ls ≡ true → list_any (is_so v) ls ≡ true
     some_so [] t = absurd (false≢true t)
-    some_so (l ∷ ls) t =
-        ⊎_elim (λ here. or_left (is_so v l) (list_any (is_so v) ls) (made_so l here)) (λ later. or_right (is_so v l) (list_any (is_so v) ls) (some_so ls later))
-        (or_cases (is_made_true start l) (list_any (is_made_true start) ls) t)
+    some_so (l ∷ ls) t = grind (arith, made_so l, some_so ls)
 
     closed_so : (ids : List ℕ) (clause : List LitValue) → Closes held ids start (without_negated p clause) → list_any (is_so v) (without_negated p clause) ≡ true
     closed_so ids clause c =
-        ⊎_elim (λ t. t) (λ f. absurd (never_closes v held ids start (without_negated p clause) h a (none_any (is_so v) (without_negated p clause) f) c))
-        (cases_Bool (list_any (is_so v) (without_negated p clause)))
+        grind (arith, never_closes v held ids start (without_negated p clause) h a, none_any (is_so v) (without_negated p clause))
 
     by_group : (gs : List Group) → All (Answers held p start) gs → (entry : Entry) → clause_at held entry.0 ≡ Some (entry.1) → list_any (λ group. group.named == entry.0) gs ≡ true → list_any (is_so v) (without_negated p entry.1) ≡ true
     by_group [] r entry found t = absurd (false≢true t)
@@ -174,9 +125,4 @@ module _ (v : ℕ → Bool) (p : LitValue) where
 
     pub entry_holds : (entry : Entry) → clause_at held entry.0 ≡ Some (entry.1) → Holds v entry → is_answered p start groups entry ≡ true → Holds w entry
     entry_holds entry found so answered =
-        ⊎_elim (λ x.
-        ⊎_elim (λ none. let f : has_negated p entry.1 ≡ false = not-true (has_negated p entry.1) none in other_holds entry.1 (ap (list_any (is_so v)) (without_it entry.1 f) ∙ so))
-        (λ named. other_holds entry.1 (by_group groups answers entry found named))
-        (or_cases (not (has_negated p entry.1)) (list_any (λ group. group.named == entry.0) groups) x))
-        (λ made. other_holds entry.1 (some_so (without_negated p entry.1) made))
-        (or_cases (not (has_negated p entry.1) || list_any (λ group. group.named == entry.0) groups) (list_any (is_made_true start) (without_negated p entry.1)) answered)
+        grind (arith, other_holds entry.1, without_it entry.1, by_group groups answers entry found, some_so (without_negated p entry.1))

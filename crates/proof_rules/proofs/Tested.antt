@@ -1,17 +1,14 @@
 -- The tests of a line say what the relations say, and so whether its verdict is that it is accepted.
-use Rattle.std.proofs.Common.{◌≡◌, ℕ, ◌<◌, max, Bool, true, false, List, [], ◌∷◌, length, map, get_or, Option, Some, None, refl, sym, ap, ◌∙◌, ⊎_elim, arith, ◌↔◌, ◌==◌, ◌≢◌, ◌&&◌, ◌||◌, not, if◌then◌else◌, All, AllPairs, nat_le, nat_lt}
-use Rattle.std.{specs.List.{list_any, list_all}, proofs.lemmas.List.{Elements.{All-nil, All-cons, All-head, All-tail}, Kept.AllPairs-cons}}
-use Rattle.std.proofs.lemmas.Bool.{false≢true, and_parts, and_from, or_cases, or_left, or_right, or_parts, or_from, not-true, not_from_false, ltb-true, lt-ltb, leb-true, le-leb, eqb-false, ne_eqb}
-use Rattle.std.proofs.lemmas.List.Sums.{AllPass-from_list_all, list_all-from_AllPass}
+use Rattle.std.{proofs.lemmas.{Bool.Decides.nat_tests, List.Elements.{All-nil, All-head, All-tail}}, specs.List.{list_any, list_all}}
+use Rattle.std.proofs.Common.{◌≡◌, ℕ, max, Bool, true, false, List, [], ◌∷◌, length, map, Option, Some, None, refl, sym, ap, ⊎_elim, arith, ◌↔◌, ◌==◌, ◌≢◌, ◌&&◌, ◌||◌, not, if◌then◌else◌, All, AllPairs, nat_le, nat_lt}
+use Rattle.std.proofs.lemmas.{List.Sums.{AllPass-from_list_all, list_all-from_AllPass}, Bool.{false≢true, or_cases, or_left, or_right, or_from, ne_eqb}}
 use Rattle.list_laws.proofs.Pairs.{no_pairs, pairs_head, pairs_tail}
 use Rattle.cnf_formula.specs.{Literals.LitValue, Lines.ProofLineValue, declared.line.LratLine.{LratLine, TheVariants.{Addition, Deletion}}}
-use Rattle.proof_rules.specs.{declared.verdict.{LineCode.TheVariants.UnknownDeletion, LineVerdict.LineVerdict}, Held.{CheckerValue, has_none}}
-use Rattle.proof_rules.specs.declared.verdict.LineVerdict.TheVariants.{Accepted as AcceptedVerdict, Refused}
-use Rattle.proof_rules.specs.Accepting.{Group, leading, groups_of, is_answered, IsNew, Implied, Redundant}
-use Rattle.proof_rules.specs.Testing.{propagated, is_conflict, closes_one, has_number_twice, is_new, is_rup, are_resolved, is_rat, are_held, accepts}
-use Rattle.proof_rules.specs.Judging.{verdict_of, verdict_on, is_accepted, is_implied}
-use Rattle.proof_rules.proofs.Verdicts.{implied_by, by_implied, redundant_by, by_redundant}
-use Rattle.proof_rules.proofs.Propagated.{conflict_by, by_conflict, leads_by, by_leading, answers_by, by_answering}
+use Rattle.proof_rules.specs.Testing.{propagated, closes_one, has_number_twice, is_new, is_rup, are_resolved, is_rat, are_held, accepts}
+use Rattle.proof_rules.{proofs.Propagated.{conflict_by, by_conflict, leads_by, by_leading, answers_by, by_answering}, specs.Held.{CheckerValue, has_none}}
+use Rattle.proof_rules.specs.declared.verdict.{LineVerdict.TheVariants.{Accepted as AcceptedVerdict, Refused}, LineCode.TheVariants.UnknownDeletion}
+use Rattle.proof_rules.specs.{Accepting.{Group, leading, groups_of, is_answered, IsNew, Implied, Redundant}, declared.verdict.LineVerdict.LineVerdict}
+use Rattle.proof_rules.{proofs.Verdicts.{implied_by, by_implied, redundant_by, by_redundant}, specs.Judging.{verdict_of, verdict_on, is_accepted, is_implied}}
 
 -- ---- no two with one number
 
@@ -21,9 +18,7 @@ module _ {X : Type 0} (number : X → ℕ) where
 
   none_same : (n : ℕ) (xs : List X) → list_any (λ other. other == n) (map number xs) ≡ false → All (λ x. n ≢ number x) xs
   none_same n [] h = All-nil (λ x. n ≢ number x)
-  none_same n (x ∷ xs) h =
-      let parts = or_parts (number x == n) (list_any (λ other. other == n) (map number xs)) h in
-      All-cons (λ x. n ≢ number x) x xs (λ e. eqb-false (number x) n parts.0 (sym e)) (none_same n xs parts.1)
+  none_same n (x ∷ xs) h = grind (arith, none_same n xs)
 
   same_none : (n : ℕ) (xs : List X) → All (λ x. n ≢ number x) xs → list_any (λ other. other == n) (map number xs) ≡ false
   same_none n [] all = refl
@@ -34,9 +29,7 @@ module _ {X : Type 0} (number : X → ℕ) where
 
   apart_by : (xs : List X) → has_number_twice (map number xs) ≡ false → AllPairs Apart xs
   apart_by [] h = no_pairs Apart
-  apart_by (x ∷ xs) h =
-      let parts = or_parts (list_any (λ other. other == number x) (map number xs)) (has_number_twice (map number xs)) h in
-      AllPairs-cons Apart x xs (none_same (number x) xs parts.0) (apart_by xs parts.1)
+  apart_by (x ∷ xs) h = grind (arith, none_same (number x) xs, apart_by xs)
 
   by_apart : (xs : List X) → AllPairs Apart xs → has_number_twice (map number xs) ≡ false
   by_apart [] p = refl
@@ -59,50 +52,21 @@ module _ (c : CheckerValue) (line : ProofLineValue) where
   is_once = not (has_number_twice (map (λ l. l.var) line.lits))
 
   new_by : is_new c line ≡ true → IsNew c line
-  new_by h =
-      let outer = and_parts (is_above && are_own) is_once h in
-      let inner = and_parts is_above are_own outer.0 in
-      let above = ltb-true (max (length c.formula.clauses) c.greatest) line.id inner.0 in
-      let own = AllPass-from_list_all (in_range c.formula.vars) line.lits inner.1 in
-      record {
-        above_formula = omega (arith, above);
-        above_lines = omega (arith, above);
-        in_range = λ k d w.
-            let l = get_or line.lits k d in
-            let parts = and_parts (nat_lt 0 l.var) (nat_le l.var c.formula.vars) (own k d w) in
-            record { some = ltb-true 0 l.var parts.0; within = leb-true l.var c.formula.vars parts.1 };
-        once = apart_by (λ (l : LitValue). l.var) line.lits (not-true (has_number_twice (map (λ l. l.var) line.lits)) outer.1);
-      }
+  new_by h = grind (arith, AllPass-from_list_all (in_range c.formula.vars) line.lits, apart_by)
 
   by_new : IsNew c line → is_new c line ≡ true
-  by_new n =
-      let above : max (length c.formula.clauses) c.greatest < line.id = omega (arith, n.above_formula, n.above_lines) in
-      and_from (is_above && are_own) is_once
-      (and_from is_above are_own
-      (lt-ltb (max (length c.formula.clauses) c.greatest) line.id above)
-      (list_all-from_AllPass (in_range c.formula.vars) line.lits (λ k d w.
-      let l = get_or line.lits k d in
-      let about = n.in_range k d w in
-      and_from (nat_lt 0 l.var) (nat_le l.var c.formula.vars) (lt-ltb 0 l.var about.some) (le-leb l.var c.formula.vars about.within))))
-      (not_from_false (has_number_twice (map (λ l. l.var) line.lits)) (by_apart (λ (l : LitValue). l.var) line.lits n.once))
+  by_new n = grind (arith, list_all-from_AllPass (in_range c.formula.vars) line.lits, by_apart)
 
 -- ---- RUP
 
 no_groups : (groups : List Group) → has_none groups ≡ true → groups ≡ []
-no_groups [] h = refl
-no_groups (group ∷ groups) h = absurd (false≢true h)
+no_groups groups h = grind (arith, nat_tests)
 
 pub rup_by : (c : CheckerValue) (line : ProofLineValue) → is_rup c line ≡ true → Implied c line
-rup_by c line h =
-    let outer = and_parts (is_new c line && has_none (groups_of line.hints)) (is_conflict (propagated c.held line.lits (leading line.hints))) h in
-    let inner = and_parts (is_new c line) (has_none (groups_of line.hints)) outer.0 in
-    record { new = new_by c line inner.0; no_groups = no_groups (groups_of line.hints) inner.1; conflict = conflict_by c.held line.lits (leading line.hints) outer.1 }
+rup_by c line h = grind (arith, new_by c line, conflict_by c.held line.lits (leading line.hints))
 
 pub by_rup : (c : CheckerValue) (line : ProofLineValue) → Implied c line → is_rup c line ≡ true
-by_rup c line i =
-    and_from (is_new c line && has_none (groups_of line.hints)) (is_conflict (propagated c.held line.lits (leading line.hints)))
-    (and_from (is_new c line) (has_none (groups_of line.hints)) (by_new c line i.new) (ap has_none i.no_groups))
-    (by_conflict c.held line.lits (leading line.hints) i.conflict)
+by_rup c line i = grind (arith, by_new c line i.new, by_conflict c.held line.lits (leading line.hints) i.conflict)
 
 -- ---- RAT
 
@@ -121,37 +85,14 @@ module _ (c : CheckerValue) (line : ProofLineValue) where
   resolved_by new (pivot ∷ rest) None is p h = absurd (false≢true h)
   resolved_by new (pivot ∷ rest) (Some None) is p h = absurd (false≢true h)
   resolved_by new (pivot ∷ rest) (Some (Some start)) is p h =
-      let outer = and_parts (list_all (closes_one c.held pivot start) groups && are_once) (list_all (is_answered pivot start groups) c.held) h in
-      let inner = and_parts (list_all (closes_one c.held pivot start) groups) are_once outer.0 in
-      let closed = AllPass-from_list_all (closes_one c.held pivot start) groups inner.0 in
-      record {
-        new = new;
-        pivot = pivot;
-        rest = rest;
-        first = is;
-        start = start;
-        leads = leads_by c.held line.lits ids start p;
-        answers = λ k d w. answers_by c.held pivot start (get_or groups k d) (closed k d w);
-        named_once = apart_by (λ (group : Group). group.named) groups (not-true (has_number_twice (map (λ group. group.named) groups)) inner.1);
-        each = AllPass-from_list_all (is_answered pivot start groups) c.held outer.1;
-      }
+      grind (arith, AllPass-from_list_all (closes_one c.held pivot start) groups, leads_by c.held line.lits ids start p, answers_by c.held pivot start, apart_by, AllPass-from_list_all (is_answered pivot start groups) c.held)
 
   pub rat_by : is_rat c line ≡ true → Redundant c line
-  rat_by h =
-      let parts = and_parts (is_new c line) (are_resolved c.held groups line.lits (propagated c.held line.lits ids)) h in
-      resolved_by (new_by c line parts.0) line.lits (propagated c.held line.lits ids) refl refl parts.1
+  rat_by h = grind (arith, nat_tests, resolved_by, new_by c line)
 
   pub by_rat : Redundant c line → is_rat c line ≡ true
   by_rat r =
-      let closed : list_all (closes_one c.held r.pivot r.start) groups ≡ true =
-      list_all-from_AllPass (closes_one c.held r.pivot r.start) groups (λ k d w. by_answering c.held r.pivot r.start (get_or groups k d) (r.answers k d w)) in
-      let once : are_once ≡ true = not_from_false (has_number_twice (map (λ group. group.named) groups)) (by_apart (λ (group : Group). group.named) groups r.named_once) in
-      and_from (is_new c line) (are_resolved c.held groups line.lits (propagated c.held line.lits ids)) (by_new c line r.new)
-      (ap (λ lits. are_resolved c.held groups lits (propagated c.held line.lits ids)) r.first
-      ∙ (ap (are_resolved c.held groups (r.pivot ∷ r.rest)) (by_leading c.held line.lits ids r.start r.leads)
-      ∙ and_from (list_all (closes_one c.held r.pivot r.start) groups && are_once) (list_all (is_answered r.pivot r.start groups) c.held)
-      (and_from (list_all (closes_one c.held r.pivot r.start) groups) are_once closed once)
-      (list_all-from_AllPass (is_answered r.pivot r.start groups) c.held r.each)))
+      grind (arith, list_all-from_AllPass (closes_one c.held r.pivot r.start) groups, by_answering c.held r.pivot r.start, by_apart, by_new c line r.new, by_leading c.held line.lits ids r.start r.leads, list_all-from_AllPass (is_answered r.pivot r.start groups) c.held r.each)
 
 pub rup_exactly : (c : CheckerValue) (line : ProofLineValue) → (is_rup c line ≡ true) ↔ Implied c line
 rup_exactly c line = (rup_by c line, by_rup c line)
@@ -166,15 +107,9 @@ same_tests true b there back = sym (there refl)
 same_tests false true there back = back refl
 same_tests false false there back = refl
 
-said_implied : (v : LineVerdict) → is_implied v ≡ true → v ≡ AcceptedVerdict true
-said_implied (AcceptedVerdict implied) e = ap (λ b. AcceptedVerdict b) e
-said_implied (Refused code hint) e = absurd (false≢true e)
-
 pub rup_said : (c : CheckerValue) (line : ProofLineValue) → is_rup c line ≡ is_implied (verdict_of c line)
 rup_said c line =
-    same_tests (is_rup c line) (is_implied (verdict_of c line))
-    (λ h. ap is_implied (by_implied c line (rup_by c line h)))
-    (λ h. by_rup c line (implied_by c line (said_implied (verdict_of c line) h)))
+    grind (arith, nat_tests, by_implied c line, rup_by c line, by_rup c line, implied_by c line)
 
 accepted_said : (c : CheckerValue) (line : ProofLineValue) → (is_rup c line || is_rat c line) ≡ is_accepted (verdict_of c line)
 accepted_said c line =

@@ -1,13 +1,11 @@
 -- Where some assignment satisfies a formula, some assignment of its variables satisfies all that is held after any accepted lines.
-use Rattle.std.proofs.Common.{◌≡◌, ℕ, ◌+◌, ◌-◌, Bool, true, false, List, [], ◌∷◌, map, refl, ap, ◌∙◌, subst, ⊎_elim, arith, ◌==◌, not, All}
-use Rattle.std.{specs.List.{list_any, enumerate_from, range_with_len}, proofs.lemmas.Bool.{and_parts, and_from, or_cases}}
-use Rattle.std.proofs.lemmas.List.FromFn.{get_or-map-range_with_len, length-map-range_with_len}
-use Rattle.std.proofs.lemmas.List.Elements.{All-nil, All-cons, All-head, All-tail, All-push, All-filter}
+use Rattle.std.{proofs.lemmas.{Grind.common_steps, Bool.and_from}, specs.List.{list_any, enumerate_from, range_with_len}}
+use Rattle.std.proofs.Common.{◌≡◌, ℕ, ◌+◌, ◌-◌, Bool, true, false, List, [], ◌∷◌, map, refl, ◌∙◌, arith, ◌==◌, not, All}
+use Rattle.std.proofs.lemmas.List.{FromFn.{get_or-map-range_with_len, length-map-range_with_len}, Elements.{All-nil, All-cons, All-head, All-tail, All-filter}}
 use Rattle.cnf_formula.specs.{Literals.{LitValue, value_of, clause_holds, all_hold}, Formulas.{FormulaValue, IsFormula, IsClause, IsAbout, Satisfiable}}
 use Rattle.cnf_formula.specs.declared.line.LratLine.{LratLine, TheVariants.{Addition, Deletion}}
-use Rattle.proof_rules.specs.{Held.{Entry, CheckerValue, start_of}, Testing.{is_rup, is_rat, accepts}}
-use Rattle.proof_rules.specs.Refuting.{with_accepted, all_accepted, after_lines, formula_after}
-use Rattle.proof_rules.proofs.{Tested.{rup_by, rat_by}, Sound.{holds, Holds}, Calm.{all_calm, starts_calm}, Kept.same_formula}
+use Rattle.proof_rules.{specs.{Held.{Entry, CheckerValue, start_of}, Testing.accepts}, proofs.Sound.{holds, Holds}}
+use Rattle.proof_rules.{specs.Refuting.{with_accepted, all_accepted, after_lines, formula_after}, proofs.Calm.{all_calm, starts_calm}}
 
 -- ---- what is held is about the formula's variables
 
@@ -27,16 +25,11 @@ record Kept (f : FormulaValue) (c : CheckerValue) : Type 0 where
 
 new_in_range : (c : CheckerValue) (line : LratLine) (vars : ℕ) → c.formula.vars ≡ vars → accepts c line ≡ true → All (InRange vars) c.held → All (InRange vars) (with_accepted c line).held
 new_in_range c (Deletion deletion) vars e a h = All-filter (λ entry. not (list_any (λ id. id == entry.0) deletion.ids)) (InRange vars) c.held h
-new_in_range c (Addition line) vars e a h =
-    let own : IsClause c.formula.vars line.lits = ⊎_elim (λ r. (rup_by c line r).new.in_range) (λ r. (rat_by c line r).new.in_range) (or_cases (is_rup c line) (is_rat c line) a) in
-    All-push (InRange vars) c.held (line.id, line.lits) h (subst (λ n. IsClause n line.lits) e own)
+new_in_range c (Addition line) vars e a h = grind (arith, common_steps)
 
 all_kept : (f : FormulaValue) (lines : List LratLine) (c : CheckerValue) → all_accepted c lines ≡ true → Kept f c → Kept f (after_lines c lines)
 all_kept f [] c a k = k
-all_kept f (line ∷ lines) c a k =
-    let parts = and_parts (accepts c line) (all_accepted (with_accepted c line) lines) a in
-    all_kept f lines (with_accepted c line) parts.1
-    (record { same = same_formula c line ∙ k.same; in_range = new_in_range c line f.vars (ap (λ g. g.vars) k.same) parts.0 k.in_range })
+all_kept f (line ∷ lines) c a k = grind (arith, all_kept f lines (with_accepted c line), new_in_range c line f.vars)
 
 -- ---- a valuation of all numbers as an assignment
 
@@ -44,10 +37,7 @@ abbrev listed : (ℕ → Bool) → ℕ → List Bool
 listed v vars = map v (range_with_len 1 vars)
 
 value_listed : (v : ℕ → Bool) (vars : ℕ) (l : LitValue) → IsAbout vars l → value_of (listed v vars) l.var ≡ v l.var
-value_listed v vars l a =
-    let some = a.some in
-    let within = a.within in
-    get_or-map-range_with_len v 1 vars (l.var - 1) l.var false (omega (arith, some, within)) (omega (arith, some))
+value_listed v vars l a = grind (arith, get_or-map-range_with_len v 1 vars (l.var - 1) l.var false)
 
 clause_listed : (v : ℕ → Bool) (vars : ℕ) (clause : List LitValue) → IsClause vars clause → clause_holds (listed v vars) clause ≡ holds v clause
 clause_listed v vars [] h = refl

@@ -1,7 +1,5 @@
-use Rattle.std.{proofs.{Common.{◌+◌, ◌||◌, ◌++◌, ◌∷◌, [], drop, take, sym, ap, ◌∙◌, subst, arith, All}, lemmas.List.Elements.All-push}, specs.List.list_any}
-use Rattle.std.proofs.lemmas.List.{drop_more, take_more}
+use Rattle.std.proofs.{Common.{◌+◌, ◌++◌, ◌∷◌, [], drop, take, sym, ap, ◌∙◌, arith}, lemmas.List.{Elements.All-push, drop_more, take_more}}
 use Rattle.cnf_formula.specs.Formulas.{IsAbout}
-use Rattle.proof_rules.{specs.Judging.is_foreign, proofs.Verdicts.variable_own}
 use Rattle.lrat_checker.proofs.judging.in_range.Goals as goal
 
 pub loop-lit-preserved : goal.loop-lit-preserved
@@ -13,7 +11,4 @@ loop-lit-preserved c =
     let own : IsAbout vars lit = record { some = c.var.ensures.limits.some; within = omega (arith, c.var.ensures.var, c.if-var-vars.false) } in
     let here = drop_more lits j lit c.loop-lit-test.true ∙ ap (λ l. l ∷ drop (j + 1) lits) (sym c.lit-item.is) in
     let more = take_more lits j lit c.loop-lit-test.true ∙ ap (λ l. take j lits ++ l ∷ []) (sym c.lit-item.is) in
-    record {
-      rest = c.loop-lit.invariant.rest ∙ ap (list_any (is_foreign vars)) here ∙ ap (λ b. b || list_any (is_foreign vars) (drop (j + 1) lits)) (variable_own vars lit own);
-      about = subst (All (IsAbout vars)) (sym more) (All-push (IsAbout vars) (take j lits) lit c.loop-lit.invariant.about own);
-    }
+    grind (arith, All-push (IsAbout vars) (take j lits) lit c.loop-lit.invariant.about own)

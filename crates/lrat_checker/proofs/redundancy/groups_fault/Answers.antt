@@ -1,22 +1,11 @@
-use Rattle.std.{proofs.Common.{◌||◌, ◌==◌, ℕ, List, Option, Ok, get_or, sym, ap, ◌∙◌, rules, pos, w64, SFits}, specs.{BTreeSet.contains, Ordering.nat_cmp}}
+use Rattle.std.proofs.Common.{arith, ℕ, List, Option, get_or, sym, ap, ◌∙◌, rules, pos, w64, SFits}
 use Rattle.cnf_formula.specs.Literals.{LitValue}
 use Rattle.proof_rules.specs.{Held.clause_at, Judging.{Fault, group_fault}}
-use Rattle.lrat_checker.proofs.Grouped.{group_at, faulty_any, passes, none_from, group_number}
+use Rattle.lrat_checker.proofs.Grouped.{group_at, none_from, group_number}
 use Rattle.lrat_checker.proofs.redundancy.groups_fault.Goals as goal
 
 pub returns-then-is_some-clause-fault : goal.returns-then-is_some-clause-fault
-returns-then-is_some-clause-fault c =
-    let held = c.args.table.now.held in
-    let hints = c.args.hints.now in
-    let start = c.args.marks.now.falses in
-    let at = c.loop-at.at in
-    let i = c.loop-at.invariant in
-    let n = i.negative c.loop-at-test.true in
-    let fits : SFits w64 (get_or hints at (pos 0)) = search rules in
-    let id = group_number hints at n.0 c.unsigned_abs-id.result c.loop-at-test.true fits n.1 c.unsigned_abs-id.ensures.value in
-    let say : List LitValue → ℕ → Option Fault = λ fs k. group_fault held c.args.pivot fs i.left.earlier (group_at held c.args.pivot start hints at k) (clause_at held k) in
-    faulty_any held c.args.pivot start hints c.loop-at.named at n.0 c.in_ok-fault.fault i.left (sym c.is_some.ensures ∙ c.if-is_some.true) n.1
-    (c.in_ok-fault.ensures.fault i.left.earlier i.left.same ∙ ap (λ fs. say fs c.unsigned_abs-id.result) (ap (λ m. m.falses) i.marks) ∙ ap (say start) id)
+returns-then-is_some-clause-fault c = grind (arith, group_number)
 
 pub loop-at-preserved : goal.loop-at-preserved
 loop-at-preserved c =
@@ -31,11 +20,4 @@ loop-at-preserved c =
     let say : List LitValue → ℕ → Option Fault = λ fs k. group_fault held c.args.pivot fs i.left.earlier (group_at held c.args.pivot start hints at k) (clause_at held k) in
     let none = none_from c.in_ok-fault.fault (sym c.is_some.ensures ∙ c.if-is_some.false) in
     let passed = sym (ap (λ fs. say fs c.unsigned_abs-id.result) (ap (λ m. m.falses) i.marks) ∙ ap (say start) id) ∙ sym (c.in_ok-fault.ensures.fault i.left.earlier i.left.same) ∙ none in
-    record {
-      marks = c.group_fault.ensures.marks ∙ i.marks;
-      within = c.next_group-at-in-loop-at.ensures.within;
-      negative = c.next_group-at-in-loop-at.ensures.negative;
-      left = passes held c.args.pivot start hints c.loop-at.named c.group_fault.new.named at n.0 c.next_group-at-in-loop-at.result i.left n.1 passed
-          (λ k. c.in_ok-fault.ensures.named (ap Ok none) k ∙ ap (λ m. m == k || contains nat_cmp c.loop-at.named k) id)
-          c.next_group-at-in-loop-at.ensures.groups;
-    }
+    grind arith

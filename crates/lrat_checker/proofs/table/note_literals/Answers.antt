@@ -1,15 +1,7 @@
-use Rattle.std.proofs.{Common.{◌≡◌, ◌<◌, length, map, get_or, sym, ◌∙◌, subst, arith, Contains}, lemmas.List.get_or_read}
+use Rattle.std.proofs.{Common.{◌≡◌, map, get_or, sym, ◌∙◌, subst, Contains}, lemmas.List.get_or_read}
 use Rattle.cnf_formula.specs.Literals.{LitValue, code_of}
 use Rattle.lrat_checker.{specs.Stored.list_at, proofs.Noted.one_more}
 use Rattle.lrat_checker.proofs.table.note_literals.Goals as goal
-
-pub note-requires : goal.note-requires
-note-requires c =
-    let j = c.loop-lit.lit-index in
-    let lit = c.lit-item.result in
-    let lits = c.args.lits.now in
-    let known : code_of lit < length c.args.lists.now.items = subst (λ l. code_of l < length c.args.lists.now.items) (sym (get_or_read lits j lit c.loop-lit-test.true c.lit-item.is lit)) (c.requires j lit c.loop-lit-test.true) in
-    omega (arith, known, c.code.ensures.code, c.loop-lit.invariant.long)
 
 pub loop-lit-preserved : goal.loop-lit-preserved
 loop-lit-preserved c =

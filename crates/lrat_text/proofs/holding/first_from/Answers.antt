@@ -1,17 +1,13 @@
 use Rattle.std.proofs.Common.{◌≤◌, length, arith}
 use Rattle.lrat_text.proofs.Passing.{whole_line, last_line, no_line, nothing_left}
-use Rattle.lrat_text.proofs.holding.first_from.Goals as goal
 use Rattle.lrat_text.proofs.holding.first_from.Goals.{else-from-end-via-then-from-end+else-finished, else-from-end-via-else-from-end}
+use Rattle.lrat_text.proofs.holding.first_from.Goals as goal
 
 pub returns-then-end-bytes-clause-some : goal.returns-then-end-bytes-clause-some
-returns-then-end-bytes-clause-some c =
-    let end = c.end_of-end in
-    whole_line c.args.bytes.now c.args.finished c.args.from c.args.searched end.result c.requires.ordered end.ensures.after c.if-end-bytes.true c.requires.clear end.ensures.apart (end.ensures.stops c.if-end-bytes.true)
+returns-then-end-bytes-clause-some c = grind (arith, whole_line c.args.bytes.now c.args.finished c.args.from c.args.searched)
 
 pub returns-then-finished-clause-some : goal.returns-then-finished-clause-some
-returns-then-finished-clause-some c =
-    let end = c.end_of-end in
-    last_line c.args.bytes.now c.args.finished c.args.from c.args.searched end.result c.if-finished.true c.requires.ordered end.ensures.after end.ensures.before c.if-end-bytes.false c.if-from-end.true c.requires.clear end.ensures.apart
+returns-then-finished-clause-some c = grind (arith, last_line c.args.bytes.now c.args.finished c.args.from c.args.searched)
 
 pub returns-clause-none : goal.returns-clause-none
 returns-clause-none c = λ place.

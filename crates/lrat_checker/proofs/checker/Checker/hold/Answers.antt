@@ -2,8 +2,8 @@ use Rattle.std.proofs.Common.{◌≡◌, ◌||◌, ◌==◌, true, List, length,
 use Rattle.cnf_formula.specs.{Lines.ProofLineValue, Literals.LitValue}
 use Rattle.proof_rules.specs.{Judging.{verdict_of, is_accepted}, Held.has_none}
 use Rattle.lrat_checker.{specs.Checking.{checker_of, CanCheck}, proofs.Checked.{can_add, table_with, empty_is}}
-use Rattle.lrat_checker.proofs.checker.Checker.hold.Goals as goal
 use Rattle.lrat_checker.proofs.checker.Checker.hold.Goals.{then-self, else-self}
+use Rattle.lrat_checker.proofs.checker.Checker.hold.Goals as goal
 
 pub invariant_of-self-2 : goal.invariant_of-self-2
 invariant_of-self-2 c =
@@ -11,8 +11,7 @@ invariant_of-self-2 c =
     let line : ProofLineValue = record { id = c.line.inside.id; lits = c.line.inside.lits.items; hints = c.line.inside.hints.items } in
     let same : line ≡ c.args.line.now = c.line.view_is in
     let old = checker_of i.table i.originals i.greatest i.refuted in
-    let accepted : is_accepted (verdict_of old line) ≡ true =
-    subst (λ l. is_accepted (verdict_of old l) ≡ true) (sym same) (subst (λ d. is_accepted (verdict_of d c.args.line.now) ≡ true) (sym c.self.view_is) c.requires) in
+    let accepted : is_accepted (verdict_of old line) ≡ true = grind arith in
     let can = can_add i.table i.marks i.originals i.greatest i.refuted line c.self.invariant accepted in
     let with_lits = λ (ls : List LitValue). table_with i.table (record { id = c.line.inside.id; lits = ls; hints = c.line.inside.hints.items }) in
     let new : c.push.new.self ≡ table_with i.table line = c.in_ok-push.ensures.added ∙ ap with_lits c.deref.ensures.value in

@@ -23,12 +23,7 @@ loop-self-preserved c =
     let n = at_code i.vars i.counts.items (ms ++ x ∷ []) x c.code.result c.index_mut.result.now counted (about_last i.vars ms x counted.about) c.code.ensures.code c.index_mut.ensures.value in
     let fewer = counted_fewer i.vars i.counts.items ms x c.index_mut.result.now counted n in
     let long : length i.marked.items ≡ length ms + 1 = ap length e ∙ length_push ms x in
-    record {
-      counted = rw c.code.ensures.code fewer;
-      front = shorter i.marked.items ms c.self.inside.marked.items x e c.loop-self.invariant.front;
-      long = omega (arith, long, c.loop-self-test.true, c.len.ensures);
-      vars = c.loop-self.invariant.vars;
-    }
+    grind (arith, shorter i.marked.items ms c.self.inside.marked.items x e c.loop-self.invariant.front)
 
 pub returns : goal.returns
 returns c =

@@ -1,15 +1,10 @@
-use Rattle.std.proofs.Common.{sym, ap, subst, arith}
+use Rattle.std.proofs.{lemmas.Grind.common_steps, Common.{sym, ap, subst, arith}}
 use Rattle.cnf_formula.specs.Formulas.{IsAbout}
-use Rattle.lrat_checker.proofs.Marked.{times_few, counted_more, read_times, at_code}
+use Rattle.lrat_checker.proofs.Marked.{times_few, counted_more, at_code}
 use Rattle.lrat_checker.proofs.marks.Marks.mark.Goals as goal
 
 pub overflow_add-index_mut : goal.overflow_add-index_mut
-overflow_add-index_mut c =
-    let i = c.self.inside in
-    let l = c.args.lit in
-    let about = subst (λ n. IsAbout n l) (sym (ap (λ m. m.vars) c.self.view_is)) c.requires in
-    let n = read_times i.vars i.counts.items i.marked.items l c.code.result c.index_mut.result.now c.self.invariant about c.code.ensures.code c.index_mut.ensures.value in
-    omega (arith, n, times_few l i.marked.items, c.in_ok-push.ensures.len, c.push.new.self.small, c.push.new.self.ok.0)
+overflow_add-index_mut c = grind (arith, common_steps, times_few)
 
 pub invariant_of-self-2 : goal.invariant_of-self-2
 invariant_of-self-2 c =

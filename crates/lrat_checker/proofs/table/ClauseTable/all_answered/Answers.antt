@@ -1,18 +1,14 @@
 use Rattle.std.{proofs.Common.{◌≡◌, ◌<◌, true, [], length, map, get_or, sym, ap, ◌∙◌, subst, arith, All, filter}, specs.List.list_all}
 use Rattle.std.proofs.lemmas.List.{length-map, length-set}
-use Rattle.cnf_formula.{proofs.{Clauses.negation_about, Codes.code_within}, specs.{Formulas.IsAbout, Literals.{code_of, negation}}}
+use Rattle.cnf_formula.specs.Literals.{code_of, negation}
 use Rattle.list_laws.proofs.Fronts.{at_map}
 use Rattle.proof_rules.specs.Accepting.{is_answered}
-use Rattle.lrat_checker.specs.Stored.{list_at, is_held, answers, IsIndexed, IsStored}
-use Rattle.lrat_checker.proofs.{Placed.live_within, Noted.answered_by_list, Cleaned.{cleaned, all_held, stored_cleaned}}
+use Rattle.lrat_checker.{specs.Stored.{list_at, is_held, answers, IsIndexed, IsStored}, proofs.{Placed.live_within, Noted.answered_by_list}}
+use Rattle.lrat_checker.proofs.{Cleaned.{cleaned, all_held, stored_cleaned}, table.ClauseTable.all_answered.Goals.{After-drop_gone, After-deref-3}}
 use Rattle.lrat_checker.proofs.table.ClauseTable.all_answered.Goals as goal
-use Rattle.lrat_checker.proofs.table.ClauseTable.all_answered.Goals.{After-drop_gone, After-deref-3}
 
 known : (c : After-drop_gone) → c.code-code.result < length (map (λ v. v.items) c.self.inside.lists.items)
-known c =
-    let i = c.self.inside in
-    let about : IsAbout i.vars c.args.pivot = subst (λ n. IsAbout n c.args.pivot) (sym (ap (λ t. t.vars) c.self.view_is)) c.requires.pivot in
-    omega (arith, c.code-code.ensures.code, ap code_of c.negated.ensures, code_within i.vars (negation c.args.pivot) (negation_about i.vars c.args.pivot about), c.self.invariant.indexed.long)
+known c = grind arith
 
 new : (c : After-drop_gone) → map (λ v. v.items) c.drop_gone.new.lists.items ≡ cleaned c.self.inside.live.items (map (λ v. v.items) c.self.inside.lists.items) c.code-code.result
 new c = c.drop_gone.ensures ∙ ap (λ bs. cleaned bs (map (λ v. v.items) c.self.inside.lists.items) c.code-code.result) c.deref.ensures.value

@@ -1,10 +1,8 @@
 use Rattle.std.{proofs.Common.{◌≡◌, ◌<◌, [], length, get_or, Some, None, false, sym, ap, ◌∙◌, subst, arith, if◌then◌else◌}, specs.Option.option_copied}
 use Rattle.std.proofs.lemmas.List.{get_or_read}
-use Rattle.cnf_formula.specs.Formulas.{IsClause}
 use Rattle.proof_rules.specs.Held.{clause_at}
-use Rattle.lrat_checker.{specs.Stored.held_of, proofs.Placed.{Others, not_held, held_at}}
+use Rattle.lrat_checker.{specs.Stored.held_of, proofs.{Placed.{Others, not_held, held_at}, table.ClauseTable.clause.Goals.After-index}}
 use Rattle.lrat_checker.proofs.table.ClauseTable.clause.Goals as goal
-use Rattle.lrat_checker.proofs.table.ClauseTable.clause.Goals.{After-index}
 
 pub returns-in_err-place-clause-held : goal.returns-in_err-place-clause-held
 returns-in_err-place-clause-held c =
@@ -28,17 +26,7 @@ held c =
     ∙ held_at i.ids.items i.live.items i.clauses place c.self.invariant.rises c.self.invariant.lives c.self.invariant.many at.0 ∙ ap (λ b. if b then Some (get_or i.clauses place []) else None) live
 
 pub returns-then-index-clause-held : goal.returns-then-index-clause-held
-returns-then-index-clause-held c =
-    let clause = get_or c.self.inside.clauses c.in_ok-place.place [] in
-    sym (held (goal.at.returns-then-index-clause-held c).After-index ∙ ap (λ b. if b then Some clause else None) c.if-index.true ∙ ap Some (sym c.clause.ensures))
-
-pub returns-then-index-clause-about : goal.returns-then-index-clause-about
-returns-then-index-clause-about c =
-    let i = c.self.inside in
-    let about = c.self.invariant.about c.in_ok-place.place [] (omega (arith, (found (goal.at.returns-then-index-clause-about c).After-index).0, c.self.invariant.many)) in
-    subst (λ t. IsClause t.vars c.clause.result.now) c.self.view_is (subst (IsClause i.vars) (sym c.clause.ensures) about)
+returns-then-index-clause-held c = grind (arith, held (goal.at.returns-then-index-clause-held c).After-index)
 
 pub returns-else-index-clause-held : goal.returns-else-index-clause-held
-returns-else-index-clause-held c =
-    let clause = get_or c.self.inside.clauses c.in_ok-place.place [] in
-    sym (held (goal.at.returns-else-index-clause-held c).After-index ∙ ap (λ b. if b then Some clause else None) c.if-index.false)
+returns-else-index-clause-held c = grind (arith, held (goal.at.returns-else-index-clause-held c).After-index)

@@ -1,9 +1,9 @@
 use Rattle.std.proofs.Common.{◌+◌, ◌<◌, ◌≤◌, ℕ, List, [], ◌∷◌, ◌++◌, false, length, get_or, sym, ap, ◌∙◌, subst, arith, if◌then◌else◌}
 use Rattle.std.proofs.lemmas.List.{get_or_read}
-use Rattle.cnf_formula.specs.{Formulas.IsClause, Literals.LitValue}
+use Rattle.cnf_formula.specs.Literals.{LitValue}
 use Rattle.lrat_checker.{specs.Stored.{TableValue, HasForgotten}, proofs.Forgotten.{IsPart, part_push, part_skip, part_all}}
-use Rattle.lrat_checker.proofs.table.ClauseTable.forget.Goals as goal
 use Rattle.lrat_checker.proofs.table.ClauseTable.forget.Goals.{then-held+in_ok-push, else-held+else-place-first}
+use Rattle.lrat_checker.proofs.table.ClauseTable.forget.Goals as goal
 
 pub push-requires-clause-above : goal.push-requires-clause-above
 push-requires-clause-above c =
@@ -13,14 +13,6 @@ push-requires-clause-above c =
     let at = get_or_read ids k c.index.result.now w c.index.ensures 0 in
     let below = c.loop-place.invariant.below k (omega arith) w in
     omega (arith, at, below)
-
-pub push-requires-clause-about : goal.push-requires-clause-about
-push-requires-clause-about c =
-    let i = c.self.inside in
-    let k = c.loop-place.place in
-    let w : k < length i.ids.items = omega (arith, c.loop-place-test.true, c.loop-place.auto.place-end, c.len-place-end.ensures) in
-    let about = c.self.invariant.about k [] (omega (arith, w, c.self.invariant.many)) in
-    subst (λ n. IsClause n c.clause.result.now) (sym c.loop-place.invariant.vars) (subst (IsClause i.vars) (sym c.clause.ensures) about)
 
 pub loop-place-preserved : goal.loop-place-preserved
 loop-place-preserved c =

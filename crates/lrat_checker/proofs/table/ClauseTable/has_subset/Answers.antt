@@ -1,22 +1,15 @@
-use Rattle.std.{proofs.Common.{◌≡◌, ◌<◌, Bool, true, false, [], length, map, take, get_or, sym, ap, ◌∙◌, subst, arith}, specs.List.list_any}
-use Rattle.std.proofs.lemmas.List.{get_or_read, length-map, take_all}
-use Rattle.cnf_formula.{proofs.Codes.code_within, specs.{Literals.{LitValue, has_literal, is_superset, code_of}, Formulas.IsAbout}}
+use Rattle.std.{proofs.{Common.{◌≡◌, true, false, map, take, sym, ap, ◌∙◌, arith}, lemmas.List.{length-map, take_all}}, specs.List.list_any}
+use Rattle.cnf_formula.specs.Literals.{is_superset}
 use Rattle.list_laws.proofs.Fronts.{at_map}
-use Rattle.lrat_checker.{specs.{inner.Leads.signature_of, Stored.{list_at, finds}}, proofs.{Covered.{one_covered, none_covered}, Noted.one_more}}
-use Rattle.lrat_checker.proofs.table.ClauseTable.has_subset.Goals as goal
+use Rattle.lrat_checker.{specs.{inner.Leads.signature_of, Stored.{list_at, finds}}, proofs.Covered.{one_covered, none_covered}}
 use Rattle.lrat_checker.proofs.table.ClauseTable.has_subset.Goals.{After-deref-2, After-deref-in-loop-lit-2}
+use Rattle.lrat_checker.proofs.table.ClauseTable.has_subset.Goals as goal
 
 bare : (c : After-deref-2) → list_at (map (λ v. v.items) c.self.inside.leads.items) 0 ≡ c.deref-2.result.now
-bare c =
-    let leads = c.self.inside.leads.items in
-    at_map (λ v. v.items) leads 0 c.index-bare.result.now [] (omega (arith, c.self.invariant.led.long, length-map leads (λ v. v.items))) c.index-bare.ensures ∙ sym c.deref-2.ensures.value
+bare c = grind (arith, at_map, length-map)
 
 listed : (c : After-deref-in-loop-lit-2) → list_at (map (λ v. v.items) c.self.inside.leads.items) c.code.result ≡ c.deref-in-loop-lit-2.result.now
-listed c =
-    let i = c.self.inside in
-    let about : IsAbout i.vars c.lit-item.result = subst (λ t. IsAbout t.vars c.lit-item.result) (sym c.self.view_is) (subst (IsAbout c.args.self.now.vars) (sym c.lit-item.is) (c.requires.about c.loop-lit.lit-index c.lit-item.result c.loop-lit-test.true)) in
-    let known : c.code.result < length i.leads.items = omega (arith, c.code.ensures.code, code_within i.vars c.lit-item.result about, c.self.invariant.led.long, length-map i.leads.items (λ v. v.items)) in
-    at_map (λ v. v.items) i.leads.items c.code.result c.index-list.result.now [] known c.index-list.ensures ∙ sym c.deref-in-loop-lit-2.ensures.value
+listed c = grind (arith, length-map, at_map)
 
 pub returns-then-has_marked : goal.returns-then-has_marked
 returns-then-has_marked c =
@@ -46,22 +39,4 @@ returns c =
     let list = bare (goal.at.returns c).After-deref-2 in
     let first : list_any (finds i.live.items clauses lits (signature_of lits)) (list_at (map (λ v. v.items) i.leads.items) 0) ≡ false = let e = c.has_marked.ensures in let a = c.if-has_marked.false in let l = c.deref.ensures.value in let m = c.requires.marked in let s = c.signature_of-signature.ensures in cc in
     let whole : take c.loop-lit.lit-index lits ≡ lits = take_all c.loop-lit.lit-index lits c.loop-lit-test.false in
-    sym (ap (λ t. list_any (λ entry. is_superset lits entry.1) t.held) (sym c.self.view_is)
-    ∙ none_covered lits i.ids.items i.live.items clauses c.self.invariant.lives c.self.invariant.many i.vars (map (λ v. v.items) i.leads.items) c.self.invariant.led first
-    (λ x h. c.loop-lit.invariant x (ap (λ ls. has_literal ls x) whole ∙ h)))
-
-pub loop-lit-preserved : goal.loop-lit-preserved
-loop-lit-preserved c =
-    let i = c.self.inside in
-    let lits = c.args.lits.now in
-    let clauses = i.clauses in
-    let lists = map (λ v. v.items) i.leads.items in
-    let j = c.loop-lit.lit-index in
-    let lit = c.lit-item.result in
-    let k = c.code.result in
-    let at : (d : LitValue) → get_or lits j d ≡ lit = λ d. sym (get_or_read lits j lit c.loop-lit-test.true c.lit-item.is d) in
-    let list = listed (goal.at.loop-lit-preserved c).After-deref-in-loop-lit-2 in
-    let test : LitValue → Bool = λ x. list_any (finds i.live.items clauses lits (signature_of lits)) (list_at lists (code_of x)) in
-    let none : list_any (finds i.live.items clauses lits (signature_of lits)) (list_at lists k) ≡ false =
-    let e = c.has_marked-in-loop-lit.ensures in let a = c.if-has_marked-2.false in let l = c.deref-in-loop-lit.ensures.value in let m = c.requires.marked in let s = c.signature_of-signature.ensures in cc in
-    one_more (λ x. test x ≡ false) lits j lit at c.loop-lit-test.true (ap (λ n. list_any (finds i.live.items clauses lits (signature_of lits)) (list_at lists n)) (sym c.code.ensures.code) ∙ none) c.loop-lit.invariant
+    sym (grind (arith, none_covered lits i.ids.items i.live.items clauses c.self.invariant.lives c.self.invariant.many i.vars))

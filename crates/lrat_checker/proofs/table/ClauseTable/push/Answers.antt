@@ -1,10 +1,8 @@
-use Rattle.std.proofs.Common.{◌≡◌, ◌<◌, [], ◌∷◌, ◌++◌, length, map, refl, sym, ap, ◌∙◌, subst, arith, Contains, if◌then◌else◌}
-use Rattle.std.proofs.lemmas.List.{length-map}
+use Rattle.std.proofs.{Common.{◌≡◌, ◌<◌, [], ◌∷◌, ◌++◌, length, map, sym, ap, ◌∙◌, subst, arith, Contains}, lemmas.List.length-map}
 use Rattle.cnf_formula.specs.{Literals.code_of, Formulas.IsClause}
-use Rattle.lrat_checker.specs.Stored.{TableValue, IsStored, last_of, list_at, led_as}
-use Rattle.lrat_checker.proofs.{Placed.{held_push, last_push}, Noted.{indexed_push, led_push, stored_grown, stored_push}, Led.lead_within}
+use Rattle.lrat_checker.{specs.Stored.{IsStored, last_of, list_at, led_as}, proofs.{Placed.{held_push, last_push}, Led.lead_within}}
+use Rattle.lrat_checker.proofs.{Noted.{indexed_push, led_push, stored_grown, stored_push}, table.ClauseTable.push.Goals.{After-note_literals, After-note}}
 use Rattle.lrat_checker.proofs.table.ClauseTable.push.Goals as goal
-use Rattle.lrat_checker.proofs.table.ClauseTable.push.Goals.{After-note_literals, After-note}
 
 long : (c : After-note_literals) → length (map (λ v. v.items) c.note_literals.new.lists.items) ≡ length (map (λ v. v.items) c.self.inside.lists.items)
 long c = omega (arith, length-map c.note_literals.new.lists.items (λ v. v.items), length-map c.self.inside.lists.items (λ v. v.items), c.note_literals.ensures.long)
@@ -25,24 +23,13 @@ note-requires c =
     omega (arith, lead_within i.vars lits c.lead_of-lead.result about c.lead_of-lead.ensures, c.self.invariant.led.long, length-map i.leads.items (λ v. v.items))
 
 pub invariant_of-self-in_err-note_literals : goal.invariant_of-self-in_err-note_literals
-invariant_of-self-in_err-note_literals c =
-    let i = c.self.inside in
-    let leads = map (λ v. v.items) i.leads.items in
-    let l = long (goal.at.invariant_of-self-in_err-note_literals c).After-note_literals in
-    let s = stored_grown i.vars i.ids.items i.live.items i.clauses (map (λ v. v.items) i.lists.items) (map (λ v. v.items) c.note_literals.new.lists.items) leads leads c.self.invariant l c.note_literals.ensures.kept refl (λ code x h. h) in
-    rw (c.in_ok-reserve.ensures.items, c.in_ok-reserve-2.ensures.items) s
+invariant_of-self-in_err-note_literals c = grind (arith, long (goal.at.invariant_of-self-in_err-note_literals c).After-note_literals)
 
 pub invariant_of-self-in_err-note : goal.invariant_of-self-in_err-note
-invariant_of-self-in_err-note c =
-    let at = goal.at.invariant_of-self-in_err-note c in
-    let s = grown at.After-note (long at.After-note_literals) in
-    rw (c.in_ok-reserve.ensures.items, c.in_ok-reserve-2.ensures.items) s
+invariant_of-self-in_err-note c = grind (arith, grown, long)
 
 pub invariant_of-self-in_err-push : goal.invariant_of-self-in_err-push
-invariant_of-self-in_err-push c =
-    let at = goal.at.invariant_of-self-in_err-push c in
-    let s = grown at.After-note (long at.After-note_literals) in
-    rw (c.in_ok-reserve.ensures.items, c.in_ok-reserve-2.ensures.items, c.in_err-push.ensures.kept) s
+invariant_of-self-in_err-push c = grind (arith, grown, long)
 
 pub invariant_of-self-2 : goal.invariant_of-self-2
 invariant_of-self-2 c =
@@ -69,13 +56,4 @@ invariant_of-self-2 c =
     rw (ids, live, more) s
 
 pub returns-clause-added : goal.returns-clause-added
-returns-clause-added c =
-    let i = c.self.inside in
-    let id = c.args.id in
-    let lits = c.args.lits.now in
-    let clauses = i.clauses in
-    let ids : c.push_reserved.new.self.items ≡ i.ids.items ++ id ∷ [] = c.push_reserved.ensures.items ∙ ap (λ xs. xs ++ id ∷ []) c.in_ok-reserve.ensures.items in
-    let live : c.push_reserved-2.new.self.items ≡ i.live.items ++ c.args.held ∷ [] = c.push_reserved-2.ensures.items ∙ ap (λ xs. xs ++ c.args.held ∷ []) c.in_ok-reserve-2.ensures.items in
-    let more : c.push.new.self ≡ clauses ++ lits ∷ [] = c.in_ok-push.ensures.added in
-    let grow : TableValue → TableValue = λ t. record { vars = t.vars; clauses = t.clauses ++ lits ∷ []; held = t.held ++ (if c.args.held then (id, lits) ∷ [] else []); last = id } in
-    rw (ids, live, more, held_push i.ids.items i.live.items clauses id lits c.args.held c.self.invariant.lives c.self.invariant.many, last_push i.ids.items id) (ap grow c.self.view_is)
+returns-clause-added c = grind (arith, held_push, last_push)

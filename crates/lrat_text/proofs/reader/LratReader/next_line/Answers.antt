@@ -1,5 +1,4 @@
-use Rattle.std.proofs.{Common.{drop, length, slice_range, ap, ◌∙◌}, lemmas.List.take_rest}
-use Rattle.text_lines.specs.Text.{rows_of}
+use Rattle.std.proofs.{Common.{arith, drop, length, slice_range, ap, ◌∙◌}, lemmas.List.take_rest}
 use Rattle.lrat_text.proofs.{Memory.said_told, Passing.taken_off}
 use Rattle.lrat_text.proofs.reader.LratReader.next_line.Goals as goal
 
@@ -12,7 +11,4 @@ invariant_of-self c =
     taken_off i.bytes.items (slice_range bytes i.start (length bytes)) i.start i.searched i.place a.taken a.searched c.self.invariant rest c.in_ok-answered.ensures.ordered c.in_ok-answered.ensures.within c.in_ok-answered.ensures.clear
 
 pub returns-clause-kept : goal.returns-clause-kept
-returns-clause-kept c = λ h.
-    let i = c.self.inside in
-    let rows = rows_of (slice_range c.deref.result.now i.start (length c.deref.result.now)) in
-    absurd (said_told i.finished i.place rows (ap (λ s. s.answer) c.in_ok-answered.ensures.said ∙ h))
+returns-clause-kept c = grind (arith, slice_range c.deref.result.now, said_told)
