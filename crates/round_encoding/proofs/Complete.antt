@@ -1,11 +1,11 @@
 -- Where a schedule solves, the formula has a satisfying assignment whose arrivals are what the schedule's run holds.
 use Rattle.std.proofs.Common.{◌≡◌, ℕ, zero, suc, ◌+◌, ◌-◌, ◌*◌, ◌<◌, ◌≤◌, Bool, true, false, List, [], ◌∷◌, ◌++◌, map, length, get_or, leb, sum, refl, sym, ap, ◌∙◌, subst, ⊎_elim, arith, flat_map, sum_by, All}
-use Rattle.std.{specs.List.range_with_len, proofs.lemmas.{Bool.{leb-true, le-leb, cases_lt, Decides.nat_tests}}}
+use Rattle.std.{specs.List.range_with_len, proofs.lemmas.Bool.{leb-true, le-leb, cases_lt, Decides.nat_tests}}
 use Rattle.std.proofs.{lemmas.List.{get_or-append-add, map-append, append-nil}, Math.Nat.mul-le-mul_left}
 use Rattle.std.proofs.lemmas.List.FromFn.{get_or-map-range_with_len, length-map-range_with_len}
 use Rattle.schedule.specs.{Links.{TopologyValue, GroupValue, IsTopology}, Placed.PlacementValue, Sends.{ScheduleValue, IsSchedule, IsStep, IsInRange}}
 use Rattle.schedule.specs.{Fitting.rounds_at, Solving.Solves}
-use Rattle.cnf_formula.{specs.{Literals.{LitValue, negation, is_true, clause_holds, all_hold}, Formulas.{Satisfies}}, proofs.Clauses.negation_is}
+use Rattle.cnf_formula.{specs.{Literals.{LitValue, negation, is_true, clause_holds, all_hold}, Formulas.Satisfies}, proofs.Clauses.negation_is}
 use Rattle.cardinality.{specs.Counting.true_inputs, proofs.{Ranges.hold_both, Wider.{clauses_same, old_is_same}}}
 use Rattle.send_encoding.specs.{Variables.{SendMapValue, map_of, steps_of, arrival, sent, arrivals, sends, link_number}, Sending.sending, Leading.{had, brought}}
 use Rattle.send_encoding.specs.Assigning.{arrival_values, send_values, extra_values, has_more_rounds, assigned}

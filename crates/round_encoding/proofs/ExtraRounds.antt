@@ -1,6 +1,6 @@
 -- The rounds that an assignment says: one of each step, the extra rounds that are true, and what is left to the last step.
 use Rattle.std.proofs.Common.{◌≡◌, ℕ, zero, suc, ◌+◌, ◌-◌, ◌<◌, ◌≤◌, Bool, true, false, cond, eqb, List, [], ◌∷◌, map, length, get_or, sum, refl, sym, ap, ◌∙◌, subst, arith, if◌then◌else◌, flat_map, count_by, sum_by, All}
-use Rattle.std.{specs.List.range_with_len, proofs.lemmas.Bool.{Decides.nat_tests}}
+use Rattle.std.{specs.List.range_with_len, proofs.lemmas.Bool.Decides.nat_tests}
 use Rattle.std.proofs.lemmas.List.{Sums.{sum_by-le-sum_by, sum_by-cons, sum_by-append, sum-map, get_or-le-sum_by}, FromFn.{length-range_with_len, get_or-range_with_len, length-map-range_with_len, get_or-map-range_with_len}}
 use Rattle.schedule.specs.Sends.{IsRound, IsStep}
 use Rattle.cnf_formula.specs.Literals.{is_true}

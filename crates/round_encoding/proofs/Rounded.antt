@@ -1,8 +1,8 @@
 -- The counter of extra rounds, in the order in which it is made.
-use Rattle.std.proofs.{Common.{arith, ◌≡◌, ℕ, ◌+◌, ◌*◌, ◌<◌, ◌≤◌, List, [], ◌∷◌, length, map}, lemmas.List.FromFn.length-map-range_with_len}
+use Rattle.std.proofs.{Common.{◌≡◌, ℕ, ◌+◌, ◌*◌, ◌<◌, ◌≤◌, List, [], ◌∷◌, length, map, arith}, lemmas.List.FromFn.length-map-range_with_len}
 use Rattle.std.specs.List.{range_with_len}
 use Rattle.cnf_formula.specs.{Literals.{LitValue, negation}, Formulas.{FormulaValue, IsClause, with_clauses}}
-use Rattle.cardinality.{specs.{Counting.{with_counter}, Totalizers.totalizer_of}, proofs.Wider.clause_more}
+use Rattle.cardinality.{specs.{Counting.with_counter, Totalizers.totalizer_of}, proofs.Wider.clause_more}
 use Rattle.send_encoding.proofs.Grid.{rows_length}
 use Rattle.round_encoding.specs.{Frames.{Frame, extra_round, own_variables}, Rounding.{count_of_rounds, output_at, with_count}}
 use Rattle.round_encoding.proofs.Counted.{rounds_counted}
