@@ -17,27 +17,18 @@ filter_more p a n j e =
     ∙ ap (λ r. filter p r ++ cond (p j) (j ∷ []) []) (map-id (range_with_len a n))
 
 allowed_more : (kind : Kind) (nodes c : ℕ) → 1 ≤ c → allowed_up_to (c + 1 - 1) kind nodes ≡ allowed_up_to (c - 1) kind nodes ++ cond (allows kind nodes c) (c ∷ []) []
-allowed_more kind nodes c some =
-    let next : c + 1 - 1 ≡ c - 1 + 1 = omega (arith, some) in
-    let here : 1 + (c - 1) ≡ c = omega (arith, some) in
-    ap (λ n. allowed_up_to n kind nodes) next ∙ filter_more (allows kind nodes) 1 (c - 1) c here
+allowed_more kind nodes c some = grind (arith, filter_more (allows kind nodes) 1 (c - 1) c)
 
 pub kept_more : (kind : Kind) (nodes c : ℕ) (before after : List ℕ) → 1 ≤ c → allows kind nodes c ≡ true → before ≡ allowed_up_to (c - 1) kind nodes → after ≡ before ++ c ∷ [] → after ≡ allowed_up_to (c + 1 - 1) kind nodes
-kept_more kind nodes c before after some ok b a =
-    a ∙ ap (λ xs. xs ++ c ∷ []) b ∙ sym (allowed_more kind nodes c some ∙ ap (λ t. allowed_up_to (c - 1) kind nodes ++ cond t (c ∷ []) []) ok)
+kept_more kind nodes c before after some ok b a = grind (arith, allowed_more kind nodes c some)
 
 pub passed_more : (kind : Kind) (nodes c : ℕ) (before : List ℕ) → 1 ≤ c → allows kind nodes c ≡ false → before ≡ allowed_up_to (c - 1) kind nodes → before ≡ allowed_up_to (c + 1 - 1) kind nodes
-passed_more kind nodes c before some not_allowed b =
-    b ∙ sym (allowed_more kind nodes c some ∙ ap (λ t. allowed_up_to (c - 1) kind nodes ++ cond t (c ∷ []) []) not_allowed ∙ append-nil (allowed_up_to (c - 1) kind nodes))
+passed_more kind nodes c before some not_allowed b = grind (arith, append-nil, allowed_more kind nodes c some)
 
 -- ---- all of them
 
 range_increases : (a n : ℕ) → IsStrictlyIncreasing (range_with_len a n)
-range_increases a n k low =
-    let many = length-range_with_len a n in
-    let at = get_or-range_with_len a n k 0 (omega (arith, many, low)) in
-    let next = get_or-range_with_len a n (k + 1) 0 (omega (arith, many, low)) in
-    omega (arith, at, next)
+range_increases a n k low = grind (arith, get_or-range_with_len, length-range_with_len)
 
 allowed_increases : (greatest : ℕ) (kind : Kind) (nodes : ℕ) → IsStrictlyIncreasing (allowed_up_to greatest kind nodes)
 allowed_increases greatest kind nodes = IsStrictlyIncreasing-filter (allows kind nodes) (range_with_len 1 greatest) (range_increases 1 greatest)

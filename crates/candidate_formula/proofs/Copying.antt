@@ -1,5 +1,5 @@
 -- The copying collective of which a reduction is the inverse.
-use Rattle.std.proofs.Common.{◌≡◌, ◌≢◌, ℕ, true, false, refl, sym, ap, ◌∙◌, subst}
+use Rattle.std.proofs.{Common.{◌≡◌, ◌≢◌, ℕ, true, false, ◌⊎◌, inl, inr, refl, sym, ap, ◌∙◌, subst, ⊎_elim}, lemmas.Bool.false≢true}
 use Rattle.collective_spec.specs.{declared.{kind.Kind.Kind, spec.Spec.Spec}, Kinds.{is_custom, allows}}
 use Rattle.collective_spec.specs.Collectives.{IsSpec, reduces, adds_up, kind_in, chunks_of, chunks_in, instance_of, spec_instance}
 use Rattle.collective_spec.specs.declared.kind.Kind.TheVariants as kind
@@ -8,71 +8,35 @@ use Rattle.candidate_order.specs.Copied.{copied_kind, copied_spec}
 
 -- ---- kinds
 
+-- what holds of each kind holds of all
+each_kind : (P : Kind → Type 0) → P kind.Broadcast → P kind.Gather → P kind.Allgather → P kind.Scatter → P kind.Alltoall → P kind.Reduce → P kind.Reducescatter → P kind.Allreduce → P kind.Custom → (k : Kind) → P k
+each_kind P a b c d e f g h i kind.Broadcast = a
+each_kind P a b c d e f g h i kind.Gather = b
+each_kind P a b c d e f g h i kind.Allgather = c
+each_kind P a b c d e f g h i kind.Scatter = d
+each_kind P a b c d e f g h i kind.Alltoall = e
+each_kind P a b c d e f g h i kind.Reduce = f
+each_kind P a b c d e f g h i kind.Reducescatter = g
+each_kind P a b c d e f g h i kind.Allreduce = h
+each_kind P a b c d e f g h i kind.Custom = i
+
 custom_alike : (k : Kind) → is_custom (copied_kind k) ≡ is_custom k
-custom_alike kind.Broadcast = refl
-custom_alike kind.Gather = refl
-custom_alike kind.Allgather = refl
-custom_alike kind.Scatter = refl
-custom_alike kind.Alltoall = refl
-custom_alike kind.Reduce = refl
-custom_alike kind.Reducescatter = refl
-custom_alike kind.Allreduce = refl
-custom_alike kind.Custom = refl
+custom_alike = each_kind (λ k. is_custom (copied_kind k) ≡ is_custom k) refl refl refl refl refl refl refl refl refl
 
 allowed_alike : (k : Kind) (nodes c : ℕ) → allows (copied_kind k) nodes c ≡ allows k nodes c
-allowed_alike kind.Broadcast nodes c = refl
-allowed_alike kind.Gather nodes c = refl
-allowed_alike kind.Allgather nodes c = refl
-allowed_alike kind.Scatter nodes c = refl
-allowed_alike kind.Alltoall nodes c = refl
-allowed_alike kind.Reduce nodes c = refl
-allowed_alike kind.Reducescatter nodes c = refl
-allowed_alike kind.Allreduce nodes c = refl
-allowed_alike kind.Custom nodes c = refl
+allowed_alike k nodes c = each_kind (λ k. allows (copied_kind k) nodes c ≡ allows k nodes c) refl refl refl refl refl refl refl refl refl k
 
 chunks_alike : (k : Kind) (nodes c : ℕ) → chunks_of (copied_kind k) nodes c ≡ chunks_of k nodes c
-chunks_alike kind.Broadcast nodes c = refl
-chunks_alike kind.Gather nodes c = refl
-chunks_alike kind.Allgather nodes c = refl
-chunks_alike kind.Scatter nodes c = refl
-chunks_alike kind.Alltoall nodes c = refl
-chunks_alike kind.Reduce nodes c = refl
-chunks_alike kind.Reducescatter nodes c = refl
-chunks_alike kind.Allreduce nodes c = refl
-chunks_alike kind.Custom nodes c = refl
+chunks_alike k nodes c = each_kind (λ k. chunks_of (copied_kind k) nodes c ≡ chunks_of k nodes c) refl refl refl refl refl refl refl refl refl k
 
 copies_of_all : (k : Kind) → k ≢ kind.Allreduce → reduces (copied_kind k) ≡ false
-copies_of_all kind.Broadcast single = refl
-copies_of_all kind.Gather single = refl
-copies_of_all kind.Allgather single = refl
-copies_of_all kind.Scatter single = refl
-copies_of_all kind.Alltoall single = refl
-copies_of_all kind.Reduce single = refl
-copies_of_all kind.Reducescatter single = refl
-copies_of_all kind.Allreduce single = absurd (single refl)
-copies_of_all kind.Custom single = refl
+copies_of_all k single = ⊎_elim (λ same. absurd (single same)) (λ e. e) (each_kind (λ k. (k ≡ kind.Allreduce) ⊎ (reduces (copied_kind k) ≡ false)) (inr refl) (inr refl) (inr refl) (inr refl) (inr refl) (inr refl) (inr refl) (inl refl) (inr refl) k)
 
 kind_stays : (k : Kind) → reduces k ≡ false → copied_kind k ≡ k
-kind_stays kind.Broadcast e = refl
-kind_stays kind.Gather e = refl
-kind_stays kind.Allgather e = refl
-kind_stays kind.Scatter e = refl
-kind_stays kind.Alltoall e = refl
-kind_stays kind.Reduce e = absurd (cc)
-kind_stays kind.Reducescatter e = absurd (cc)
-kind_stays kind.Allreduce e = absurd (cc)
-kind_stays kind.Custom e = refl
+kind_stays k e = ⊎_elim (λ same. same) (λ reducing. absurd (false≢true (sym e ∙ reducing))) (each_kind (λ k. (copied_kind k ≡ k) ⊎ (reduces k ≡ true)) (inl refl) (inl refl) (inl refl) (inl refl) (inl refl) (inr refl) (inr refl) (inr refl) (inl refl) k)
 
 instance_alike : (k : Kind) (root nodes c : ℕ) → instance_of (record { kind = copied_kind k; root = root }) nodes c ≡ instance_of (record { kind = k; root = root }) nodes c
-instance_alike kind.Broadcast root nodes c = refl
-instance_alike kind.Gather root nodes c = refl
-instance_alike kind.Allgather root nodes c = refl
-instance_alike kind.Scatter root nodes c = refl
-instance_alike kind.Alltoall root nodes c = refl
-instance_alike kind.Reduce root nodes c = refl
-instance_alike kind.Reducescatter root nodes c = refl
-instance_alike kind.Allreduce root nodes c = refl
-instance_alike kind.Custom root nodes c = refl
+instance_alike k root nodes c = each_kind (λ k. instance_of (record { kind = copied_kind k; root = root }) nodes c ≡ instance_of (record { kind = k; root = root }) nodes c) refl refl refl refl refl refl refl refl refl k
 
 -- ---- what is asked for
 

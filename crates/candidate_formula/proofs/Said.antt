@@ -1,6 +1,6 @@
 -- The lines of a text without the faults are those with them.
-use Rattle.std.proofs.Common.{◌≡◌, ℕ, ◌+◌, Bool, true, false, List, [], ◌∷◌, length, map, Option, None, Some, Result, Ok, Err, ℤ, pos, refl, sym, ap, ◌∙◌, ⊎_elim, ◌↔◌, ◌==◌, ◌&&◌, ◌||◌, not, if◌then◌else◌, filter, slice_index, nat_le, nat_lt, option_map, neg_ℤ, bytes_eq, codes}
-use Rattle.std.{specs.{List.slice_split, Str.Parse.digits_value}, proofs.lemmas.Bool.{cases_Bool, leb-true, leb-false, le-ltb, lt-ltb}}
+use Rattle.std.proofs.Common.{◌≡◌, ℕ, ◌+◌, Bool, true, false, List, [], ◌∷◌, length, map, Option, None, Some, Result, Ok, Err, ℤ, pos, refl, sym, ap, ◌∙◌, arith, ◌↔◌, ◌==◌, ◌&&◌, ◌||◌, not, if◌then◌else◌, filter, slice_index, nat_le, nat_lt, option_map, neg_ℤ, bytes_eq, codes}
+use Rattle.std.{specs.{List.slice_split, Str.Parse.digits_value}, proofs.lemmas.Bool.Decides.nat_tests}
 use Rattle.text_lines.specs.{Text.{Row, rows_of}, Check.{◌>>=◌, refuse}}
 use Rattle.cnf_formula.specs.{Literals.LitValue, declared.line.LratLine.{LratLine, TheVariants.{Addition, Deletion}}}
 use Rattle.lrat_text.specs.declared.fault.LratTextFault.{LratTextFault, TheVariants.{BadToken, Truncated, NumberRange}}
@@ -17,17 +17,10 @@ plain (Err fault) = None
 -- ---- a word
 
 number_steps : (place n : ℕ) (a x y : Bool) → x ≡ not y → plain (refuse (not a) (BadToken place) >>= (λ _. refuse x (NumberRange place) >>= (λ _. Ok n))) ≡ (if a && y then Some n else None)
-number_steps place n false x y e = refl
-number_steps place n true false true e = refl
-number_steps place n true true false e = refl
-number_steps place n true true true e = absurd (cc)
-number_steps place n true false false e = absurd (cc)
+number_steps place n a x y e = grind (arith, nat_tests)
 
 above : (greatest n : ℕ) → nat_lt greatest n ≡ not (nat_le n greatest)
-above greatest n = ⊎_elim
-    (λ t. le-ltb greatest n (leb-true n greatest t) ∙ sym (ap not t))
-    (λ f. lt-ltb greatest n (leb-false n greatest f) ∙ sym (ap not f))
-    (cases_Bool (nat_le n greatest))
+above greatest n = grind (arith, nat_tests)
 
 number_plain : (place greatest : ℕ) (digits : List ℕ) → plain (number_from place greatest digits) ≡ number_in greatest digits
 number_plain place greatest digits =
@@ -154,10 +147,7 @@ line_said lack (t ∷ ts) line e = go (slice_index t.bytes 0 == 99) e
 
 some_words : (place : ℕ) (pieces : List (List ℕ)) → words (filter (λ t. nat_lt 0 (length t.bytes)) (placed_from place pieces)) ≡ filter (λ word. nat_lt 0 (length word)) pieces
 some_words place [] = refl
-some_words place (piece ∷ pieces) = ⊎_elim
-    (λ t. rw t (ap (λ ws. piece ∷ ws) (some_words (place + length piece + 1) pieces)))
-    (λ f. rw f (some_words (place + length piece + 1) pieces))
-    (cases_Bool (nat_lt 0 (length piece)))
+some_words place (piece ∷ pieces) = grind (arith, some_words (place + length piece + 1) pieces)
 
 pub row_words : (place : ℕ) (row : Row) → words (tokens_from place (content row)) ≡ words_in row
 row_words place row = some_words place (slice_split (λ b. b == 32 || b == 9) (content row))

@@ -27,10 +27,7 @@ hint_short (negsuc n) is = let digits = id_short (n + 1) is.small in omega (arit
 -- words of at most 11 bytes, with a space behind each
 words_short : {X : Type 0} (word : X → List ℕ) (P : X → Type 0) → ((x : X) → P x → length (word x) ≤ 11) → (xs : List X) → All P xs → length (trailed (map word xs)) ≤ 12 * length xs
 words_short word P each [] all = omega arith
-words_short word P each (x ∷ xs) all =
-    let first = each x (All-head P x xs all) in
-    let rest = words_short word P each xs (All-tail P x xs all) in
-    omega (arith, length-append (word x ++ 32 ∷ []) (trailed (map word xs)), length-append (word x) (32 ∷ []), first, rest)
+words_short word P each (x ∷ xs) all = grind (arith, each x (All-head P x xs all), length-append, words_short word P each xs (All-tail P x xs all))
 
 -- ---- lines
 

@@ -21,9 +21,7 @@ kept_append p xs ys = ap length (filter-append p xs ys) ∙ length-append (filte
 
 kept_alike : {X : Type 0} (p q : X → Bool) → ((x : X) → p x ≡ q x) → (xs : List X) → kept p xs ≡ kept q xs
 kept_alike p q same [] = refl
-kept_alike p q same (x ∷ xs) =
-    let one : one_if (p x) ≡ one_if (q x) = ap one_if (same x) in
-    omega (arith, kept_first p x xs, kept_first q x xs, one, kept_alike p q same xs)
+kept_alike p q same (x ∷ xs) = grind (arith, same x, kept_first, kept_alike p q same xs)
 
 -- the pairs of one, and those of many, with so many others
 abbrev row : ℕ → List ℕ → List (ℕ × ℕ)
@@ -43,24 +41,11 @@ kept_none p (x ∷ xs) = kept_none p xs
 -- one column more
 kept_column : (p : ℕ × ℕ → Bool) (xs : List ℕ) (y : ℕ) (ys : List ℕ) → kept p (grid xs (y ∷ ys)) ≡ kept (λ x. p (x, y)) xs + kept p (grid xs ys)
 kept_column p [] y ys = omega arith
-kept_column p (x ∷ xs) y ys = omega (
-  arith,
-  kept_append p (row x (y ∷ ys)) (grid xs (y ∷ ys)),
-  kept_first p (x, y) (row x ys),
-  kept_column p xs y ys,
-  kept_first (λ z. p (z, y)) x xs,
-  kept_append p (row x ys) (grid xs ys),
-)
+kept_column p (x ∷ xs) y ys = grind (arith, kept_append, kept_first, kept_column p xs y ys)
 
 kept_turned : (p : ℕ × ℕ → Bool) (xs ys : List ℕ) → kept p (grid xs ys) ≡ kept (λ l. p (turned l)) (grid ys xs)
 kept_turned p xs [] = kept_none p xs
-kept_turned p xs (y ∷ ys) = omega (
-  arith,
-  kept_column p xs y ys,
-  kept_turned p xs ys,
-  kept_append (λ l. p (turned l)) (row y xs) (grid ys xs),
-  kept_row (λ l. p (turned l)) y xs,
-)
+kept_turned p xs (y ∷ ys) = grind (arith, kept_append, kept_column, kept_row, kept_turned p xs ys)
 
 -- ---- links and groups
 
@@ -77,15 +62,7 @@ same_groups chunks steps extra (g ∷ groups) =
     omega (arith, sum_by-cons size (reversed_group g) (map reversed_group groups), sum_by-cons size g groups, first, same_groups chunks steps extra groups)
 
 pub copied_size : (q : QuestionValue) → size_of (copied_question q) ≡ size_of q
-copied_size q =
-    let g : ℕ = most_chunks q in
-    let s : ℕ = q.limits.max_s in
-    same_size (reversed_of q.topology) q.spec q.limits
-    ∙ ap (λ l. g * l * s + sum_by (group_size g s q.limits.k) (map reversed_group q.topology.groups)) (as_many_links q.topology)
-    ∙ ap (λ n. g * length (usable_links q.topology) * s + n) (same_groups g s q.limits.k q.topology.groups)
+copied_size q = grind (arith, same_size (reversed_of q.topology) q.spec q.limits, as_many_links q.topology, same_groups (most_chunks q) q.limits.max_s q.limits.k q.topology.groups)
 
 pub turned_size : (t turned : TopologyValue) (spec : Spec) (limits : LimitsValue) → turned ≡ reversed_of t → size_of (record { topology = turned; spec = spec; limits = limits }) ≡ size_of (record { topology = t; spec = spec; limits = limits })
-turned_size t turned spec limits is =
-    ap (λ x. size_of (record { topology = x; spec = spec; limits = limits })) is
-    ∙ sym (same_size (reversed_of t) spec limits)
-    ∙ copied_size (record { topology = t; spec = spec; limits = limits })
+turned_size t turned spec limits is = grind (arith, same_size (reversed_of t) spec limits, copied_size (record { topology = t; spec = spec; limits = limits }))

@@ -1,7 +1,7 @@
 -- A totalizer is small: each node of its tree joins two sides of at most so many outputs, and there are fewer nodes than inputs.
-use Rattle.std.proofs.Common.{◌≡◌, ℕ, zero, suc, refl, cond, ◌+◌, ◌*◌, ◌/◌, ◌<◌, ◌≤◌, Bool, true, false, List, [], ◌∷◌, ◌++◌, length, map, take, drop, ap, arith, length-append}
-use Rattle.std.{specs.List.{flat_map, range_with_len}, proofs.lemmas.{List.{length-take, length-drop, length-map, FromFn.length-range_with_len}, Nat.mul-le}}
-use Rattle.cnf_formula.specs.Literals.{LitValue, negation}
+use Rattle.std.proofs.Common.{◌≡◌, ℕ, refl, cond, ◌+◌, ◌*◌, ◌<◌, ◌≤◌, Bool, true, false, List, [], ◌∷◌, ◌++◌, length, ap, arith, length-append}
+use Rattle.std.{specs.List.{flat_map, range_with_len}, proofs.lemmas.{List.{length-map, FromFn.length-range_with_len}, Nat.mul-le}}
+use Rattle.cnf_formula.specs.Literals.{LitValue}
 use Rattle.cardinality.specs.{Counting.at_most_one_of, Totalizers.{joins_at, joins, totalizer_of}}
 use Rattle.cardinality.proofs.{Lengths.flat_length, Sides.{Costs, totalizer_cost, variables_cost}}
 
@@ -9,9 +9,7 @@ use Rattle.cardinality.proofs.{Lengths.flat_length, Sides.{Costs, totalizer_cost
 
 pub pairs_are_few : (ls : List LitValue) → length (at_most_one_of ls) * 2 + length ls ≡ length ls * length ls
 pairs_are_few [] = omega arith
-pairs_are_few (l ∷ ls) =
-    let here : List (List LitValue) = map (λ other. negation l ∷ negation other ∷ []) ls in
-    omega (arith, length-append here (at_most_one_of ls), length-map ls (λ other. negation l ∷ negation other ∷ []), pairs_are_few ls)
+pairs_are_few (l ∷ ls) = grind (arith, length-append, length-map, pairs_are_few ls)
 
 -- ---- a node
 

@@ -1,6 +1,6 @@
 -- What the clauses say that join the outputs of two sides.
-use Rattle.std.proofs.Common.{◌≡◌, ℕ, zero, suc, ◌+◌, ◌<◌, ◌≤◌, Bool, true, false, cond, List, [], ◌∷◌, ◌++◌, length, get_or, ltb, leb, refl, sym, ap, ◌∙◌, arith, ◌||◌, ◌&&◌, not, flat_map, All}
-use Rattle.std.{specs.List.range_with_len, proofs.lemmas.Bool.{false≢true, and_parts, and_from, lt-ltb, ltb-true, le-leb, leb-true}}
+use Rattle.std.proofs.Common.{◌≡◌, ℕ, zero, suc, ◌+◌, ◌<◌, ◌≤◌, Bool, true, false, cond, List, [], ◌∷◌, ◌++◌, length, get_or, ltb, leb, refl, sym, ◌∙◌, arith, ◌||◌, ◌&&◌, not, flat_map, All}
+use Rattle.std.{specs.List.range_with_len, proofs.lemmas.Bool.{and_parts, and_from, lt-ltb, ltb-true, le-leb, leb-true, Decides.nat_tests}}
 use Rattle.std.proofs.lemmas.List.{Elements.{All-nil, All-cons, All-append}, Folds.list_any-append}
 use Rattle.cnf_formula.{specs.{Literals.{LitValue, yes, negation, is_true, clause_holds, all_hold}, Formulas.{IsAbout, IsClause}}, proofs.Clauses.negation_is}
 use Rattle.cardinality.specs.Totalizers.{unless, joins_at, joins}
@@ -13,34 +13,20 @@ is_reached values outputs (suc i) = is_true values (get_or outputs i (yes 0))
 
 unless_is : (values : List Bool) (outputs : List LitValue) (i : ℕ) → clause_holds values (unless outputs i) ≡ not (is_reached values outputs i)
 unless_is values outputs zero = refl
-unless_is values outputs (suc i) = or_false (is_true values (negation (get_or outputs i (yes 0)))) ∙ negation_is values (get_or outputs i (yes 0))
-  where
-    or_false : (b : Bool) → (b || false) ≡ b
-    or_false true = refl
-    or_false false = refl
+unless_is values outputs (suc i) = grind (arith, nat_tests, negation_is)
 
 abbrev both_reach : ℕ → List LitValue → List LitValue → ℕ → ℕ → List LitValue
 both_reach own left right i j = unless left i ++ unless right j ++ yes (own + (i + j)) ∷ []
 
 both_reach_is : (values : List Bool) (own : ℕ) (left right : List LitValue) (i j : ℕ)
     → clause_holds values (both_reach own left right i j) ≡ ((not (is_reached values left i) || not (is_reached values right j)) || (is_true values (yes (own + (i + j))) || false))
-both_reach_is values own left right i j =
-    list_any-append (is_true values) (unless left i ++ unless right j) (yes (own + (i + j)) ∷ [])
-    ∙ ap (λ b. b || (is_true values (yes (own + (i + j))) || false)) (list_any-append (is_true values) (unless left i) (unless right j)
-    ∙ ap (λ b. b || clause_holds values (unless right j)) (unless_is values left i)
-    ∙ ap (λ b. not (is_reached values left i) || b) (unless_is values right j))
+both_reach_is values own left right i j = grind (arith, nat_tests, list_any-append, unless_is)
 
 implied : (a b o : Bool) → ((not a || not b) || (o || false)) ≡ true → a ≡ true → b ≡ true → o ≡ true
-implied true true true h p q = refl
-implied true true false h p q = h
-implied true false o h p q = absurd (false≢true q)
-implied false b o h p q = absurd (false≢true p)
+implied a b o h p q = grind arith
 
 implying : (a b o : Bool) → (a ≡ true → b ≡ true → o ≡ true) → ((not a || not b) || (o || false)) ≡ true
-implying true true true i = refl
-implying true true false i = i refl refl
-implying true false o i = refl
-implying false b o i = refl
+implying a b o i = grind arith
 
 module _ (own numbers : ℕ) (left right : List LitValue) where
   abbrev counted : ℕ → ℕ → Bool
@@ -56,13 +42,7 @@ module _ (own numbers : ℕ) (left right : List LitValue) where
 
   pub say_joins : (values : List Bool) → ((i j : ℕ) → i ≤ length left → j ≤ length right → 0 < i + j → i + j ≤ numbers
       → is_reached values left i ≡ true → is_reached values right j ≡ true → is_true values (yes (own + (i + j))) ≡ true) → all_hold values (joins own numbers left right) ≡ true
-  say_joins values f =
-      passes_range (clause_holds values) (λ i. flat_map (joins_at own numbers left right i) (range_with_len 0 (length right + 1))) 0 (length left + 1) (λ i _ il.
-      passes_range (clause_holds values) (joins_at own numbers left right i) 0 (length right + 1) (λ j _ jr.
-      holds_only values (counted i j) (both_reach own left right i j) (λ t.
-      let tests = and_parts (ltb 0 (i + j)) (leb (i + j) numbers) t in
-      both_reach_is values own left right i j ∙ implying (is_reached values left i) (is_reached values right j) (is_true values (yes (own + (i + j))))
-      (f i j (omega (arith, il)) (omega (arith, jr)) (ltb-true 0 (i + j) tests.0) (leb-true (i + j) numbers tests.1)))))
+  say_joins values f = grind (arith, nat_tests, and_parts, both_reach_is, holds_only, implying, leb-true, ltb-true, passes_range)
 
   -- ---- what they are about
 

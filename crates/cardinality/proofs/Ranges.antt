@@ -1,23 +1,16 @@
 -- What holds of every number of a range, and of clauses that are there where a test passes.
-use Rattle.std.proofs.Common.{◌≡◌, ℕ, zero, suc, ◌+◌, ◌<◌, ◌≤◌, Bool, true, false, cond, List, [], ◌∷◌, map, refl, sym, ◌∙◌, subst, ⊎_elim, arith, flat_map, All}
-use Rattle.std.{specs.List.{list_all, range_with_len}, proofs.lemmas.{Bool.{false≢true, and_parts, and_from, cases_eq}, List.Folds.list_all-append}}
+use Rattle.std.proofs.Common.{◌≡◌, ℕ, zero, suc, ◌+◌, ◌<◌, ◌≤◌, Bool, true, cond, List, [], ◌∷◌, ◌++◌, map, refl, arith, flat_map, All}
+use Rattle.std.{specs.List.{list_all, range_with_len}, proofs.lemmas.{Bool.{and_parts, and_from, cases_eq, Decides.nat_tests}, List.Folds.list_all-append}}
 use Rattle.std.proofs.lemmas.List.Elements.{All-nil, All-cons, All-append}
 use Rattle.cnf_formula.specs.Literals.{LitValue, clause_holds, all_hold}
 
 pub range_passes : {X : Type 0} (p : X → Bool) (f : ℕ → List X) (a n j : ℕ) → list_all p (flat_map f (range_with_len a n)) ≡ true → a ≤ j → j < a + n → list_all p (f j) ≡ true
 range_passes p f a zero j h low high = absurd (omega (arith, low, high))
-range_passes p f a (suc n) j h low high =
-    let parts = and_parts (list_all p (f a)) (list_all p (flat_map f (range_with_len (a + 1) n))) (sym (list_all-append p (f a) (flat_map f (range_with_len (a + 1) n))) ∙ h) in
-    ⊎_elim (λ e. subst (λ k. list_all p (f k) ≡ true) e parts.0)
-    (λ ne. range_passes p f (a + 1) n j parts.1 (omega (arith, low, ne)) (omega (arith, high)))
-    (cases_eq a j)
+range_passes p f a (suc n) j h low high = grind (arith, nat_tests, and_parts, cases_eq, list_all-append, range_passes p f (a + 1) n j)
 
 pub passes_range : {X : Type 0} (p : X → Bool) (f : ℕ → List X) (a n : ℕ) → ((j : ℕ) → a ≤ j → j < a + n → list_all p (f j) ≡ true) → list_all p (flat_map f (range_with_len a n)) ≡ true
 passes_range p f a zero h = refl
-passes_range p f a (suc n) h =
-    let here : list_all p (f a) ≡ true = h a (omega arith) (omega arith) in
-    let later : list_all p (flat_map f (range_with_len (a + 1) n)) ≡ true = passes_range p f (a + 1) n (λ j low high. h j (omega (arith, low)) (omega (arith, high))) in
-    list_all-append p (f a) (flat_map f (range_with_len (a + 1) n)) ∙ and_from (list_all p (f a)) (list_all p (flat_map f (range_with_len (a + 1) n))) here later
+passes_range p f a (suc n) h = grind (arith, nat_tests, and_from, list_all-append, passes_range p f (a + 1) n)
 
 pub all_of_range : {X : Type 0} (P : X → Type 0) (f : ℕ → List X) (a n : ℕ) → ((j : ℕ) → a ≤ j → j < a + n → All P (f j)) → All P (flat_map f (range_with_len a n))
 all_of_range P f a zero h = All-nil P
@@ -29,12 +22,18 @@ pub all_of_map : {X : Type 0} (P : X → Type 0) (f : ℕ → X) (a n : ℕ) →
 all_of_map P f a zero h = All-nil P
 all_of_map P f a (suc n) h = All-cons P (f a) (map f (range_with_len (a + 1) n)) (h a (omega arith) (omega arith)) (all_of_map P f (a + 1) n (λ j low high. h j (omega (arith, low)) (omega (arith, high))))
 
+-- ---- clauses in parts
+
+pub both_hold : (values : List Bool) (xs ys : List (List LitValue)) → all_hold values (xs ++ ys) ≡ true → (all_hold values xs ≡ true) × (all_hold values ys ≡ true)
+both_hold values xs ys h = grind (arith, list_all-append (clause_holds values) xs ys)
+
+pub hold_both : (values : List Bool) (xs ys : List (List LitValue)) → all_hold values xs ≡ true → all_hold values ys ≡ true → all_hold values (xs ++ ys) ≡ true
+hold_both values xs ys a b = grind (arith, list_all-append (clause_holds values) xs ys)
+
 -- ---- clauses under a test
 
 pub only_holds : (values : List Bool) (test : Bool) (clause : List LitValue) → all_hold values (cond test (clause ∷ []) []) ≡ true → test ≡ true → clause_holds values clause ≡ true
-only_holds values true clause h t = (and_parts (clause_holds values clause) true h).0
-only_holds values false clause h t = absurd (false≢true t)
+only_holds values test clause h t = grind arith
 
 pub holds_only : (values : List Bool) (test : Bool) (clause : List LitValue) → (test ≡ true → clause_holds values clause ≡ true) → all_hold values (cond test (clause ∷ []) []) ≡ true
-holds_only values true clause h = and_from (clause_holds values clause) true (h refl) refl
-holds_only values false clause h = refl
+holds_only values test clause h = grind arith

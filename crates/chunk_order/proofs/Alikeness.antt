@@ -1,6 +1,6 @@
 -- Chunks that are alike: the test decides an equivalence, and chunks that are alike have one watch node.
-use Rattle.std.proofs.Common.{◌≡◌, ℕ, zero, suc, ◌+◌, ◌<◌, ◌≤◌, Bool, true, false, cond, Some, refl, sym, ap, ◌∙◌, ⊎_elim, arith, ◌&&◌, not, find}
-use Rattle.std.{specs.{Cmp.booleans_Decides, List.{list_all, range_with_len}}, proofs.lemmas.Bool.{false≢true, and_parts, and_from, cases_Bool, cases_eq, false_from_ne_true}}
+use Rattle.std.proofs.Common.{◌≡◌, ℕ, zero, suc, ◌+◌, ◌<◌, ◌≤◌, Bool, true, false, Some, refl, sym, ap, ◌∙◌, arith, ◌&&◌, not, find}
+use Rattle.std.{specs.{Cmp.booleans_Decides, List.{list_all, range_with_len}}, proofs.lemmas.Bool.{and_parts, and_from, false_from_ne_true}}
 use mathlib.Core.Bool.{beq}
 use Rattle.schedule.specs.Placed.{PlacementValue, holds, lacks}
 use Rattle.chunk_order.specs.Alike.{stand_alike, is_alike, watch_node}
@@ -9,32 +9,19 @@ use Rattle.chunk_order.specs.Alike.{stand_alike, is_alike, watch_node}
 
 pub range_at : (p : ℕ → Bool) (a n k : ℕ) → list_all p (range_with_len a n) ≡ true → a ≤ k → k < a + n → p k ≡ true
 range_at p a zero k all low high = absurd (omega (arith, low, high))
-range_at p a (suc n) k all low high =
-    let parts = and_parts (p a) (list_all p (range_with_len (a + 1) n)) all in
-    ⊎_elim
-    (λ (here : k ≡ a). ap p here ∙ parts.0)
-    (λ (later : k ≡ a → ⊥). range_at p (a + 1) n k parts.1 (omega (arith, low, later)) (omega (arith, high)))
-    (cases_eq k a)
+range_at p a (suc n) k all low high = grind (arith, range_at p (a + 1) n k)
 
 pub range_all : (p : ℕ → Bool) (a n : ℕ) → ((k : ℕ) → a ≤ k → k < a + n → p k ≡ true) → list_all p (range_with_len a n) ≡ true
 range_all p a zero each = refl
-range_all p a (suc n) each =
-    and_from (p a) (list_all p (range_with_len (a + 1) n)) (each a (omega arith) (omega arith))
-    (range_all p (a + 1) n (λ k low high. each k (omega (arith, low)) (omega (arith, high))))
+range_all p a (suc n) each = grind (arith, each, range_all p (a + 1) n)
 
 pub find_alike : (p q : ℕ → Bool) (a n : ℕ) → ((k : ℕ) → a ≤ k → k < a + n → p k ≡ q k) → find p (range_with_len a n) ≡ find q (range_with_len a n)
 find_alike p q a zero same = refl
-find_alike p q a (suc n) same =
-    let rest : find p (range_with_len (a + 1) n) ≡ find q (range_with_len (a + 1) n) = find_alike p q (a + 1) n (λ k low high. same k (omega (arith, low)) (omega (arith, high))) in
-    ap (λ b. cond b (Some a) (find p (range_with_len (a + 1) n))) (same a (omega arith) (omega arith)) ∙ ap (cond (q a) (Some a)) rest
+find_alike p q a (suc n) same = grind (arith, same a (omega arith) (omega arith), find_alike p q (a + 1) n (λ k low high. same k (omega (arith, low)) (omega (arith, high))))
 
 pub find_below : (p : ℕ → Bool) (a n k : ℕ) → find p (range_with_len a n) ≡ Some k → k < a + n
 find_below p a zero k found = absurd cc
-find_below p a (suc n) k found =
-    ⊎_elim
-    (λ (here : p a ≡ true). let it : Some a ≡ Some k = rw here at found in let is : a ≡ k = cc in omega (arith, is))
-    (λ (later : p a ≡ false). let rest : find p (range_with_len (a + 1) n) ≡ Some k = rw later at found in omega (arith, find_below p (a + 1) n k rest))
-    (cases_Bool (p a))
+find_below p a (suc n) k found = grind (arith, find_below p (a + 1) n k)
 
 -- ---- placements of two chunks
 
@@ -84,7 +71,4 @@ pub one_differs : (p : PlacementValue) (c d n : ℕ) → n < p.nodes → (holds 
 one_differs p c d n low differ = sym (false_from_ne_true (stand_alike p c d) (λ alike. differ (stand_is p c d n alike low)))
 
 pub not_same : (a b x y : Bool) → not (beq a b) ≡ true → a ≡ x → b ≡ y → x ≡ y → ⊥
-not_same true true x y h p q same = false≢true h
-not_same false false x y h p q same = false≢true h
-not_same true false x y h p q same = false≢true (q ∙ sym same ∙ sym p)
-not_same false true x y h p q same = false≢true (p ∙ same ∙ sym q)
+not_same a b x y h p q same = grind arith

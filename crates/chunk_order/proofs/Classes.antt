@@ -1,8 +1,9 @@
 -- Classes of chunks that are alike: each has a least chunk, and its chunks ascend.
-use Rattle.std.proofs.Common.{◌≡◌, ℕ, zero, suc, ◌+◌, ◌<◌, ◌≤◌, Bool, true, false, ◌||◌, ltb, List, [], ◌∷◌, refl, sym, ap, ◌∙◌, subst, ⊎_elim, arith, filter}
+use Rattle.std.proofs.Common.{◌≡◌, ℕ, zero, suc, ◌+◌, ◌-◌, ◌<◌, ◌≤◌, Bool, true, false, ltb, List, [], ◌∷◌, get_or, refl, sym, ap, ◌∙◌, subst, ⊎_elim, arith, filter}
 use Rattle.std.specs.List.{list_any, range_with_len, AllByRecursion}
 use Rattle.std.proofs.lemmas.Bool.{false≢true, cases_Bool, cases_eq, false_from_ne_true, not_from_false, ltb-true, lt-ltb}
-use Rattle.schedule.{specs.Placed.PlacementValue, proofs.First.{InOrder, InOrder-filter, each_weaker, each_filter, each_passes}}
+use Rattle.std.proofs.lemmas.List.FromFn.{length-range_with_len, get_or-range_with_len}
+use Rattle.schedule.{specs.Placed.PlacementValue, proofs.First.{among_each, among_kept, Among-from_Contains, InOrder, InOrder-filter, each_weaker, each_filter, each_passes}}
 use Rattle.chunk_order.specs.{Alike.is_alike, Ordering.{is_least, class_of, next_pairs}}
 use Rattle.chunk_order.proofs.{Alikeness.{alike_itself, alike_back, alike_both}, Firsts.{first_from, first_no_later, first_passes}}
 
@@ -23,25 +24,14 @@ range_order a (suc n) =
 
 pub none_in_range : (p : ℕ → Bool) (a n : ℕ) → ((k : ℕ) → a ≤ k → k < a + n → p k ≡ false) → list_any p (range_with_len a n) ≡ false
 none_in_range p a zero none = refl
-none_in_range p a (suc n) none =
-    ap (λ b. b || list_any p (range_with_len (a + 1) n)) (none a (omega arith) (omega arith))
-    ∙ none_in_range p (a + 1) n (λ k low high. none k (omega (arith, low)) (omega (arith, high)))
+none_in_range p a (suc n) none = grind (arith, none, none_in_range p (a + 1) n)
 
 pub filter_at : (p : ℕ → Bool) (P : ℕ → Type 0) (a n k : ℕ) → AllByRecursion P (filter p (range_with_len a n)) → a ≤ k → k < a + n → p k ≡ true → P k
-filter_at p P a zero k each low high it = absurd (omega (arith, low, high))
-filter_at p P a (suc n) k each low high it =
-    ⊎_elim
-    (λ (passes : p a ≡ true).
-    let all : AllByRecursion P (a ∷ filter p (range_with_len (a + 1) n)) = rw passes at each in
-    ⊎_elim
-    (λ (here : k ≡ a). subst P (sym here) all.0)
-    (λ (later : k ≡ a → ⊥). filter_at p P (a + 1) n k all.1 (omega (arith, low, later)) (omega (arith, high)) it)
-    (cases_eq k a))
-    (λ (fails : p a ≡ false).
-    let rest : AllByRecursion P (filter p (range_with_len (a + 1) n)) = rw fails at each in
-    let past : k ≡ a → ⊥ = λ same. false≢true (sym fails ∙ ap p (sym same) ∙ it) in
-    filter_at p P (a + 1) n k rest (omega (arith, low, past)) (omega (arith, high)) it)
-    (cases_Bool (p a))
+filter_at p P a n k each low high it =
+    let range = range_with_len a n in
+    let few : k - a < n = omega (arith, low, high) in
+    let is : get_or range (k - a) k ≡ k = get_or-range_with_len a n (k - a) k few ∙ omega (arith, low) in
+    among_each P k (filter p range) each (among_kept p k range (Among-from_Contains k range (k - a, omega (arith, few, length-range_with_len a n), is)) it)
 
 -- ---- the least of a class
 

@@ -1,5 +1,5 @@
 -- Loops that push the clauses of the order.
-use Rattle.std.proofs.Common.{◌≡◌, ℕ, zero, suc, ◌+◌, ◌-◌, ◌<◌, ◌≤◌, Bool, true, false, cond, List, [], ◌∷◌, ◌++◌, length, get_or, refl, sym, ap, ◌∙◌, subst, arith, All, filter, flat_map}
+use Rattle.std.proofs.Common.{◌≡◌, ℕ, zero, suc, ◌+◌, ◌-◌, ◌<◌, ◌≤◌, Bool, cond, List, [], ◌∷◌, ◌++◌, length, get_or, refl, sym, ap, ◌∙◌, subst, arith, All, filter, flat_map}
 use Rattle.std.{specs.List.range_with_len, proofs.lemmas.List.Elements.All-from_recursion}
 use Rattle.schedule.{specs.Placed.PlacementValue, proofs.First.each_filter}
 use Rattle.send_encoding.specs.Variables.{arrivals, sends}
@@ -42,11 +42,7 @@ class_below pre post c chunks is =
 
 pub flat_filter : {X Y : Type 0} (p : X → Bool) (g : X → List Y) (xs : List X) → flat_map g (filter p xs) ≡ flat_map (λ x. cond (p x) (g x) []) xs
 flat_filter p g [] = refl
-flat_filter {X = X} {Y = Y} p g (x ∷ xs) = go (p x) (flat_filter p g xs)
-  where
-    go : (b : Bool) → flat_map g (filter p xs) ≡ flat_map (λ x. cond (p x) (g x) []) xs → flat_map g (cond b (x ∷ filter p xs) (filter p xs)) ≡ cond b (g x) [] ++ flat_map (λ x. cond (p x) (g x) []) xs
-    go true rest = ap (λ ys. g x ++ ys) rest
-    go false rest = rest
+flat_filter p g (x ∷ xs) = grind (arith, flat_filter p g xs)
 
 -- ---- the variables of arrivals and sends are the formula's
 

@@ -46,12 +46,7 @@ pub record IsExchange (pre post : PlacementValue) (f : ℕ → ℕ) : Type 0 whe
 -- who passes a test of steps and links does so under each name
 count_renamed : (f : ℕ → ℕ) (group : GroupValue) (step : ℕ) (hops : List Hop) → load group step (map (renamed_hop f) hops) ≡ load group step hops
 count_renamed f group step [] = refl
-count_renamed f group step (h ∷ hops) =
-    let test : Hop → Bool = λ h. eqb h.step step && has_link group (link_of h) in
-    let rest : load group step (map (renamed_hop f) hops) ≡ load group step hops = count_renamed f group step hops in
-    sum_by-cons (λ x. cond (test x) 1 0) (renamed_hop f h) (map (renamed_hop f) hops)
-    ∙ ap (λ n. cond (test h) 1 0 + n) rest
-    ∙ sym (sum_by-cons (λ x. cond (test x) 1 0) h hops)
+count_renamed f group step (h ∷ hops) = omega (arith, sum_by-cons (λ x. cond (eqb x.step step && has_link group (link_of x)) 1 0) (renamed_hop f h) (map (renamed_hop f) hops), sum_by-cons (λ x. cond (eqb x.step step && has_link group (link_of x)) 1 0) h hops, count_renamed f group step hops)
 
 module _ (pre post : PlacementValue) (f : ℕ → ℕ) (exchange : IsExchange pre post f) where
   one_name : (a b : Hop) → renamed_hop f a ≡ renamed_hop f b → a ≡ b

@@ -1,11 +1,11 @@
 -- Where a schedule solves, one solves in which chunks that are alike come in the order of their numbers: chunk after chunk, the one of its class that comes first takes its place.
 use Rattle.std.proofs.Common.{◌≡◌, ℕ, zero, suc, ◌+◌, ◌-◌, ◌<◌, ◌≤◌, Bool, true, ◌||◌, length, Some, None, refl, sym, ap, ◌∙◌, subst, ⊎_elim, arith, Option}
-use Rattle.std.{specs.List.list_any, proofs.lemmas.Bool.{or_left, cases_eq, cases_lt}}
+use Rattle.std.{specs.List.list_any, proofs.lemmas.Bool.{or_left, cases_eq, cases_lt, Decides.nat_tests}}
 use Rattle.schedule.specs.{Links.TopologyValue, Placed.{PlacementValue, IsPlacement, holds}, Sends.{ScheduleValue, IsInRange}, Running.{after, brings}}
 use Rattle.schedule.specs.Solving.{Solvable}
 use Rattle.schedule.proofs.{Placing.holds-placed, Stepping.{chunks-after, nodes-after}}
 use Rattle.chunk_order.specs.Alike.{is_alike, watch_node, Ordered}
-use Rattle.chunk_order.proofs.{Alikeness.{alike_itself, alike_both, watch_alike, watch_below}, Exchanging.{exchanged, exchanges, goes}}
+use Rattle.chunk_order.proofs.{Alikeness.{alike_itself, alike_both, watch_alike, watch_below}, Exchanging.{exchanged, exchanges}}
 use Rattle.chunk_order.proofs.Renaming.{IsExchange, renamed, valid_renamed, range_renamed, after_renamed, solves_renamed}
 use Rattle.chunk_order.proofs.Firsts.{first_from, first_no_later, first_passes, first_alike, HasLeast, least_key}
 
@@ -32,6 +32,13 @@ comes pre s c (Some node) = arrives pre s c node
 -- the step after which its watch node has it
 abbrev pub turn : PlacementValue → PlacementValue → ScheduleValue → ℕ → ℕ
 turn pre post s c = comes pre s c (watch_node pre post c)
+
+-- where a number changes places with one that is no less, those below it stay, and the others stay above
+stays_below : (n b d : ℕ) → n ≤ b → d < n → exchanged n b d ≡ d
+stays_below n b d up low = grind (arith, nat_tests)
+
+stays_above : (n b d : ℕ) → n ≤ b → n ≤ d → n ≤ exchanged n b d
+stays_above n b d up low = grind (arith, nat_tests)
 
 -- what comes no later is there where the other is
 earlier_is_there : (pre : PlacementValue) (s : ScheduleValue) (c d node step : ℕ) → c < pre.chunks → node < pre.nodes → arrives pre s c node ≤ arrives pre s d node → step ≤ length s.rounds → holds (after pre s step) (d, node) ≡ true → holds (after pre s step) (c, node) ≡ true
@@ -88,17 +95,16 @@ module _ (t : TopologyValue) (pre post : PlacementValue) (steps rounds : ℕ) (p
       let cc_low : c < pre.chunks = omega (arith, less, dl) in
       let to : f d < pre.chunks = exchange.keeps d dl in
       let still : is_alike pre post c (f d) ≡ true = alike_both pre post c d (f d) alike (exchange.alike d) in
-      let above : n ≤ d → n ≤ f d = λ up. ⊎_elim (λ way. omega (arith, way.1, first.from)) (λ others. ⊎_elim (λ way. omega (arith, way.1)) (λ way. omega (arith, way.2, up)) others) (goes n b d).way in
-      let below : d < n → f d ≡ d = λ low. ⊎_elim (λ way. absurd (omega (arith, way.0, low))) (λ others. ⊎_elim (λ way. absurd (omega (arith, way.0, low, first.from))) (λ way. way.2) others) (goes n b d).way in
+      let above : n ≤ d → n ≤ f d = λ up. stays_above n b d first.from up in
       ⊎_elim
       (λ (here : c ≡ n).
-      let mine : f c ≡ b = ⊎_elim (λ way. way.1) (λ others. ⊎_elim (λ way. way.1 ∙ sym here ∙ way.0) (λ way. absurd (way.0 here)) others) (goes n b c).way in
+      let mine : f c ≡ b = grind (arith, nat_tests, here) in
       let least : turn pre post s b ≤ turn pre post s (f d) = first.least (f d) (above (omega (arith, here, less))) (omega (arith, to, nl)) (ap (λ x. is_alike pre post x (f d)) (sym here) ∙ still) in
       omega (arith, turns c cc_low, turns d dl, ap (turn pre post s) mine, least))
       (λ (other : c ≡ n → ⊥).
       let low : c < n = omega (arith, cl, other) in
-      let mine : f c ≡ c = ⊎_elim (λ way. absurd (other way.0)) (λ others. ⊎_elim (λ way. absurd (omega (arith, way.0, low, first.from))) (λ way. way.2) others) (goes n b c).way in
-      let past : c < f d = ⊎_elim (λ (small : d < n). omega (arith, below small, less)) (λ (large : n ≤ d). omega (arith, above large, low)) (cases_lt d n) in
+      let mine : f c ≡ c = stays_below n b c first.from low in
+      let past : c < f d = ⊎_elim (λ (small : d < n). omega (arith, stays_below n b d first.from small, less)) (λ (large : n ≤ d). omega (arith, above large, low)) (cases_lt d n) in
       let before : turn pre post s c ≤ turn pre post s (f d) = old.in_turn c (f d) low past to still in
       omega (arith, turns c cc_low, turns d dl, ap (turn pre post s) mine, before))
       (cases_eq c n) in

@@ -1,14 +1,14 @@
 -- Ordered schedules suffice: a candidate is solvable exactly where an ordered schedule that wastes no send solves it, and the formula with the clauses of the order is satisfiable exactly there.
-use Rattle.std.proofs.{Common.{◌≡◌, ℕ, zero, suc, ◌<◌, ◌≤◌, Bool, true, List, ◌++◌, refl, sym, ◌∙◌, arith, ◌↔◌, Some}, lemmas.Bool.and_from}
+use Rattle.std.proofs.{Common.{◌≡◌, ℕ, zero, suc, ◌<◌, ◌≤◌, Bool, true, List, ◌++◌, refl, sym, ◌∙◌, arith, ◌↔◌, Some}}
 use Rattle.std.proofs.lemmas.List.Folds.{list_all-append}
 use Rattle.schedule.specs.{Links.TopologyValue, Placed.{PlacementValue, holds}, Sends.{ScheduleValue, IsSchedule, IsInRange}, Running.after}
 use Rattle.schedule.specs.Solving.{Solves, Solvable}
-use Rattle.cnf_formula.specs.{Literals.{is_true, clause_holds, all_hold}, Formulas.{Satisfies, Satisfiable}}
+use Rattle.cnf_formula.specs.{Literals.{LitValue, is_true, clause_holds, all_hold}, Formulas.{Satisfies, Satisfiable}}
 use Rattle.send_encoding.specs.{Variables.{SendMapValue, map_of, arrival, sent}, Sending.sending, Agreeing.SatisfiesAs}
 use Rattle.send_encoding.proofs.{Mapped.links_join, Sound.sending_says, Decoded.sends_tell, Running.run_is}
 use Rattle.round_encoding.specs.{Frames.{Frame, frame_of, own_variables}, Rounding.{counts_in, counters_after, extra_in_order, formula_of}, Decoding.decoded}
 use Rattle.round_encoding.specs.Candidates.{IsCandidate, IsTightSolution}
-use Rattle.round_encoding.proofs.{Obeyed.both_hold, Exactly.{sound, completely}}
+use Rattle.round_encoding.proofs.Exactly.{sound, completely}
 use Rattle.chunk_order.specs.{Alike.{Ordered, is_alike, watch_node}, Ordering.{order_clauses, ordered_formula_of}}
 use Rattle.chunk_order.specs.Solutions.{IsOrderedSolution, HasOrderedSolution}
 use Rattle.chunk_order.proofs.{Alikeness.{alike_before, watch_below}, Sorting.reordered, Chaining.{clauses_hold, they_follow}}
@@ -19,15 +19,18 @@ module _ (t : TopologyValue) (pre post : PlacementValue) (steps rounds : ℕ) (c
 
   -- ---- the two parts of the formula
 
+  split : (values : List Bool) (xs ys : List (List LitValue)) → all_hold values (xs ++ ys) ≡ true → (all_hold values xs ≡ true) × (all_hold values ys ≡ true)
+  split values xs ys h = grind (arith, list_all-append (clause_holds values) xs ys)
+
   pub parts : (values : List Bool) → Satisfies values (ordered_formula_of t pre post steps rounds) → Satisfies values (formula_of t pre post steps rounds) × (all_hold values (order_clauses m pre post) ≡ true)
   parts values h =
-      let both = both_hold values (formula_of t pre post steps rounds).clauses (order_clauses m pre post) h.holds in
+      let both = split values (formula_of t pre post steps rounds).clauses (order_clauses m pre post) h.holds in
       (record { values_are = h.values_are; holds = both.0 }, both.1)
 
   together : (values : List Bool) → Satisfies values (formula_of t pre post steps rounds) → all_hold values (order_clauses m pre post) ≡ true → Satisfies values (ordered_formula_of t pre post steps rounds)
   together values h order = record {
     values_are = h.values_are;
-    holds = list_all-append (clause_holds values) (formula_of t pre post steps rounds).clauses (order_clauses m pre post) ∙ and_from (all_hold values (formula_of t pre post steps rounds).clauses) (all_hold values (order_clauses m pre post)) h.holds order;
+    holds = grind (arith, list_all-append (clause_holds values) (formula_of t pre post steps rounds).clauses (order_clauses m pre post), h.holds);
   }
 
   -- ---- what an assignment decodes to
@@ -37,8 +40,8 @@ module _ (t : TopologyValue) (pre post : PlacementValue) (steps rounds : ℕ) (c
       → holds (after pre (decoded (frame_of t pre steps rounds) values) k) (c, n) ≡ is_true values (arrival m c n k)
   run_said values h k c n kl cl nl =
       let f : Frame = frame_of t pre steps rounds in
-      let first = both_hold values (sending m pre post ++ extra_in_order f) (counters_after (own_variables f) (counts_in f t)).clauses h.holds in
-      let sends = both_hold values (sending m pre post) (extra_in_order f) first.0 in
+      let first = split values (sending m pre post ++ extra_in_order f) (counters_after (own_variables f) (counts_in f t)).clauses h.holds in
+      let sends = split values (sending m pre post) (extra_in_order f) first.0 in
       run_is m pre post (λ c n k. is_true values (arrival m c n k)) (λ c e k. is_true values (sent m c e k)) (decoded f values) refl candidate.nodes (links_join t pre steps)
       (sending_says m pre post values sends.0) (sends_tell m values (links_join t pre steps)) k c n kl cl nl
 

@@ -33,6 +33,7 @@ pub(crate) fn is_alike(instance: &Instance, first: u16, second: u16) -> bool
 }
 
 /// The least node that has to get the chunk, if there is one. Chunks that are alike have the same.
+#[tactic(auto, using(crate::proofs::Looking::find_none))]
 pub(crate) fn watch_node(instance: &Instance, chunk: u16) -> Option<u8>
     requires chunk { chunk < instance.now.pre.chunks }
     requires chunks { instance.now.post.chunks ≡ instance.now.pre.chunks }
@@ -49,6 +50,7 @@ pub(crate) fn watch_node(instance: &Instance, chunk: u16) -> Option<u8>
 }
 
 /// Whether no chunk of a smaller number is alike.
+#[tactic(auto, using(crate::proofs::Classes::none_in_range))]
 pub(crate) fn is_least(instance: &Instance, chunk: u16) -> bool
     requires chunk { chunk < instance.now.pre.chunks }
     requires chunks { instance.now.post.chunks ≡ instance.now.pre.chunks }

@@ -1,21 +1,21 @@
 -- A group's counter, in the order in which it is made.
-use Rattle.std.proofs.Common.{◌≡◌, ℕ, suc, ◌+◌, ◌*◌, ◌<◌, ◌≤◌, List, [], ◌∷◌, map, length, refl, ap, ◌∙◌, arith, All}
+use Rattle.std.proofs.{Common.{◌≡◌, ℕ, ◌+◌, ◌*◌, ◌<◌, ◌≤◌, List, map, length, ap, ◌∙◌, arith, All}, lemmas.List.length-map}
 use Rattle.schedule.specs.{Links.{GroupValue, IsGroup}, Sends.IsStep}
 use Rattle.cnf_formula.specs.{Literals.LitValue, Formulas.{FormulaValue, IsClause, with_clauses}}
 use Rattle.cardinality.{specs.{Counting.{CounterValue, with_counter}, Totalizers.totalizer_of}, proofs.Wider.clause_more}
 use Rattle.round_encoding.{specs.{Frames.{Frame, own_variables}, Rounding.{count_of_group, output_at, with_count}, inner.Counts.said_of_group}, proofs.Counted.group_counted}
 use Rattle.send_encoding.{specs.Variables.{sent, link_number}, proofs.Grid.rows_length}
 
-mapped_length : {X Y : Type 0} (g : X → Y) (xs : List X) → length (map g xs) ≡ length xs
-mapped_length g [] = refl
-mapped_length g (x ∷ xs) = ap (λ n. suc n) (mapped_length g xs)
-
 module _ (f : Frame) (s : ℕ) (group : GroupValue) where
   abbrev inputs : List LitValue
   inputs = (count_of_group f s group).inputs
 
   pub inputs_length : length inputs ≡ f.map.chunks * length group.links
-  inputs_length = rows_length (λ c. map (λ link. sent f.map c (link_number f.map link) s) group.links) (length group.links) 0 f.map.chunks (λ c. mapped_length (λ link. sent f.map c (link_number f.map link) s) group.links)
+  inputs_length = rows_length (λ c. map (λ link. sent f.map c (link_number f.map link) s) group.links) (length group.links) 0 f.map.chunks (λ c. length-map group.links (λ link. sent f.map c (link_number f.map link) s))
+
+  -- the variables that the counter may take
+  pub same_room : (before bound : ℕ) (ys : List LitValue) → ys ≡ inputs → bound ≡ group.width * (1 + f.extra) → before + length ys * (bound + 1) ≡ before + f.map.chunks * length group.links * (group.width * (1 + f.extra) + 1)
+  same_room before bound ys same is = grind (arith, inputs_length)
 
   pub inputs_about : (v : ℕ) → own_variables f ≤ v → IsStep f.map.steps s → 0 < f.map.chunks → IsGroup group → All (λ link. link_number f.map link < length f.map.links) group.links → IsClause v inputs
   inputs_about v le step chunks ok places =

@@ -1,20 +1,20 @@
 -- Where a schedule solves, the formula has a satisfying assignment whose arrivals are what the schedule's run holds.
-use Rattle.std.proofs.Common.{◌≡◌, ℕ, zero, suc, ◌+◌, ◌-◌, ◌*◌, ◌<◌, ◌≤◌, Bool, true, false, List, [], ◌∷◌, ◌++◌, map, length, get_or, leb, sum, refl, sym, ap, ◌∙◌, subst, ⊎_elim, arith, if◌then◌else◌, flat_map, sum_by, nat_lt, All}
-use Rattle.std.{specs.List.range_with_len, proofs.lemmas.{Bool.{and_from, leb-true, le-leb, lt-leb, cases_lt}, List.Elements.{All-nil, All-cons, All-append}}}
-use Rattle.std.proofs.{lemmas.List.{get_or-append-add, map-append, append-nil, Folds.list_all-append}, Math.Nat.mul-le-mul_left}
+use Rattle.std.proofs.Common.{◌≡◌, ℕ, zero, suc, ◌+◌, ◌-◌, ◌*◌, ◌<◌, ◌≤◌, Bool, true, false, List, [], ◌∷◌, ◌++◌, map, length, get_or, leb, sum, refl, sym, ap, ◌∙◌, subst, ⊎_elim, arith, flat_map, sum_by, All}
+use Rattle.std.{specs.List.range_with_len, proofs.lemmas.Bool.{leb-true, le-leb, cases_lt, Decides.nat_tests}}
+use Rattle.std.proofs.{lemmas.List.{get_or-append-add, map-append, append-nil}, Math.Nat.mul-le-mul_left}
 use Rattle.std.proofs.lemmas.List.FromFn.{get_or-map-range_with_len, length-map-range_with_len}
 use Rattle.schedule.specs.{Links.{TopologyValue, GroupValue, IsTopology}, Placed.PlacementValue, Sends.{ScheduleValue, IsSchedule, IsStep, IsInRange}}
 use Rattle.schedule.specs.{Fitting.rounds_at, Solving.Solves}
-use Rattle.cnf_formula.specs.{Literals.{LitValue, negation, is_true, clause_holds, all_hold}, Formulas.{IsAbout, IsClause, Satisfies}}
-use Rattle.cardinality.{specs.Counting.true_inputs, proofs.Wider.{clauses_same, old_is_same}}
+use Rattle.cnf_formula.{specs.{Literals.{LitValue, negation, is_true, clause_holds, all_hold}, Formulas.Satisfies}, proofs.Clauses.negation_is}
+use Rattle.cardinality.{specs.Counting.true_inputs, proofs.{Ranges.hold_both, Wider.{clauses_same, old_is_same}}}
 use Rattle.send_encoding.specs.{Variables.{SendMapValue, map_of, steps_of, arrival, sent, arrivals, sends, link_number}, Sending.sending, Leading.{had, brought}}
 use Rattle.send_encoding.specs.Assigning.{arrival_values, send_values, extra_values, has_more_rounds, assigned}
-use Rattle.send_encoding.proofs.{Everywhere.{in_map, in_flat, From, in_range}, About.IsStepOf, Mapped.links_join, Grid.{rows_at, rows_length}}
+use Rattle.send_encoding.proofs.{Everywhere.{From, in_range}, About.IsStepOf, Mapped.links_join, Grid.{rows_at, rows_length}}
 use Rattle.send_encoding.proofs.{Assigned.{assigned_length, arrival_value, sent_value, own_length}, Scheduled.schedule_moves}
-use Rattle.send_encoding.proofs.Complete.{sending_holds, if_true, not_true, one_true, passes_flat, passes_map, count_alike}
+use Rattle.send_encoding.proofs.Complete.{sending_holds, if_true, passes_flat, passes_map, count_alike}
 use Rattle.round_encoding.specs.Frames.{Frame, frame_of, extra_round, own_variables}
 use Rattle.round_encoding.specs.Rounding.{count_of_rounds, count_of_group, counts_in, counters_after, extra_in_order, formula_of}
-use Rattle.round_encoding.proofs.{Extras.{sending_about, order_about, extra_about, arrival_about}, Counted.all_counts, Counting.{Allows, counters_extend}}
+use Rattle.round_encoding.proofs.{Extras.{sending_about, order_about, extra_about, arrival_about}, Counted.{all_counts, of_counts}, Counting.{Allows, counters_extend}}
 use Rattle.round_encoding.proofs.{Loaded.{table_loads, cells, good_cells, Good}, Rounds.{count_rounds, count_flat, beyond, no_fewer, one_step}}
 
 pub map_cells : {X Y : Type 0} (g : ℕ × X → Y) (xs : List X) (a n : ℕ) → flat_map (λ c. map (λ l. g (c, l)) xs) (range_with_len a n) ≡ map g (flat_map (λ c. map (λ l. (c, l)) xs) (range_with_len a n))
@@ -97,15 +97,12 @@ module _ (t : TopologyValue) (pre post : PlacementValue) (s : ScheduleValue) (st
 
   later_same : (more : List Bool) (k j : ℕ) → IsStep steps k → IsStep f.extra j → is_true (own ++ more) (extra_round f k j) ≡ has_more_rounds s k j
   later_same more k j step extra =
-      old_is_same own more (extra_round f k j) (subst (λ n. IsAbout n (extra_round f k j)) (sym own_is) (extra_about f k j (omega (arith, step.from), omega (arith, step.to)) (omega (arith, extra.from), omega (arith, extra.to))))
+      old_is_same own more (own_variables f) (extra_round f k j) (omega (arith, own_is)) (extra_about f k j (omega (arith, step.from), omega (arith, step.to)) (omega (arith, extra.from), omega (arith, extra.to)))
       ∙ extra_value k j step extra
 
   rounds_allowed : Allows own (count_of_rounds f)
   rounds_allowed = record {
-    says = λ more o outs.
-        let high : leb (f.extra + 1) (true_inputs own (count_of_rounds f).inputs) ≡ false = lt-leb (f.extra + 1) (true_inputs own (count_of_rounds f).inputs) (omega (arith, rounds_counted_few)) in
-        let w = own ++ more in
-        and_from (clause_holds w (negation (o (f.extra + 1)) ∷ [])) true (one_true w (negation (o (f.extra + 1))) (not_true w (o (f.extra + 1)) (outs (f.extra + 1) (omega arith) (omega arith) ∙ high))) refl;
+    says = λ more o outs. grind (arith, nat_tests, negation_is (own ++ more) (o (f.extra + 1)), outs (f.extra + 1) (omega arith) (omega arith), rounds_counted_few);
   }
 
   group_allowed : (k : ℕ) → IsStep steps k → (i : ℕ) (d : GroupValue) → i < length t.groups → Allows own (count_of_group f k (get_or t.groups i d))
@@ -135,23 +132,12 @@ module _ (t : TopologyValue) (pre post : PlacementValue) (s : ScheduleValue) (st
             let more_than = leb-true (group.width * j + 1) count (sym (outs (group.width * j + 1) (omega arith) (omega (arith, up))) ∙ u) in
             let above : j + 1 ≤ r = ⊎_elim (λ less. omega (arith, less)) (λ no. let down : group.width * r ≤ group.width * j = mul-le-mul_left group.width no in absurd (omega (arith, down, few, more_than))) (cases_lt j r) in
             later_same more k j step extra ∙ le-leb (j + 1) r above)) (in_range 1 f.extra) in
-            let none : leb last count ≡ false = lt-leb last count (omega (arith, few, least)) in
-            let last_part : all_hold w ((negation (o last) ∷ []) ∷ []) ≡ true =
-            and_from (clause_holds w (negation (o last) ∷ [])) true (one_true w (negation (o last)) (not_true w (o last) (outs last (omega arith) (omega arith) ∙ none))) refl in
-            list_all-append (clause_holds w) (map (λ j. negation (o (group.width * j + 1)) ∷ extra_round f k j ∷ []) (range_with_len 1 f.extra)) ((negation (o last) ∷ []) ∷ [])
-            ∙ and_from (all_hold w (map (λ j. negation (o (group.width * j + 1)) ∷ extra_round f k j ∷ []) (range_with_len 1 f.extra))) (all_hold w ((negation (o last) ∷ []) ∷ [])) first_part last_part;
+            let last_part : all_hold w ((negation (o last) ∷ []) ∷ []) ≡ true = grind (arith, nat_tests, negation_is w (o last), outs last (omega arith) (omega arith), few, least) in
+            hold_both w (map (λ j. negation (o (group.width * j + 1)) ∷ extra_round f k j ∷ []) (range_with_len 1 f.extra)) ((negation (o last) ∷ []) ∷ []) first_part last_part;
       }
 
   counts_allowed : All (Allows own) (counts_in f t)
-  counts_allowed =
-      All-append (Allows own) (if nat_lt 0 f.extra then count_of_rounds f ∷ [] else []) (flat_map (λ k. map (count_of_group f k) t.groups) (steps_of m))
-      (rounds_if (nat_lt 0 f.extra))
-      (in_flat (Allows own) (IsStepOf m) (λ k. map (count_of_group f k) t.groups) (steps_of m)
-      (λ k st. in_map (Allows own) (λ group. Allows own (count_of_group f k group)) (count_of_group f k) t.groups (λ group ok. ok) (λ i d low. group_allowed k (step_of_range steps k st) i d low)) (in_range 1 steps))
-    where
-      rounds_if : (b : Bool) → All (Allows own) (if b then count_of_rounds f ∷ [] else [])
-      rounds_if true = All-cons (Allows own) (count_of_rounds f) [] rounds_allowed (All-nil (Allows own))
-      rounds_if false = All-nil (Allows own)
+  counts_allowed = of_counts (Allows own) f t (λ _. rounds_allowed) (λ k st i d low. group_allowed k (step_of_range steps k st) i d low)
 
   -- ---- the whole formula
 
@@ -168,11 +154,10 @@ module _ (t : TopologyValue) (pre post : PlacementValue) (s : ScheduleValue) (st
       let counters : all_hold v (counters_after (own_variables f) (counts_in f t)).clauses ≡ true =
       subst (λ n. all_hold v (counters_after n (counts_in f t)).clauses ≡ true) before (subst (λ u. all_hold u (counters_after (length (own ++ [])) (counts_in f t)).clauses ≡ true) whole found.2) in
       let sends_own = sending_holds m pre post a x own links (arrival_value m a x rest) (sent_value m a x rest) (schedule_moves t pre post s steps rounds nodes links range solves) in
-      let sends : all_hold v (sending m pre post) ≡ true = clauses_same own later (sending m pre post) (subst (λ n. All (IsClause n) (sending m pre post)) (sym own_is) (sending_about f links pre post)) ∙ sends_own in
-      let order : all_hold v (extra_in_order f) ≡ true = clauses_same own later (extra_in_order f) (subst (λ n. All (IsClause n) (extra_in_order f)) (sym own_is) (order_about f)) ∙ order_holds in
-      let join : (xs ys : List (List LitValue)) → all_hold v xs ≡ true → all_hold v ys ≡ true → all_hold v (xs ++ ys) ≡ true =
-      λ xs ys p q. list_all-append (clause_holds v) xs ys ∙ and_from (all_hold v xs) (all_hold v ys) p q in (
+      let sends : all_hold v (sending m pre post) ≡ true = clauses_same own later (own_variables f) (sending m pre post) (omega (arith, own_is)) (sending_about f links pre post) ∙ sends_own in
+      let order : all_hold v (extra_in_order f) ≡ true = clauses_same own later (own_variables f) (extra_in_order f) (omega (arith, own_is)) (order_about f) ∙ order_holds in
+      let whole_holds = hold_both v (sending m pre post ++ extra_in_order f) (counters_after (own_variables f) (counts_in f t)).clauses (hold_both v (sending m pre post) (extra_in_order f) sends order) counters in (
         v,
-        record { values_are = many; holds = join (sending m pre post ++ extra_in_order f) (counters_after (own_variables f) (counts_in f t)).clauses (join (sending m pre post) (extra_in_order f) sends order) counters },
-        λ c n k cl nl kl. old_is_same own later (arrival m c n k) (subst (λ w. IsAbout w (arrival m c n k)) (sym own_is) (arrival_about f c n k cl nl kl)) ∙ arrival_value m a x rest c n k cl nl kl,
+        record { values_are = many; holds = whole_holds },
+        λ c n k cl nl kl. old_is_same own later (own_variables f) (arrival m c n k) (omega (arith, own_is)) (arrival_about f c n k cl nl kl) ∙ arrival_value m a x rest c n k cl nl kl,
       )

@@ -1,8 +1,9 @@
 -- A candidate's formula is about its own variables and those of its counters.
-use Rattle.std.proofs.Common.{◌≡◌, ℕ, ◌+◌, ◌-◌, ◌*◌, ◌<◌, ◌≤◌, Bool, true, false, List, [], ◌∷◌, ◌++◌, length, map, get_or, refl, sym, ◌∙◌, arith, if◌then◌else◌, flat_map, nat_lt, All}
+use Rattle.std.proofs.Common.{◌≡◌, ℕ, ◌+◌, ◌-◌, ◌*◌, ◌<◌, ◌≤◌, Bool, true, false, List, [], ◌∷◌, ◌++◌, length, map, get_or, refl, ◌∙◌, arith, if◌then◌else◌, flat_map, nat_lt, All}
 use Rattle.std.{specs.List.{list_any, range_with_len}, proofs.lemmas.{Bool.ltb-true, List.Elements.{All-nil, All-cons, All-head, All-tail, All-append}}}
 use Rattle.std.proofs.{lemmas.List.{Folds.list_any_at, FromFn.length-map-range_with_len}, Math.Nat.mul-le-mul_left}
-use Rattle.schedule.specs.{Links.{GroupValue, TopologyValue, IsTopology, IsBelow, has_link, is_usable, usable_links}, Placed.{PlacementValue, same_pair}}
+use Rattle.std.proofs.lemmas.Bool.Decides.{nat_tests}
+use Rattle.schedule.specs.{Links.{GroupValue, TopologyValue, IsTopology, IsBelow, is_usable, usable_links}, Placed.{PlacementValue, same_pair}}
 use Rattle.schedule.proofs.Placing.{holds-placed, pair_itself}
 use Rattle.cnf_formula.{specs.{Literals.{LitValue, yes, negation}, Formulas.{IsAbout, IsClause, IsFormula}}, proofs.Clauses.negation_about}
 use Rattle.cardinality.{specs.{Counting.output, Totalizers.totalizer_of}, proofs.{Totals.totalizer_is_counter, Wider.{clauses_more, clause_more, about_more}}}
@@ -23,9 +24,7 @@ pub record IsCount (own : ℕ) (count : Count) : Type 0 where
 
 pub more_variables : (before : ℕ) (counts : List Count) → before ≤ (counters_after before counts).vars
 more_variables before [] = omega arith
-more_variables before (count ∷ counts) =
-    let rest = more_variables (before + (totalizer_of before count.inputs count.bound).vars) counts in
-    omega (arith, rest)
+more_variables before (count ∷ counts) = grind (arith, more_variables (before + (totalizer_of before count.inputs count.bound).vars) counts)
 
 output_about : (before : ℕ) (count : Count) → 0 < length count.inputs → All (IsAbout before) count.inputs → (t : ℕ) → 0 < t → t ≤ count.bound + 1 → IsAbout (before + (totalizer_of before count.inputs count.bound).vars) (output (totalizer_of before count.inputs count.bound) t)
 output_about before count some about t low high =
@@ -96,37 +95,32 @@ link_listed : (t : TopologyValue) (link : ℕ × ℕ) → IsBelow t.nodes link �
 link_listed t link below usable = holds-placed t.nodes t.nodes (is_usable t) link below.from below.to ∙ usable
 
 in_group : (t : TopologyValue) (k j : ℕ) (d : GroupValue) (e : ℕ × ℕ) → k < length t.groups → j < length (get_or t.groups k d).links → is_usable t (get_or (get_or t.groups k d).links j e) ≡ true
-in_group t k j d e low few =
-    let group = get_or t.groups k d in
-    let link = get_or group.links j e in
-    list_any_at (λ g. has_link g link) t.groups k d low (list_any_at (same_pair link) group.links j e few (pair_itself link))
+in_group t k j d e low few = grind (arith, nat_tests, list_any_at, pair_itself)
 
 pub placed_links : (t : TopologyValue) (pre : PlacementValue) (steps k : ℕ) (d : GroupValue) → IsTopology t → k < length t.groups → All (λ link. link_number (map_of t pre steps) link < length (usable_links t)) (get_or t.groups k d).links
 placed_links t pre steps k d ok low = λ j e few.
     let link = get_or (get_or t.groups k d).links j e in
     place_below (same_pair link) (usable_links t) (link_listed t link (ok.nodes k d low j e few) (in_group t k j d e low few))
 
--- a group has links, and each has its number
-abbrev Carries : TopologyValue → PlacementValue → ℕ → GroupValue → Type 0
-Carries t pre steps group = (0 < length group.links) × All (λ link. link_number (map_of t pre steps) link < length (usable_links t)) group.links
-
-groups_carry : (t : TopologyValue) (pre : PlacementValue) (steps : ℕ) → IsTopology t → All (Carries t pre steps) t.groups
-groups_carry t pre steps ok k d low = let group = ok.groups k d low in (group.some, placed_links t pre steps k d ok low)
-
 -- ---- the formula
+
+-- what holds of the count of rounds, where there are extra ones, and of each group's at each step holds of all counts
+pub of_counts : (P : Count → Type 0) (f : Frame) (t : TopologyValue) → (0 < f.extra → P (count_of_rounds f))
+    → ((s : ℕ) → IsStepOf f.map s → (i : ℕ) (d : GroupValue) → i < length t.groups → P (count_of_group f s (get_or t.groups i d))) → All P (counts_in f t)
+of_counts P f t rounds groups =
+    All-append P (if nat_lt 0 f.extra then count_of_rounds f ∷ [] else []) (flat_map (λ s. map (count_of_group f s) t.groups) (steps_of f.map))
+    (rounds_if (nat_lt 0 f.extra) (ltb-true 0 f.extra))
+    (in_flat P (IsStepOf f.map) (λ s. map (count_of_group f s) t.groups) (steps_of f.map)
+    (λ s step. in_map P (λ group. P (count_of_group f s group)) (count_of_group f s) t.groups (λ group it. it) (groups s step)) (in_range 1 f.map.steps))
+  where
+    rounds_if : (b : Bool) → (b ≡ true → 0 < f.extra) → All P (if b then count_of_rounds f ∷ [] else [])
+    rounds_if true more = All-cons P (count_of_rounds f) [] (rounds (more refl)) (All-nil P)
+    rounds_if false more = All-nil P
 
 pub all_counts : (t : TopologyValue) (pre : PlacementValue) (steps rounds : ℕ) → IsTopology t → 0 < pre.chunks → 0 < steps → All (IsCount (own_variables (frame_of t pre steps rounds))) (counts_in (frame_of t pre steps rounds) t)
 all_counts t pre steps rounds ok chunks some =
     let f = frame_of t pre steps rounds in
-    All-append (IsCount (own_variables f)) (if nat_lt 0 f.extra then count_of_rounds f ∷ [] else []) (flat_map (λ s. map (count_of_group f s) t.groups) (steps_of f.map))
-    (rounds_if (nat_lt 0 f.extra) refl)
-    (in_flat (IsCount (own_variables f)) (IsStepOf f.map) (λ s. map (count_of_group f s) t.groups) (steps_of f.map)
-    (λ s step. in_map (IsCount (own_variables f)) (Carries t pre steps) (count_of_group f s) t.groups
-    (λ group carries. group_counted f s group step chunks carries.0 carries.1) (groups_carry t pre steps ok)) (in_range 1 steps))
-  where
-    rounds_if : (b : Bool) → b ≡ nat_lt 0 (rounds - steps) → All (IsCount (own_variables (frame_of t pre steps rounds))) (if b then count_of_rounds (frame_of t pre steps rounds) ∷ [] else [])
-    rounds_if true e = All-cons (IsCount (own_variables (frame_of t pre steps rounds))) (count_of_rounds (frame_of t pre steps rounds)) [] (rounds_counted (frame_of t pre steps rounds) some (ltb-true 0 (rounds - steps) (sym e))) (All-nil (IsCount (own_variables (frame_of t pre steps rounds))))
-    rounds_if false e = All-nil (IsCount (own_variables (frame_of t pre steps rounds)))
+    of_counts (IsCount (own_variables f)) f t (rounds_counted f some) (λ s step i d low. group_counted f s (get_or t.groups i d) step chunks (ok.groups i d low).some (placed_links t pre steps i d ok low))
 
 pub is_formula : (t : TopologyValue) (pre post : PlacementValue) (steps rounds : ℕ) → IsTopology t → 0 < pre.chunks → 0 < steps → IsFormula (formula_of t pre post steps rounds)
 is_formula t pre post steps rounds ok chunks some =

@@ -1,7 +1,7 @@
 -- The rounds that an assignment says: one of each step, the extra rounds that are true, and what is left to the last step.
-use Rattle.std.proofs.Common.{◌≡◌, ℕ, zero, suc, ◌+◌, ◌-◌, ◌<◌, ◌≤◌, Bool, true, false, cond, eqb, List, [], ◌∷◌, map, length, get_or, sum, refl, sym, ap, ◌∙◌, subst, ⊎_elim, arith, if◌then◌else◌, flat_map, count_by, sum_by, All}
-use Rattle.std.{specs.List.range_with_len, proofs.lemmas.Bool.{false≢true, false_from_ne_true, cases_Bool, eq-eqb, ne_eqb}}
-use Rattle.std.proofs.lemmas.List.{Sums.{sum_by-cons, sum_by-append, sum-map, get_or-le-sum_by}, FromFn.{length-range_with_len, get_or-range_with_len, length-map-range_with_len, get_or-map-range_with_len}}
+use Rattle.std.proofs.Common.{◌≡◌, ℕ, zero, suc, ◌+◌, ◌-◌, ◌<◌, ◌≤◌, Bool, true, false, cond, eqb, List, [], ◌∷◌, map, length, get_or, sum, refl, sym, ap, ◌∙◌, subst, arith, if◌then◌else◌, flat_map, count_by, sum_by, All}
+use Rattle.std.{specs.List.range_with_len, proofs.lemmas.Bool.Decides.nat_tests}
+use Rattle.std.proofs.lemmas.List.{Sums.{sum_by-le-sum_by, sum_by-cons, sum_by-append, sum-map, get_or-le-sum_by}, FromFn.{length-range_with_len, get_or-range_with_len, length-map-range_with_len, get_or-map-range_with_len}}
 use Rattle.schedule.specs.Sends.{IsRound, IsStep}
 use Rattle.cnf_formula.specs.Literals.{is_true}
 use Rattle.cardinality.specs.Counting.{true_inputs}
@@ -10,15 +10,8 @@ use Rattle.send_encoding.{specs.Variables.steps_of, proofs.{Everywhere.{From, in
 
 -- a sum in which one number of a range has so much more
 sum_with_more : (g : ℕ → ℕ) (v a n last : ℕ) → a + n ≡ last → sum_by (λ k. g k + (if eqb k last then v else 0)) (range_with_len a (suc n)) ≡ sum_by g (range_with_len a (suc n)) + v
-sum_with_more g v a zero last e =
-    let at : eqb a last ≡ true = eq-eqb a last (omega (arith, e)) in
-    let more = sum_by-cons (λ k. g k + (if eqb k last then v else 0)) a [] in
-    omega (arith, more ∙ ap (λ b. g a + (if b then v else 0) + 0) at, sum_by-cons g a [])
-sum_with_more g v a (suc n) last e =
-    let at : eqb a last ≡ false = ne_eqb a last (λ same. omega (arith, same, e)) in
-    let rest = sum_with_more g v (a + 1) n last (omega (arith, e)) in
-    let more = sum_by-cons (λ k. g k + (if eqb k last then v else 0)) a (range_with_len (a + 1) (suc n)) in
-    omega (arith, more ∙ ap (λ b. g a + (if b then v else 0) + sum_by (λ k. g k + (if eqb k last then v else 0)) (range_with_len (a + 1) (suc n))) at, rest, sum_by-cons g a (range_with_len (a + 1) (suc n)))
+sum_with_more g v a zero last e = grind (arith, nat_tests, sum_by-cons (λ k. g k + (if eqb k last then v else 0)) a [], sum_by-cons g a [])
+sum_with_more g v a (suc n) last e = grind (arith, nat_tests, sum_by-cons (λ k. g k + (if eqb k last then v else 0)) a (range_with_len (a + 1) (suc n)), sum_by-cons g a (range_with_len (a + 1) (suc n)), sum_with_more g v (a + 1) n last)
 
 one_more_each : (q : ℕ → ℕ) (a n : ℕ) → sum_by (λ k. 1 + q k) (range_with_len a n) ≡ n + sum_by q (range_with_len a n)
 one_more_each q a zero = refl
@@ -36,34 +29,18 @@ count_flat_is p g (x ∷ xs) =
     sum_by-append (λ y. cond (p y) 1 0) (g x) (flat_map g xs) ∙ ap (λ n. count_by p (g x) + n) (count_flat_is p g xs) ∙ sym (sum_by-cons (λ x. count_by p (g x)) x xs)
 
 sum_alike_all : {X : Type 0} (f g : X → ℕ) (xs : List X) → ((x : X) → f x ≡ g x) → sum_by f xs ≡ sum_by g xs
-sum_alike_all f g [] h = refl
-sum_alike_all f g (x ∷ xs) h = omega (arith, sum_by-cons f x xs, sum_by-cons g x xs, h x, sum_alike_all f g xs h)
+sum_alike_all f g xs h = omega (arith, sum_by-le-sum_by f g xs (λ x. omega (arith, h x)), sum_by-le-sum_by g f xs (λ x. omega (arith, h x)))
 
 -- ---- extra rounds in their order
 
 none_above : (p : ℕ → Bool) (a n : ℕ) → ((j : ℕ) → a ≤ j → j + 1 ≤ a + n → p (j + 1) ≡ true → p j ≡ true) → p a ≡ false → count_by p (range_with_len (a + 1) n) ≡ 0
 none_above p a zero order unused = refl
-none_above p a (suc n) order unused =
-    let next : p (a + 1) ≡ false = false_from_ne_true (p (a + 1)) (λ t. false≢true (sym unused ∙ order a (omega arith) (omega arith) t)) in
-    let rest = none_above p (a + 1) n (λ j low high t. order j (omega (arith, low)) (omega (arith, high)) t) next in
-    sum_by-cons (λ j. cond (p j) 1 0) (a + 1) (range_with_len (a + 1 + 1) n) ∙ ap (λ b. cond b 1 0 + count_by p (range_with_len (a + 1 + 1) n)) next ∙ omega (arith, rest)
+none_above p a (suc n) order unused = grind (arith, sum_by-cons (λ j. cond (p j) 1 0) (a + 1) (range_with_len (a + 1 + 1) n), order a, none_above p (a + 1) n (λ j low high t. order j (omega (arith, low)) (omega (arith, high)) t))
 
 -- what is used in order and not to its end is unused from its count on
 pub first_unused : (p : ℕ → Bool) (a n : ℕ) → ((j : ℕ) → a ≤ j → j + 1 < a + n → p (j + 1) ≡ true → p j ≡ true) → count_by p (range_with_len a n) < n → p (a + count_by p (range_with_len a n)) ≡ false
 first_unused p a zero order few = absurd (omega (arith, few))
-first_unused p a (suc n) order few =
-    let cons = sum_by-cons (λ j. cond (p j) 1 0) a (range_with_len (a + 1) n) in
-    ⊎_elim
-    (λ t.
-    let more : count_by p (range_with_len a (suc n)) ≡ 1 + count_by p (range_with_len (a + 1) n) = cons ∙ ap (λ b. cond b 1 0 + count_by p (range_with_len (a + 1) n)) t in
-    let place : a + count_by p (range_with_len a (suc n)) ≡ a + 1 + count_by p (range_with_len (a + 1) n) = omega (arith, more) in
-    ap p place ∙ first_unused p (a + 1) n (λ j low high u. order j (omega (arith, low)) (omega (arith, high)) u) (omega (arith, more, few)))
-    (λ f.
-    let none = none_above p a n (λ j low high u. order j low (omega (arith, high)) u) f in
-    let more : count_by p (range_with_len a (suc n)) ≡ 0 = cons ∙ ap (λ b. cond b 1 0 + count_by p (range_with_len (a + 1) n)) f ∙ omega (arith, none) in
-    let place : a + count_by p (range_with_len a (suc n)) ≡ a = omega (arith, more) in
-    ap p place ∙ f)
-    (cases_Bool (p a))
+first_unused p a (suc n) order few = grind (arith, sum_by-cons (λ j. cond (p j) 1 0) a (range_with_len (a + 1) n), none_above p a n (λ j low high u. order j low (omega (arith, high)) u), first_unused p (a + 1) n (λ j low high u. order j (omega (arith, low)) (omega (arith, high)) u))
 
 -- ---- the rounds of an assignment
 
@@ -114,6 +91,4 @@ module _ (f : Frame) (values : List Bool) where
         record { some = omega arith; few = omega (arith, last_few k (eqb k steps) part, small) }) (in_range 1 steps)
 
   pub rounds_at_least : (k : ℕ) → IsStep steps k → 1 + extra_said k ≤ get_or (rounds_of f values) (k - 1) 0
-  rounds_at_least k step =
-      let is = get_or-map-range_with_len at_step 1 steps (k - 1) k 0 (omega (arith, step.from, step.to)) (omega (arith, step.from)) in
-      omega (arith, is)
+  rounds_at_least k step = grind (arith, get_or-map-range_with_len)

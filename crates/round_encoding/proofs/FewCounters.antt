@@ -1,12 +1,12 @@
 -- The counters of a candidate are small.
-use Rattle.std.proofs.Common.{◌≡◌, ℕ, zero, suc, ◌+◌, ◌*◌, ◌<◌, ◌≤◌, Bool, true, false, List, [], ◌∷◌, map, length, refl, sym, ap, arith, length-append, if◌then◌else◌, flat_map, nat_lt, sum_by, All}
-use Rattle.std.{specs.List.range_with_len, proofs.{Math.Nat.{mul-le-mul_left, mul-le-mul_right}, lemmas.{Bool.ltb-true, List.FromFn.length-map-range_with_len}}}
-use Rattle.std.proofs.lemmas.{List.{Elements.{All-nil, All-cons, All-append}, Sums.{sum_by-cons, sum_by-append}}, Nat.mul-le}
+use Rattle.std.proofs.Common.{◌≡◌, ℕ, zero, suc, ◌+◌, ◌*◌, ◌<◌, ◌≤◌, Bool, true, false, List, [], ◌∷◌, map, length, get_or, refl, ap, arith, length-append, if◌then◌else◌, flat_map, nat_lt, sum_by, All}
+use Rattle.std.{specs.List.range_with_len, proofs.{Math.Nat.{mul-le-mul_left, mul-le-mul_right}, lemmas.List.FromFn.length-map-range_with_len}}
+use Rattle.std.proofs.lemmas.{List.Sums.{sum_by-cons, sum_by-append}, Nat.mul-le}
 use Rattle.schedule.specs.Links.{GroupValue, TopologyValue, IsGroup}
 use Rattle.cnf_formula.specs.Literals.{LitValue, negation}
-use Rattle.send_encoding.{specs.Variables.steps_of, proofs.{Everywhere.{in_map, in_flat, From, in_range}, Grid.rows_length}}
+use Rattle.send_encoding.{specs.Variables.steps_of, proofs.Grid.rows_length}
 use Rattle.round_encoding.specs.{inner.Counts.room, Frames.{Frame, extra_round}, Rounding.{Count, count_of_rounds, count_of_group, counts_in}}
-use Rattle.round_encoding.proofs.{Carried.inputs_length, Counted.rounds_counted, LowCounts.{space, IsLow}}
+use Rattle.round_encoding.proofs.{Carried.inputs_length, Counted.{rounds_counted, of_counts}, LowCounts.{space, IsLow}}
 
 module _ (f : Frame) (few : f.extra ≤ 8) where
   rounds_low : 0 < f.map.steps → 0 < f.extra → IsLow (count_of_rounds f)
@@ -39,8 +39,7 @@ space_of_groups f s (group ∷ groups) =
 
 space_of_steps : (f : Frame) (groups : List GroupValue) (a n : ℕ) → sum_by space (flat_map (λ s. map (count_of_group f s) groups) (range_with_len a n)) ≡ n * sum_by (room f) groups
 space_of_steps f groups a zero = omega arith
-space_of_steps f groups a (suc n) =
-    omega (arith, sum_by-append space (map (count_of_group f a) groups) (flat_map (λ s. map (count_of_group f s) groups) (range_with_len (a + 1) n)), space_of_groups f a groups, space_of_steps f groups (a + 1) n)
+space_of_steps f groups a (suc n) = grind (arith, space, space_of_groups, sum_by-append, space_of_steps f groups (a + 1) n)
 
 module _ (f : Frame) (t : TopologyValue) where
   abbrev own_rounds : Bool → List Count
@@ -57,11 +56,4 @@ module _ (f : Frame) (t : TopologyValue) where
   counts_space = omega (arith, sum_by-append space (own_rounds (nat_lt 0 f.extra)) all_groups, space_if (nat_lt 0 f.extra), space_of_steps f t.groups 1 f.map.steps)
 
   pub counts_low : f.extra ≤ 8 → 0 < f.map.steps → 0 < f.map.chunks → All IsGroup t.groups → All IsLow (counts_in f t)
-  counts_low few steps chunks ok =
-      All-append IsLow (own_rounds (nat_lt 0 f.extra)) all_groups (low_if (nat_lt 0 f.extra) refl)
-      (in_flat IsLow (From 1 f.map.steps) (λ s. map (count_of_group f s) t.groups) (steps_of f.map)
-      (λ s at. in_map IsLow IsGroup (count_of_group f s) t.groups (λ group is. group_low f few s group chunks is) ok) (in_range 1 f.map.steps))
-    where
-      low_if : (b : Bool) → b ≡ nat_lt 0 f.extra → All IsLow (own_rounds b)
-      low_if true e = All-cons IsLow (count_of_rounds f) [] (rounds_low f few steps (ltb-true 0 f.extra (sym e))) (All-nil IsLow)
-      low_if false e = All-nil IsLow
+  counts_low few steps chunks ok = of_counts IsLow f t (rounds_low f few steps) (λ s at i d low. group_low f few s (get_or t.groups i d) chunks (ok i d low))

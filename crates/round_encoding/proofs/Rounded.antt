@@ -1,8 +1,8 @@
 -- The counter of extra rounds, in the order in which it is made.
-use Rattle.std.proofs.{Common.{◌≡◌, ℕ, ◌+◌, ◌*◌, ◌<◌, ◌≤◌, List, [], ◌∷◌, length, ap, ◌∙◌, map}, lemmas.List.FromFn.length-map-range_with_len}
+use Rattle.std.proofs.{Common.{◌≡◌, ℕ, ◌+◌, ◌*◌, ◌<◌, ◌≤◌, List, [], ◌∷◌, length, map, arith}, lemmas.List.FromFn.length-map-range_with_len}
 use Rattle.std.specs.List.{range_with_len}
 use Rattle.cnf_formula.specs.{Literals.{LitValue, negation}, Formulas.{FormulaValue, IsClause, with_clauses}}
-use Rattle.cardinality.{specs.{Counting.{CounterValue, with_counter}, Totalizers.totalizer_of}, proofs.Wider.clause_more}
+use Rattle.cardinality.{specs.{Counting.with_counter, Totalizers.totalizer_of}, proofs.Wider.clause_more}
 use Rattle.send_encoding.proofs.Grid.{rows_length}
 use Rattle.round_encoding.specs.{Frames.{Frame, extra_round, own_variables}, Rounding.{count_of_rounds, output_at, with_count}}
 use Rattle.round_encoding.proofs.Counted.{rounds_counted}
@@ -10,6 +10,10 @@ use Rattle.round_encoding.proofs.Counted.{rounds_counted}
 module _ (f : Frame) where
   pub extra_length : length (count_of_rounds f).inputs ≡ f.map.steps * f.extra
   extra_length = rows_length (λ s. map (extra_round f s) (range_with_len 1 f.extra)) f.extra 1 f.map.steps (λ s. length-map-range_with_len (extra_round f s) 1 f.extra)
+
+  -- the variables that the counter may take
+  pub same_space : (before bound : ℕ) (ys : List LitValue) → ys ≡ (count_of_rounds f).inputs → bound ≡ f.extra → before + length ys * (bound + 1) ≡ before + f.map.steps * f.extra * (f.extra + 1)
+  same_space before bound ys same is = grind (arith, extra_length)
 
   pub extra_some : 0 < f.map.steps → 0 < f.extra → 0 < length (count_of_rounds f).inputs
   extra_some steps extra = (rounds_counted f steps extra).some
@@ -19,9 +23,4 @@ module _ (f : Frame) where
 
   pub rounds_grow : (f0 f1 f2 : FormulaValue) (ys outs : List LitValue) (bound : ℕ) → ys ≡ (count_of_rounds f).inputs → bound ≡ f.extra → f1 ≡ with_counter f0 (totalizer_of f0.vars ys bound) → outs ≡ (totalizer_of f0.vars ys bound).outputs
       → f2 ≡ with_clauses f1 ((negation (output_at outs (f.extra + 1)) ∷ []) ∷ []) → f2 ≡ with_count f0 (count_of_rounds f)
-  rounds_grow f0 f1 f2 ys outs bound ey eb e1 eo e2 =
-      let counter : List LitValue → ℕ → CounterValue = λ x b. totalizer_of f0.vars x b in
-      let at : CounterValue → FormulaValue = λ k. with_clauses (with_counter f0 k) ((negation (output_at k.outputs (f.extra + 1)) ∷ []) ∷ []) in
-      e2 ∙ ap (λ x. with_clauses x ((negation (output_at outs (f.extra + 1)) ∷ []) ∷ [])) e1
-      ∙ ap (λ o. with_clauses (with_counter f0 (counter ys bound)) ((negation (output_at o (f.extra + 1)) ∷ []) ∷ [])) eo
-      ∙ ap (λ y. at (counter y bound)) ey ∙ ap (λ b. at (counter (count_of_rounds f).inputs b)) eb
+  rounds_grow f0 f1 f2 ys outs bound ey eb e1 eo e2 = grind arith

@@ -1,18 +1,18 @@
 -- What an assignment that satisfies the formula says is a tight schedule that solves the candidate.
 use Rattle.std.proofs.Common.{◌≡◌, ℕ, ◌+◌, ◌-◌, ◌*◌, ◌<◌, ◌≤◌, Bool, true, List, [], ◌∷◌, ◌++◌, map, length, get_or, ltb, refl, sym, ap, ◌∙◌, subst, ⊎_elim, arith, if◌then◌else◌, flat_map, nat_lt, All}
-use Rattle.std.{specs.List.range_with_len, proofs.lemmas.{Bool.{false≢true, and_parts, and_from, cases_lt, lt-ltb}, List.Elements.All-head}}
+use Rattle.std.{specs.List.range_with_len, proofs.lemmas.{Bool.{false≢true, and_from, cases_lt, lt-ltb}, List.Elements.All-head}}
 use Rattle.std.proofs.{lemmas.List.{Sums.count_by-le-length, FromFn.{length-range_with_len, length-map-range_with_len}}, Math.Nat.mul-le-mul_left}
 use Rattle.schedule.specs.{Links.{TopologyValue, GroupValue, IsTopology, is_usable, usable_links}, Placed.{PlacementValue, IsPlacement, all_pairs}}
 use Rattle.schedule.specs.{Sends.{ScheduleValue, IsSchedule, IsStep, IsInRange}, Fitting.{Fits, load, rounds_at}, Solving.{Solves, Tight}}
-use Rattle.cnf_formula.specs.{Literals.{negation, is_true, clause_holds, all_hold}, Formulas.Satisfies}
-use Rattle.cardinality.specs.Counting.{true_inputs}
+use Rattle.cnf_formula.{specs.{Literals.{negation, is_true, clause_holds, all_hold}, Formulas.Satisfies}, proofs.Clauses.negation_is}
+use Rattle.cardinality.{specs.Counting.true_inputs, proofs.Ranges.both_hold}
 use Rattle.send_encoding.specs.{Variables.{SendMapValue, map_of, steps_of, arrival, sent}, Sending.sending, Moving.Moves, Telling.Tells}
 use Rattle.send_encoding.proofs.{Mapped.links_join, Grid.rows_length, Members.kept, Decoded.sends_tell, Ascending.{links_ascend, sends_ascend}}
-use Rattle.send_encoding.proofs.{Sound.{sending_says, flat_passes, map_passes, at_range, said_one, said_if, said_not}, Tightened.{is_tight, delivers}}
+use Rattle.send_encoding.proofs.{Sound.{sending_says, flat_passes, map_passes, at_range, said_if}, Tightened.{is_tight, delivers}}
 use Rattle.round_encoding.specs.{Frames.{Frame, frame_of, extra_round, own_variables}, Decoding.decoded}
 use Rattle.round_encoding.specs.Rounding.{count_of_rounds, count_of_group, counts_in, counters_after, extra_in_order, formula_of}
 use Rattle.round_encoding.proofs.{Counted.all_counts, ExtraRounds.{extra_said, first_unused, rounds_many, rounds_sum, rounds_each, rounds_at_least}}
-use Rattle.round_encoding.proofs.{Obeyed.{Obeys, both_hold, counters_obeyed, all_split, all_flat, all_map}, Crossing.load_counted}
+use Rattle.round_encoding.proofs.{Obeyed.{Obeys, counters_obeyed, all_split, all_flat, all_map}, Crossing.load_counted}
 
 module _ (t : TopologyValue) (pre post : PlacementValue) (steps rounds : ℕ) (values : List Bool) (ok : IsTopology t) (nodes : pre.nodes ≡ t.nodes) (chunks : 0 < pre.chunks)
     (some : 0 < steps) (satisfied : Satisfies values (formula_of t pre post steps rounds)) where
@@ -44,13 +44,7 @@ module _ (t : TopologyValue) (pre post : PlacementValue) (steps rounds : ℕ) (v
       (λ less.
       let counts : All (Obeys values) (count_of_rounds f ∷ []) = subst (λ b. All (Obeys values) (if b then count_of_rounds f ∷ [] else [])) (lt-ltb 0 f.extra less) obeyed.0 in
       let it = All-head (Obeys values) (count_of_rounds f) [] counts in
-      ⊎_elim
-      (λ more.
-      let reached = it.reached (f.extra + 1) (omega arith) (omega arith) (omega (arith, more)) in
-      let said = and_parts (clause_holds values (negation (it.outputs (f.extra + 1)) ∷ [])) true it.said in
-      absurd (false≢true (sym (said_not values (it.outputs (f.extra + 1)) (said_one values (negation (it.outputs (f.extra + 1))) said.0)) ∙ reached)))
-      (λ no_more. no_more)
-      (cases_lt f.extra (true_inputs values (count_of_rounds f).inputs)))
+      grind (arith, it.reached (f.extra + 1) (omega arith) (omega arith), it.said, negation_is values (it.outputs (f.extra + 1))))
       (λ not_less.
       let none : f.extra ≡ 0 = omega (arith, not_less) in
       let long : length (count_of_rounds f).inputs ≡ steps * f.extra = rows_length (λ k. map (extra_round f k) (range_with_len 1 f.extra)) f.extra 1 steps (λ k. length-map-range_with_len (extra_round f k) 1 f.extra) in
@@ -94,9 +88,7 @@ module _ (t : TopologyValue) (pre post : PlacementValue) (steps rounds : ℕ) (v
       (λ not_less.
       let all : q ≡ f.extra = omega (arith, few, not_less) in
       let same : group.width * (1 + q) ≡ group.width * (1 + f.extra) = ap (λ e. group.width * (1 + e)) all in
-      let reached = it.reached last (omega arith) (omega arith) (omega (arith, over, same)) in
-      let none = and_parts (clause_holds values (negation (it.outputs last) ∷ [])) true said.1 in
-      false≢true (sym (said_not values (it.outputs last) (said_one values (negation (it.outputs last)) none.0)) ∙ reached))
+      grind (arith, it.reached last (omega arith) (omega arith), said.1, negation_is values (it.outputs last), over, same))
       (cases_lt q f.extra)
 
   group_fits : (k : ℕ) → IsStep steps k → (i : ℕ) (d : GroupValue) → i < length t.groups → load (get_or t.groups i d) k s.sends ≤ (get_or t.groups i d).width * rounds_at s k

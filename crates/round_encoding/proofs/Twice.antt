@@ -1,6 +1,6 @@
 -- Counting pairs that meet, from either side.
-use Rattle.std.proofs.Common.{◌≡◌, ◌≢◌, ℕ, ◌+◌, ◌<◌, ◌≤◌, Bool, true, false, cond, eqb, List, [], ◌∷◌, map, get_or, refl, sym, ap, ◌∙◌, subst, ⊎_elim, arith, ◌||◌, ◌&&◌, flat_map, count_by, AllPairs}
-use Rattle.std.{specs.List.{list_any, range_with_len}, proofs.lemmas.Bool.{false≢true, and_parts, cases_Bool, eqb-true, false_from_ne_true}}
+use Rattle.std.proofs.Common.{◌≡◌, ◌≢◌, ℕ, ◌+◌, ◌<◌, ◌≤◌, Bool, true, false, cond, eqb, List, [], ◌∷◌, map, get_or, refl, sym, ap, ◌∙◌, arith, ◌||◌, ◌&&◌, flat_map, count_by, AllPairs}
+use Rattle.std.{specs.List.{list_any, range_with_len}, proofs.lemmas.Bool.{false≢true, false_from_ne_true, Decides.nat_tests}}
 use Rattle.std.proofs.lemmas.List.{Folds.list_any_at, Sums.sum_by-cons}
 use Rattle.schedule.{specs.Placed.same_pair, proofs.Placing.pair_is}
 use Rattle.send_encoding.proofs.{Everywhere.in_map, Members.none_of, Orders.{apart_once, flat_pairs, map_pairs, range_pairs}}
@@ -21,10 +21,7 @@ module _ {X : Type 0} where
   none_any p xs h = none_of p xs (λ k d low. false_from_ne_true (p (get_or xs k d)) (λ t. false≢true (sym h ∙ list_any_at p xs k d low t)))
 
   pub one_any : (p : X → Bool) (xs : List X) → count_by p xs ≤ 1 → count_by p xs ≤ cond (list_any p xs) 1 0
-  one_any p xs h =
-      ⊎_elim (λ t. subst (λ b. count_by p xs ≤ cond b 1 0) (sym t) h)
-      (λ f. subst (λ b. count_by p xs ≤ cond b 1 0) (sym f) (omega (arith, none_any p xs f)))
-      (cases_Bool (list_any p xs))
+  one_any p xs h = grind (arith, nat_tests, none_any)
 
 pub any_count : {Z H : Type 0} (hit : Z → H → Bool) (zs : List Z) (hops : List H) → ((h : H) → count_by (λ z. hit z h) zs ≤ 1) → count_by (λ z. list_any (hit z) hops) zs ≤ count_by (λ h. list_any (λ z. hit z h) zs) hops
 any_count hit zs [] once = omega (arith, none_of (λ z. false) zs (λ k d low. refl))
@@ -52,9 +49,7 @@ module _ (chunk : ℕ) (link : ℕ × ℕ) (ls : List (ℕ × ℕ)) where
 
   -- a pair that meets is this chunk and this link
   pair_met : (z : ℕ × (ℕ × ℕ)) → meets z ≡ true → (chunk, link) ≡ z
-  pair_met z t =
-      let parts = and_parts (eqb chunk z.0) (same_pair link z.1) t in
-      ap (λ c. (c, link)) (eqb-true chunk z.0 parts.0) ∙ ap (λ l. (z.0, l)) (pair_is link z.1 parts.1)
+  pair_met z t = grind (arith, nat_tests, pair_is)
 
   pub meets_once : (a n : ℕ) → AllPairs (λ a b. a ≢ b) ls → count_by meets (rows a n) ≤ 1
   meets_once a n apart = apart_once Differ meets (λ y z differ t u. differ (sym (pair_met y t) ∙ pair_met z u)) (rows a n) (rows_differ a n apart)

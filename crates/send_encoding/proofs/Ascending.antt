@@ -1,8 +1,8 @@
 -- The usable links ascend, and so do the sends that an assignment says.
-use Rattle.std.proofs.Common.{◌≡◌, ℕ, ◌<◌, Bool, true, false, List, [], ◌∷◌, map, length, get_or, eqb, ltb, refl, sym, ap, ◌∙◌, subst, ◌⊎◌, inl, inr, ⊎_elim, arith, ◌||◌, ◌&&◌, if◌then◌else◌, flat_map, All, AllPairs}
+use Rattle.std.proofs.Common.{◌≡◌, ℕ, ◌<◌, Bool, true, false, List, [], ◌∷◌, map, length, get_or, refl, sym, ap, ◌∙◌, subst, ◌⊎◌, inl, inr, ⊎_elim, arith, if◌then◌else◌, flat_map, All, AllPairs}
 use Rattle.std.specs.List.{enumerate_from}
 use Rattle.std.{specs.List.{list_any, range_with_len, position_or_len}, proofs.lemmas.List.{Elements.{All-nil, All-cons}, Folds.list_any_at}}
-use Rattle.std.proofs.lemmas.{Bool.{and_from, or_left, or_right, lt-ltb, eq-eqb, cases_lt}, List.Kept.AllPairs-filter}
+use Rattle.std.proofs.lemmas.{Bool.{and_from, or_left, or_right, lt-ltb, eq-eqb, cases_lt, Decides.nat_tests}, List.Kept.AllPairs-filter}
 use Rattle.list_laws.proofs.Pairs.{no_pairs}
 use Rattle.schedule.specs.{declared.hop.Hop.Hop, Links.{TopologyValue, is_usable, usable_links}, Placed.{all_pairs, same_pair}, Sends.{hop_before, link_of}}
 use Rattle.schedule.proofs.{Placing.{pair_is, pair_itself}, HopOrder.same_hop, Verdicts.sends_one_way}
@@ -16,8 +16,7 @@ abbrev pub LinkBefore : ℕ × ℕ → ℕ × ℕ → Type 0
 LinkBefore a b = (a.0 < b.0) ⊎ ((a.0 ≡ b.0) × (a.1 < b.1))
 
 never_before_itself : (a b : ℕ × ℕ) → LinkBefore a b → a ≡ b → ⊥
-never_before_itself a b before same =
-    ⊎_elim (λ less. omega (arith, less, ap (λ l. l.0) same)) (λ (here : (a.0 ≡ b.0) × (a.1 < b.1)). omega (arith, here.1, ap (λ l. l.1) same)) before
+never_before_itself a b before same = grind arith
 
 all_pairs_ascend : (rows columns : ℕ) → AllPairs LinkBefore (all_pairs rows columns)
 all_pairs_ascend rows columns =
@@ -52,16 +51,11 @@ by_chunk : (a b : Hop) → a.step ≡ b.step → a.chunk < b.chunk → hop_befor
 by_chunk a b step less = or_right _ _ (and_from _ _ (eq-eqb a.step b.step step) (or_left _ _ (lt-ltb a.chunk b.chunk less)))
 
 by_link : (a b : Hop) → a.step ≡ b.step → a.chunk ≡ b.chunk → LinkBefore (link_of a) (link_of b) → hop_before a b ≡ true
-by_link a b step chunk before =
-    let rest : (ltb a.from b.from || (eqb a.from b.from && ltb a.to b.to)) ≡ true =
-    ⊎_elim (λ less. or_left _ _ (lt-ltb a.from b.from less)) (λ (here : (a.from ≡ b.from) × (a.to < b.to)). or_right _ _ (and_from _ _ (eq-eqb a.from b.from here.0) (lt-ltb a.to b.to here.1))) before in
-    or_right _ _ (and_from _ _ (eq-eqb a.step b.step step) (or_right _ _ (and_from _ _ (eq-eqb a.chunk b.chunk chunk) rest)))
+by_link a b step chunk before = grind (arith, nat_tests)
 
 -- no send stands before one of the same numbers
 pub never_twice : (a b : Hop) → hop_before a b ≡ true → a.step ≡ b.step → a.chunk ≡ b.chunk → a.from ≡ b.from → a.to ≡ b.to → ⊥
-never_twice a b h step chunk from to =
-    let same = same_hop a b chunk from to step in
-    sends_one_way a b h (ap (λ c. hop_before c a) (sym same) ∙ ap (hop_before a) same ∙ h)
+never_twice a b h step chunk from to = grind (arith, nat_tests, same_hop, sends_one_way)
 
 module _ (m : SendMapValue) (values : List Bool) (ascend : AllPairs LinkBefore m.links) where
   abbrev Before : Hop → Hop → Type 0

@@ -1,9 +1,9 @@
 -- Where the tables move chunks, the clauses of arrivals and sends hold.
 use Rattle.std.proofs.Common.{◌≡◌, ℕ, ◌+◌, ◌-◌, ◌<◌, ◌≤◌, Bool, true, false, cond, List, [], ◌∷◌, map, length, refl, sym, ap, ◌∙◌, ⊎_elim, arith, ◌||◌, if◌then◌else◌, flat_map, count_by, All}
 use Rattle.std.specs.List.{enumerate_from}
-use Rattle.std.{specs.List.{list_any, list_all}, proofs.lemmas.{Bool.{and_from, or_left, or_right, cases_Bool, not_from_false}}}
+use Rattle.std.{specs.List.{list_any, list_all}, proofs.lemmas.Bool.{and_from, or_left, or_right, cases_Bool, not_from_false, Decides.nat_tests}}
 use Rattle.std.proofs.lemmas.List.{Elements.{All-head, All-tail, All-filter}, Sums.{sum_by-cons, AllPass-from_list_all, list_all-from_AllPass}}
-use Rattle.schedule.{specs.{Placed.{PlacementValue, holds}, Sends.IsStep}}
+use Rattle.schedule.specs.{Placed.{PlacementValue, holds}, Sends.IsStep}
 use Rattle.cnf_formula.{specs.Literals.{LitValue, negation, is_true, clause_holds, all_hold}, proofs.Clauses.negation_is}
 use Rattle.cardinality.{specs.Counting.at_most_one_of, proofs.Pairs.pairs_decide}
 use Rattle.send_encoding.specs.Variables.{SendMapValue, links_into, arrival, sent}
@@ -39,10 +39,7 @@ module _ (values : List Bool) where
   not_true l f = negation_is values l ∙ not_from_false (is_true values l) f
 
   pub if_true : (l k : LitValue) → (is_true values l ≡ true → is_true values k ≡ true) → clause_holds values (negation l ∷ k ∷ []) ≡ true
-  if_true l k h =
-      ⊎_elim (λ t. or_right (is_true values (negation l)) (is_true values k || false) (one_true k (h t)))
-      (λ f. or_left (is_true values (negation l)) (is_true values k || false) (not_true l f))
-      (cases_Bool (is_true values l))
+  if_true l k h = grind (arith, nat_tests, not_true, one_true)
 
 module _ (m : SendMapValue) (pre post : PlacementValue) (a x : ℕ → ℕ → ℕ → Bool) (values : List Bool) (links : All (JoinsNodes m) m.links)
     (ha : (c n s : ℕ) → c < m.chunks → n < m.nodes → s ≤ m.steps → is_true values (arrival m c n s) ≡ a c n s)

@@ -1,6 +1,6 @@
 -- What holds of each element of a list that is made of others.
-use Rattle.std.proofs.Common.{◌≡◌, ℕ, zero, suc, ◌+◌, ◌*◌, ◌<◌, ◌≤◌, Bool, true, List, [], ◌∷◌, length, length-append, map, sym, ◌∙◌, ⊎_elim, arith, flat_map, All}
-use Rattle.std.{specs.List.{list_any, range_with_len, enumerate_from, position_or_len, AllByRecursion}, proofs.lemmas.Bool.{false≢true, cases_lt}}
+use Rattle.std.proofs.Common.{◌≡◌, ℕ, zero, suc, ◌+◌, ◌*◌, ◌<◌, ◌≤◌, Bool, true, List, [], ◌∷◌, length, length-append, map, arith, flat_map, All}
+use Rattle.std.{specs.List.{list_any, range_with_len, enumerate_from, position_or_len, AllByRecursion}, proofs.lemmas.Bool.Decides.nat_tests}
 use Rattle.std.proofs.lemmas.List.{Sums.{fails_before_first, passes_at_first}, Folds.{list_any_at, list_any_none}, FromFn.{length-range_with_len, get_or-range_with_len}}
 use Rattle.std.proofs.{lemmas.List.Elements.{All-nil, All-cons, All-head, All-tail, All-append, All-map, All-weaker, All-from_recursion}, Math.Nat.mul-le-mul_right}
 
@@ -39,9 +39,7 @@ some_in_flat f a (suc n) h some = omega (arith, some a, length-append (f a) (fla
 
 -- an element that passes has its place
 pub place_below : {X : Type 0} (p : X → Bool) (xs : List X) → list_any p xs ≡ true → position_or_len p xs < length xs
-place_below p xs e =
-    ⊎_elim (λ low. low) (λ high. absurd (false≢true (sym (list_any_none p xs (λ k d low. fails_before_first p xs k d (omega (arith, high, low)))) ∙ e)))
-    (cases_lt (position_or_len p xs) (length xs))
+place_below p xs e = grind (arith, nat_tests, fails_before_first, list_any_none)
 
 pub below_listed : {X : Type 0} (p : X → Bool) (xs : List X) → position_or_len p xs < length xs → list_any p xs ≡ true
 below_listed p [] low = absurd (omega (arith, low))
@@ -49,7 +47,4 @@ below_listed p (x ∷ xs) low = list_any_at p (x ∷ xs) (position_or_len p (x �
 
 -- the b-th of B places in the a-th of A rows is one of all places
 pub slot : (a b rows places : ℕ) → a < rows → b < places → a * places + b < rows * places
-slot a b rows places low few =
-    let up : a + 1 ≤ rows = omega (arith, low) in
-    let product : (a + 1) * places ≤ rows * places = mul-le-mul_right places up in
-    omega (arith, product, few)
+slot a b rows places low few = grind (arith, mul-le-mul_right)

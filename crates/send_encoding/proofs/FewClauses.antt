@@ -11,13 +11,10 @@ use Rattle.send_encoding.specs.inner.Parts.{node_arrives, node_keeps, node_once}
 use Rattle.send_encoding.proofs.{Entering.few_enter, Grid.rows_length}
 
 six_lists : {X : Type 0} (a b c d e f : List X) → length (a ++ b ++ c ++ d ++ e ++ f) ≡ length a + length b + length c + length d + length e + length f
-six_lists a b c d e f =
-    omega (arith, length-append (a ++ b ++ c ++ d ++ e) f, length-append (a ++ b ++ c ++ d) e, length-append (a ++ b ++ c) d, length-append (a ++ b) c, length-append a b)
+six_lists a b c d e f = grind (arith, length-append)
 
 spread : (a s q : ℕ) → a * (2 + s * (2 + q)) ≡ a * 2 + (a * s * 2 + a * (s * q))
-spread a s q =
-    let inner : a * (s * (2 + q)) ≡ a * (s * 2) + a * (s * q) = ap (λ n. a * n) (mul-add s 2 q) ∙ mul-add a (s * 2) (s * q) in
-    omega (arith, mul-add a 2 (s * (2 + q)), inner, mul_assoc a s 2)
+spread a s q = grind (arith, mul-add, mul_assoc)
 
 module _ (m : SendMapValue) where
   abbrev cells : ℕ
@@ -63,11 +60,7 @@ module _ (m : SendMapValue) where
 
   module _ (few_into : (n : ℕ) → length (links_into m n) ≤ m.nodes) where
     few_pairs : (c n s : ℕ) → length (at_most_one_of (sends_into m c n s)) ≤ m.nodes * m.nodes
-    few_pairs c n s =
-        let into : ℕ = length (sends_into m c n s) in
-        let same : into ≡ length (links_into m n) = length-map (links_into m n) _ in
-        let few : into ≤ m.nodes = omega (arith, same, few_into n) in
-        omega (arith, pairs_are_few (sends_into m c n s), mul-le into into m.nodes m.nodes few few)
+    few_pairs c n s = grind (arith, length-map, mul-le, pairs_are_few)
 
     few_once : length (arrives_once m) ≤ cells * (m.steps * (m.nodes * m.nodes))
     few_once =
@@ -77,18 +70,7 @@ module _ (m : SendMapValue) where
         omega (arith, flat_length (node_once m) (m.steps * most) (all_pairs m.chunks m.nodes) each, ap (λ n. n * (m.steps * most)) all_cells)
 
     few_sending : (pre post : PlacementValue) → length (sending m pre post) ≤ cells * (2 + m.steps * (2 + m.nodes * m.nodes)) + sends m * 3
-    few_sending pre post =
-        omega (
-          arith,
-          six_lists (at_start m pre) (keeps m) (at_end m post) (sends_arrive m) (arrives_by_sends m) (arrives_once m),
-          spread cells m.steps (m.nodes * m.nodes),
-          many_starts pre,
-          few_keeps,
-          few_ends post,
-          few_sends,
-          few_arrivals,
-          few_once,
-        )
+    few_sending pre post = grind (arith, few_arrivals, few_ends, few_keeps, few_once, few_sends, many_starts, six_lists, spread)
 
 pub few_clauses : (t : TopologyValue) (pre post : PlacementValue) (steps : ℕ)
     → length (sending (map_of t pre steps) pre post) ≤ pre.chunks * t.nodes * (2 + steps * (2 + t.nodes * t.nodes)) + sends (map_of t pre steps) * 3

@@ -1,6 +1,6 @@
 -- The first of a numbered list that passes a test.
 use Rattle.std.proofs.Common.{◌≡◌, ℕ, ◌<◌, ◌≤◌, Bool, true, false, cond, ◌||◌, eqb, List, [], ◌∷◌, length, inl, inr, refl, sym, ap, ◌∙◌, ⊎_elim, arith, filter, count_by, All, AllPairs}
-use Rattle.std.{specs.List.{list_any, enumerate_from}, proofs.lemmas.Bool.{false≢true, or_left, or_right, cases_Bool, eqb-true, eq-eqb}}
+use Rattle.std.{specs.List.{list_any, enumerate_from}, proofs.lemmas.Bool.{false≢true, cases_Bool, eqb-true, eq-eqb, Decides.nat_tests}}
 use Rattle.std.proofs.lemmas.List.{Elements.All-contains, Kept.AllPairs-filter, FromFn.{length-enumerate_from, get_or-enumerate_from}}
 use Rattle.schedule.proofs.First.{Among, any_among, Contains-from_Among}
 use Rattle.send_encoding.{specs.Leading.leads, proofs.Orders.apart_once}
@@ -16,9 +16,7 @@ module _ {X : Type 0} (p : ℕ × X → Bool) where
 
   leads_some : (zs : List (ℕ × X)) (e : ℕ) → leads p zs e ≡ true → list_any p zs ≡ true
   leads_some [] e h = h
-  leads_some (z ∷ zs) e h =
-      ⊎_elim (λ t. or_left (p z) (list_any p zs) t) (λ f. or_right (p z) (list_any p zs) (leads_some zs e (ap (λ b. cond b (eqb z.0 e) (leads p zs e)) (sym f) ∙ h)))
-      (cases_Bool (p z))
+  leads_some (z ∷ zs) e h = grind (arith, nat_tests, leads_some zs e)
 
   pub some_leads : (zs : List (ℕ × X)) → list_any p zs ≡ true → list_any (λ z. leads p zs z.0) zs ≡ true
   some_leads zs h = let it = led zs h in any_among (λ z. leads p zs z.0) it.0 zs it.1 (it.3 it.0.0 ∙ eq-eqb it.0.0 it.0.0 refl)

@@ -1,5 +1,5 @@
 -- Values in rows of one length: a cell is found by its row and its place.
-use Rattle.std.proofs.Common.{◌≡◌, ℕ, zero, suc, ◌+◌, ◌*◌, ◌<◌, List, ◌++◌, map, length, get_or, refl, ap, ◌∙◌, arith, length-append, flat_map}
+use Rattle.std.proofs.Common.{◌≡◌, ℕ, zero, suc, ◌+◌, ◌*◌, ◌<◌, List, map, length, get_or, refl, ap, ◌∙◌, arith, length-append, flat_map}
 use Rattle.std.{specs.List.range_with_len, proofs.lemmas.List.{get_or-append-add, get_or_append_left}}
 use Rattle.std.proofs.lemmas.List.FromFn.{get_or-map-range_with_len, length-map-range_with_len}
 use Rattle.send_encoding.{proofs.Everywhere.slot, specs.Assigning.cube}
@@ -10,24 +10,14 @@ rows_length g m a (suc n) h = length-append (g a) (flat_map g (range_with_len (a
 
 pub rows_at : {X : Type 0} (g : ℕ → List X) (m a n i j : ℕ) (d : X) → ((k : ℕ) → length (g k) ≡ m) → i < n → j < m → get_or (flat_map g (range_with_len a n)) (i * m + j) d ≡ get_or (g (a + i)) j d
 rows_at g m a zero i j d h low few = absurd (omega (arith, low))
-rows_at g m a (suc n) zero j d h low few =
-    let rest = flat_map g (range_with_len (a + 1) n) in
-    let place : 0 * m + j ≡ j = omega arith in
-    let here : a ≡ a + 0 = omega arith in
-    ap (λ k. get_or (g a ++ rest) k d) place ∙ get_or_append_left (g a) rest d j (omega (arith, h a, few)) ∙ ap (λ k. get_or (g k) j d) here
-rows_at g m a (suc n) (suc i) j d h low few =
-    let rest = flat_map g (range_with_len (a + 1) n) in
-    let place : suc i * m + j ≡ length (g a) + (i * m + j) = omega (arith, h a) in
-    let next : a + 1 + i ≡ a + suc i = omega arith in
-    ap (λ k. get_or (g a ++ rest) k d) place ∙ get_or-append-add (g a) rest (i * m + j) d ∙ rows_at g m (a + 1) n i j d h (omega (arith, low)) few ∙ ap (λ k. get_or (g k) j d) next
+rows_at g m a (suc n) zero j d h low few = grind (arith, get_or_append_left)
+rows_at g m a (suc n) (suc i) j d h low few = grind (arith, get_or-append-add, rows_at g m (a + 1) n i j d h)
 
 pub layer_length : {X : Type 0} (f : ℕ → ℕ → ℕ → X) (rows from places c : ℕ) → length (flat_map (λ n. map (f c n) (range_with_len from places)) (range_with_len 0 rows)) ≡ rows * places
 layer_length f rows from places c = rows_length (λ n. map (f c n) (range_with_len from places)) places 0 rows (λ n. length-map-range_with_len (f c n) from places)
 
 pub cube_length : {X : Type 0} (f : ℕ → ℕ → ℕ → X) (layers rows from places : ℕ) → length (cube f layers rows from places) ≡ layers * rows * places
-cube_length f layers rows from places =
-    let all = rows_length (λ c. flat_map (λ n. map (f c n) (range_with_len from places)) (range_with_len 0 rows)) (rows * places) 0 layers (layer_length f rows from places) in
-    omega (arith, all)
+cube_length f layers rows from places = grind (arith, layer_length, rows_length)
 
 pub cube_at : {X : Type 0} (f : ℕ → ℕ → ℕ → X) (layers rows from places c n j : ℕ) (d : X) → c < layers → n < rows → j < places → get_or (cube f layers rows from places) ((c * rows + n) * places + j) d ≡ f c n (from + j)
 cube_at f layers rows from places c n j d cl nl jl =

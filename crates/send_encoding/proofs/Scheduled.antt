@@ -1,5 +1,5 @@
 -- The tables of a schedule that solves move the chunks.
-use Rattle.std.proofs.Common.{◌≡◌, ℕ, suc, ◌+◌, ◌-◌, ◌<◌, ◌≤◌, Bool, true, false, length, get_or, eqb, ltb, refl, sym, ap, ◌∙◌, subst, ⊎_elim, arith, ◌&&◌, ◌||◌, not, count_by, All}
+use Rattle.std.proofs.Common.{◌≡◌, ℕ, ◌-◌, ◌<◌, ◌≤◌, Bool, true, false, length, get_or, eqb, ltb, refl, sym, ap, ◌∙◌, subst, ⊎_elim, arith, ◌&&◌, ◌||◌, not, count_by, All}
 use Rattle.std.specs.List.{enumerate_from, list_any}
 use Rattle.std.proofs.lemmas.Bool.{false≢true, and_parts, and_from, or_left, or_cases, not-true, not_from_false, eqb-true, eq-eqb, ltb-true}
 use Rattle.schedule.specs.{Links.{TopologyValue, is_usable, usable_links}, Placed.{PlacementValue, holds, same_pair}, Running.{after, brings}, Solving.Solves}
@@ -22,16 +22,7 @@ module _ (t : TopologyValue) (pre post : PlacementValue) (s : ScheduleValue) (st
   x = brought m pre s
 
   grew : (c n k : ℕ) → c < m.chunks → n < m.nodes → 0 < k → a c n k ≡ (a c n (k - 1) || list_any (brings (after pre s (k - 1)) k (c, n)) s.sends)
-  grew c n k cl nl some =
-      let p = k - 1 in
-      let up : k ≡ suc p = omega (arith, some) in
-      let back : p + 1 ≡ k = omega (arith, some) in
-      let before = after pre s p in
-      let cb : c < before.chunks = omega (arith, cl, chunks-after pre s p) in
-      let nb : n < before.nodes = omega (arith, nl, nodes, nodes-after pre s p) in
-      ap (λ v. holds (after pre s v) (c, n)) up
-      ∙ holds-placed before.chunks before.nodes (λ pair. holds before pair || list_any (brings before (p + 1) pair) s.sends) (c, n) cb nb
-      ∙ ap (λ v. holds before (c, n) || list_any (brings before v (c, n)) s.sends) back
+  grew c n k cl nl some = grind (arith, chunks-after, holds-placed, nodes-after)
 
   into : (n : ℕ) → All (λ z. IsLinkOf m z × (eqb z.1.1 n ≡ true)) (links_into m n)
   into n = kept (λ z. eqb z.1.1 n) (IsLinkOf m) (enumerate_from 0 m.links) (numbered_are m links)

@@ -1,7 +1,7 @@
 -- Where the clauses of arrivals and sends hold, the tables of an assignment move the chunks.
 use Rattle.std.proofs.Common.{◌≡◌, ℕ, ◌+◌, ◌-◌, ◌<◌, ◌≤◌, Bool, true, false, List, [], ◌∷◌, ◌++◌, map, get_or, refl, sym, ap, ◌∙◌, subst, ⊎_elim, arith, if◌then◌else◌, flat_map, filter, All}
 use Rattle.std.specs.List.{enumerate_from}
-use Rattle.std.{specs.List.{list_any, list_all, range_with_len}, proofs.lemmas.Bool.{false≢true, and_parts, or_cases, not-true, not_from_true}}
+use Rattle.std.{specs.List.{list_any, list_all, range_with_len}, proofs.lemmas.Bool.{false≢true, and_parts, or_cases, not-true, Decides.nat_tests}}
 use Rattle.std.proofs.lemmas.List.{Elements.{All-nil, All-cons, All-contains}, Folds.{list_all-append, list_all-map}, Sums.AllPass-from_list_all}
 use Rattle.std.proofs.lemmas.List.FromFn.{length-range_with_len, get_or-range_with_len}
 use Rattle.schedule.{specs.{Placed.{all_pairs, PlacementValue, holds, same_pair}, Sends.IsStep}, proofs.{Placing.{pair_is, among_all}, First.Contains-from_Among}}
@@ -34,9 +34,7 @@ module _ (values : List Bool) where
   said_one l h = ⊎_elim (λ t. t) (λ f. absurd (false≢true f)) (or_cases (is_true values l) false h)
 
   pub said_if : (l k : LitValue) → clause_holds values (negation l ∷ k ∷ []) ≡ true → is_true values l ≡ true → is_true values k ≡ true
-  said_if l k h t =
-      ⊎_elim (λ n. absurd (false≢true (sym (negation_is values l ∙ not_from_true (is_true values l) t) ∙ n))) (λ r. said_one k r)
-      (or_cases (is_true values (negation l)) (clause_holds values (k ∷ [])) h)
+  said_if l k h t = grind (arith, nat_tests, negation_is, said_one)
 
   pub said_not : (l : LitValue) → is_true values (negation l) ≡ true → is_true values l ≡ false
   said_not l h = not-true (is_true values l) (sym (negation_is values l) ∙ h)
@@ -55,13 +53,7 @@ module _ (m : SendMapValue) (pre post : PlacementValue) (values : List Bool) (al
   split xs ys h = and_parts (all_hold values xs) (all_hold values ys) (sym (list_all-append (clause_holds values) xs ys) ∙ h)
 
   parts : Holds (at_start m pre) × Holds (keeps m) × Holds (at_end m post) × Holds (sends_arrive m) × Holds (arrives_by_sends m) × Holds (arrives_once m)
-  parts =
-      let p5 = split (at_start m pre ++ keeps m ++ at_end m post ++ sends_arrive m ++ arrives_by_sends m) (arrives_once m) all in
-      let p4 = split (at_start m pre ++ keeps m ++ at_end m post ++ sends_arrive m) (arrives_by_sends m) p5.0 in
-      let p3 = split (at_start m pre ++ keeps m ++ at_end m post) (sends_arrive m) p4.0 in
-      let p2 = split (at_start m pre ++ keeps m) (at_end m post) p3.0 in
-      let p1 = split (at_start m pre) (keeps m) p2.0 in
-      (p1.0, p1.1, p2.1, p3.1, p4.1, p5.1)
+  parts = grind (arith, split)
 
   at_pair : (P : ℕ × ℕ → Type 0) → All P (all_pairs m.chunks m.nodes) → (c n : ℕ) → c < m.chunks → n < m.nodes → P (c, n)
   at_pair P ps c n cl nl =
@@ -82,15 +74,7 @@ module _ (m : SendMapValue) (pre post : PlacementValue) (values : List Bool) (al
       (flat_passes (clause_holds values) (λ c. flat_map (λ z. flat_map (send_over m c z) (steps_of m)) (enumerate_from 0 m.links)) (range_with_len 0 m.chunks) parts.3) (omega arith) (omega (arith, cl)))) z at)) k step
 
   three : (c k : ℕ) (z : ℕ × (ℕ × ℕ)) → Holds (send_over m c z k) → x c z.0 k ≡ true → (a c z.1.0 (k - 1) ≡ true) × (a c z.1.1 (k - 1) ≡ false) × (a c z.1.1 k ≡ true)
-  three c k (e, link) h t =
-      let no = negation (sent m c e k) in
-      let p = and_parts (clause_holds values (no ∷ arrival m c link.0 (k - 1) ∷ [])) (all_hold values ((no ∷ negation (arrival m c link.1 (k - 1)) ∷ []) ∷ (no ∷ arrival m c link.1 k ∷ []) ∷ [])) h in
-      let q = and_parts (clause_holds values (no ∷ negation (arrival m c link.1 (k - 1)) ∷ [])) (all_hold values ((no ∷ arrival m c link.1 k ∷ []) ∷ [])) p.1 in
-      let r = and_parts (clause_holds values (no ∷ arrival m c link.1 k ∷ [])) true q.1 in (
-        said_if values (sent m c e k) (arrival m c link.0 (k - 1)) p.0 t,
-        said_not values (arrival m c link.1 (k - 1)) (said_if values (sent m c e k) (negation (arrival m c link.1 (k - 1))) q.0 t),
-        said_if values (sent m c e k) (arrival m c link.1 k) r.0 t,
-      )
+  three c k (e, link) h t = grind (arith, nat_tests, said_if, said_not)
 
   pub sending_says : Moves m pre post a x
   sending_says = record {

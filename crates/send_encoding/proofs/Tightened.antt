@@ -2,7 +2,7 @@
 use Rattle.std.proofs.Common.{◌≡◌, ℕ, zero, suc, ◌+◌, ◌-◌, ◌<◌, ◌≤◌, Bool, true, false, cond, List, [], ◌∷◌, length, get_or, eqb, sym, ap, ◌∙◌, subst, ⊎_elim, arith, count_by, All, AllPairs}
 use Rattle.std.specs.List.{enumerate_from}
 use Rattle.std.proofs.lemmas.List.{Elements.All-filter, Folds.list_any_at, Sums.{sum_by-cons, get_or-le-sum_by}}
-use Rattle.std.proofs.lemmas.Bool.{false≢true, false_from_ne_true, cases_lt, eq-eqb}
+use Rattle.std.proofs.lemmas.Bool.{false≢true, false_from_ne_true, cases_lt, eq-eqb, Decides.nat_tests}
 use Rattle.schedule.specs.{declared.hop.Hop.Hop, Placed.{PlacementValue, IsPlacement, holds, same_pair, all_pairs}, Sends.{ScheduleValue, IsStep, hop_before}}
 use Rattle.schedule.specs.{Running.after, Solving.Tight}
 use Rattle.schedule.proofs.{Placing.{IsBelow, pair_is, pair_itself, all_below}, Steps.steps_ordered, First.{Among, Contains-from_Among, among_kept}}
@@ -10,10 +10,7 @@ use Rattle.send_encoding.specs.{Variables.{SendMapValue, links_into}, Moving.{Is
 use Rattle.send_encoding.proofs.{Everywhere.by_recursion, Clauses.link_listed, Running.run_is, Ascending.never_twice}
 
 some_counted : {X : Type 0} (p : X → Bool) (x : X) (xs : List X) → Among x xs → p x ≡ true → 1 ≤ count_by p xs
-some_counted p x xs among t =
-    let at = Contains-from_Among x xs among in
-    let one : ◌≡◌ {A = ℕ} (cond (p (get_or xs at.0 x)) 1 0) 1 = ap (λ v. cond (p v) 1 0) at.2 ∙ ap (λ b. cond b 1 0) t in
-    omega (arith, one, get_or-le-sum_by (λ v. cond (p v) 1 0) xs at.0 x at.1)
+some_counted p x xs among t = grind (arith, nat_tests, Contains-from_Among, get_or-le-sum_by)
 
 -- where a test counts at most one, two that pass are one
 same_of_one : {X : Type 0} (p : X → Bool) (y z : X) (xs : List X) → count_by p xs ≤ 1 → Among y xs → Among z xs → p y ≡ true → p z ≡ true → y ≡ z
@@ -47,18 +44,10 @@ module _ (m : SendMapValue) (pre post : PlacementValue) (a x : ℕ → ℕ → �
       ∙ ap (λ n. a h.chunk n (h.step - 1)) (sym from) ∙ moves.sender h.chunk h.step it.link it.chunk it.is_link it.step it.sent
 
   lacked : (i : ℕ) (d : Hop) → i < length s.sends → a (get_or s.sends i d).chunk (get_or s.sends i d).to ((get_or s.sends i d).step - 1) ≡ false
-  lacked i d low =
-      let h = get_or s.sends i d in
-      let it = tells.told i d low in
-      let to : it.link.1.1 ≡ h.to = ap (λ l. l.1) it.ends in
-      ap (λ n. a h.chunk n (h.step - 1)) (sym to) ∙ moves.receiver h.chunk h.step it.link it.chunk it.is_link it.step it.sent
+  lacked i d low = grind (arith, nat_tests)
 
   brought_it : (i : ℕ) (d : Hop) → i < length s.sends → a (get_or s.sends i d).chunk (get_or s.sends i d).to (get_or s.sends i d).step ≡ true
-  brought_it i d low =
-      let h = get_or s.sends i d in
-      let it = tells.told i d low in
-      let to : it.link.1.1 ≡ h.to = ap (λ l. l.1) it.ends in
-      ap (λ n. a h.chunk n h.step) (sym to) ∙ moves.brings h.chunk h.step it.link it.chunk it.is_link it.step it.sent
+  brought_it i d low = grind (arith, nat_tests)
 
   to_below : (i : ℕ) (d : Hop) → i < length s.sends → (get_or s.sends i d).to < m.nodes
   to_below i d low = let it = tells.told i d low in omega (arith, ap (λ l. l.1) it.ends, it.is_link.to)

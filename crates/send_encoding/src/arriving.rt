@@ -160,7 +160,7 @@ fn chunk_arrives(
 }
 
 /// The clauses of every arrival.
-#[tactic(auto, using(cnf_formula::proofs::Growing::grows_more))]
+#[tactic(auto, using(cnf_formula::proofs::Growing::grows_more, crate::proofs::Picking::pairs_of_loops))]
 pub(crate) fn arrives_by_sends(
     alloc: Global,
     formula: &mut Formula,

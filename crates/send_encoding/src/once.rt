@@ -14,6 +14,7 @@ use cnf_formula::{Formula, Lit};
 use std::alloc::Global;
 
 /// A node is sent a chunk at a step at most once. What `into` held is left out.
+#[tactic(auto, using(crate::proofs::Within::into_within))]
 fn once_at(
     into: &mut Vec<Lit>,
     formula: &mut Formula,
@@ -71,7 +72,7 @@ fn chunk_once(
 }
 
 /// A node is sent a chunk at most once in a step.
-#[tactic(auto, using(cnf_formula::proofs::Growing::grows_more))]
+#[tactic(auto, using(cnf_formula::proofs::Growing::grows_more, crate::proofs::Picking::pairs_of_loops))]
 pub(crate) fn arrives_once(
     alloc: Global,
     formula: &mut Formula,

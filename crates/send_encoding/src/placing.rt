@@ -115,7 +115,7 @@ fn chunk_keeps(formula: &mut Formula, map: &SendMap, chunk: u16) -> Result<(), O
 }
 
 /// What a node has it keeps.
-#[tactic(auto, using(cnf_formula::proofs::Growing::grows_more))]
+#[tactic(auto, using(cnf_formula::proofs::Growing::grows_more, crate::proofs::Picking::pairs_of_loops))]
 pub(crate) fn keeps(formula: &mut Formula, map: &SendMap) -> Result<(), OutOfMemory>
     requires vars { arrivals map.now + sends map.now ≤ formula.old.vars }
     ensures { OnOk result (formula.new ≡ with_clauses formula.old (keeps map.now)) }
@@ -167,7 +167,7 @@ fn chunk_ends(
 }
 
 /// At the end the nodes have what they have after.
-#[tactic(auto, using(cnf_formula::proofs::Growing::grows_more))]
+#[tactic(auto, using(cnf_formula::proofs::Growing::grows_more, crate::proofs::Picking::pairs_of_loops, crate::proofs::Picking::picked_flat))]
 pub(crate) fn at_end(
     formula: &mut Formula,
     map: &SendMap,

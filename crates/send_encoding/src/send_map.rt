@@ -30,6 +30,7 @@ impl Model for SendMap {
 
 impl SendMap {
     /// What stands for the arrivals and sends of so many chunks and steps.
+    #[tactic(auto, using(crate::proofs::Mapped::links_make_map))]
     pub(crate) fn of(topology: &Topology, chunks: u16, steps: u8) -> Result<SendMap, OutOfMemory>
         requires few { arrivals (record { chunks = chunks; nodes = topology.now.nodes; links = usable_links topology.now; steps = steps }) + sends (record { chunks = chunks; nodes = topology.now.nodes; links = usable_links topology.now; steps = steps }) < 2097152 }
         ensures { IfOk result (λ m. m ≡ record { chunks = chunks; nodes = topology.now.nodes; links = usable_links topology.now; steps = steps }) }
@@ -54,6 +55,7 @@ impl SendMap {
     }
 
     /// The node has the chunk after the step; step 0 is the start.
+    #[tactic(auto, using(crate::proofs::Within::arrival_within))]
     pub fn arrival(&self, chunk: u16, node: u8, step: u8) -> Lit
         requires chunk { chunk < self.now.chunks }
         requires node { node < self.now.nodes }
@@ -67,6 +69,7 @@ impl SendMap {
     }
 
     /// The chunk is sent over the link of this number at the step.
+    #[tactic(auto, using(crate::proofs::Within::sent_within))]
     pub fn sent_over(&self, chunk: u16, number: usize, step: u8) -> Lit
         requires chunk { chunk < self.now.chunks }
         requires number { number < length self.now.links }
@@ -83,6 +86,7 @@ impl SendMap {
     }
 
     /// The chunk is sent over the link at the step; `None` exactly where the link is not usable.
+    #[tactic(auto, using(crate::proofs::Everywhere::place_below, crate::proofs::Everywhere::below_listed))]
     pub fn sent(&self, chunk: u16, link: (u8, u8), step: u8) -> Option<Lit>
         requires chunk { chunk < self.now.chunks }
         requires step { IsStep self.now.steps step }

@@ -26,6 +26,7 @@ pub fn add_variables(formula: &mut Formula, many: u32)
 }
 
 /// The clauses of arrivals and sends.
+#[tactic(auto, using(crate::proofs::Picking::with_both))]
 fn add_clauses(
     alloc: Global,
     formula: &mut Formula,

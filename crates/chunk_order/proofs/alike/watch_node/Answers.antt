@@ -1,6 +1,6 @@
 use Rattle.std.proofs.{Common.{ℕ, arith, sym, not}, lemmas.Bool.{and_from, not_from_false}}
 use Rattle.schedule.specs.Placed.{lacks, holds}
-use Rattle.chunk_order.proofs.Looking.{find_first, find_none}
+use Rattle.chunk_order.proofs.Looking.{find_first}
 use Rattle.chunk_order.proofs.alike.watch_node.Goals as goal
 
 pub returns-then-not-holds-clause-node : goal.returns-then-not-holds-clause-node
@@ -9,8 +9,3 @@ returns-then-not-holds-clause-node c =
     let pair : ℕ × ℕ = (c.args.chunk, c.loop-node.node) in
     sym (find_first (λ node. lacks i.post i.pre (c.args.chunk, node)) 0 i.post.nodes c.loop-node.node (omega arith) (omega (arith, c.loop-node-test.true, c.nodes-node-end.ensures.nodes)) (λ j low high. c.loop-node.invariant j high)
     (and_from (holds i.post pair) (not (holds i.pre pair)) (sym c.if-holds.ensures.held) (not_from_false (holds i.pre pair) (sym c.if-not-holds.ensures.held))))
-
-pub returns-clause-node : goal.returns-clause-node
-returns-clause-node c =
-    let i = c.args.instance.now in
-    sym (find_none (λ node. lacks i.post i.pre (c.args.chunk, node)) 0 i.post.nodes (λ j low high. c.loop-node.invariant j (omega (arith, high, c.loop-node-test.false, c.nodes-node-end.ensures.nodes))))

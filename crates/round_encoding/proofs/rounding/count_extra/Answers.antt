@@ -1,6 +1,6 @@
-use Rattle.std.proofs.{Common.{◌≡◌, ℕ, ◌+◌, ◌*◌, ◌<◌, length, arith, sym, ap, ◌∙◌, subst}, lemmas.Result.on_ok_weaker}
+use Rattle.std.proofs.{Common.{◌≡◌, ◌<◌, length, arith, sym, ap, ◌∙◌, subst}, lemmas.Result.on_ok_weaker}
 use Rattle.cnf_formula.specs.Formulas.{FormulaValue, IsClause}
-use Rattle.round_encoding.{specs.{Frames.Frame, Rounding.count_of_rounds}, proofs.Rounded.{extra_length, extra_some, extra_inputs_about, rounds_grow}}
+use Rattle.round_encoding.{specs.{Frames.Frame, Rounding.count_of_rounds}, proofs.Rounded.{same_space, extra_some, extra_inputs_about, rounds_grow}}
 use Rattle.round_encoding.proofs.rounding.count_extra.Goals as goal
 
 pub count_up_to-requires-clause-some : goal.count_up_to-requires-clause-some
@@ -19,9 +19,7 @@ pub count_up_to-requires-clause-few : goal.count_up_to-requires-clause-few
 count_up_to-requires-clause-few c =
     let f : Frame = record { map = c.args.variables.now; extra = c.args.extra } in
     let is : c.deref.result.now ≡ (count_of_rounds f).inputs = c.deref.ensures.value ∙ c.in_ok-inputs.ensures in
-    let room : ℕ → ℕ → ℕ = λ n b. c.args.formula.now.vars + n * (b + 1) in
-    let bound : c.from.result ≡ c.args.extra = cc in
-    subst (λ n. n < 2147483648) (sym (ap (λ n. room n c.from.result) (ap length is ∙ extra_length f) ∙ ap (room (c.args.variables.now.steps * c.args.extra)) bound)) c.requires.small
+    omega (arith, same_space f c.args.formula.now.vars c.from.result c.deref.result.now is (cc), c.requires.small)
 
 pub returns-clause-formula : goal.returns-clause-formula
 returns-clause-formula c =
@@ -34,7 +32,5 @@ pub returns-clause-few : goal.returns-clause-few
 returns-clause-few c =
     let f : Frame = record { map = c.args.variables.now; extra = c.args.extra } in
     let is : c.deref.result.now ≡ (count_of_rounds f).inputs = c.deref.ensures.value ∙ c.in_ok-inputs.ensures in
-    let room : ℕ → ℕ → ℕ = λ n b. c.args.formula.now.vars + n * (b + 1) in
-    let bound : c.from.result ≡ c.args.extra = cc in
-    let same : room (length c.deref.result.now) c.from.result ≡ room (c.args.variables.now.steps * c.args.extra) c.args.extra = ap (λ n. room n c.from.result) (ap length is ∙ extra_length f) ∙ ap (room (c.args.variables.now.steps * c.args.extra)) bound in
+    let same = same_space f c.args.formula.now.vars c.from.result c.deref.result.now is (cc) in
     on_ok_weaker c.push_limit.result (λ e. omega (arith, ap (λ (f : FormulaValue). f.vars) e, c.in_ok-outputs.ensures.few, same)) c.push_limit.ensures
