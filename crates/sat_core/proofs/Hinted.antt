@@ -1,6 +1,6 @@
 -- The reasons of the resolved steps in the order of the trail, and then the falsified clause, are a conflict for what remains.
-use Rattle.std.proofs.Common.{◌≡◌, ℕ, ◌+◌, ◌<◌, ◌≤◌, Bool, true, false, List, [], ◌∷◌, ◌++◌, length, get_or, take, refl, sym, ap, ◌∙◌, subst, inl, inr, ⊎_elim, arith, All, Contains, Some, map, filter, pos}
-use Rattle.std.proofs.lemmas.{Bool.{false≢true, cases_Bool}, List.{append_assoc, take_at, length-append, length-map, length_push, get_or-append-add}}
+use Rattle.std.proofs.Common.{◌≡◌, ℕ, ◌+◌, ◌<◌, ◌≤◌, Bool, true, false, List, [], ◌∷◌, ◌++◌, length, get_or, take, refl, sym, ap, ◌∙◌, subst, inl, inr, ⊎_elim, arith, All, Contains, Some, map, filter, pos, ◌⊎◌}
+use Rattle.std.proofs.lemmas.{Bool.{false≢true, cases_Bool}, List.{append-nil, append_assoc, take_at, length-append, length-map, length_push, get_or-append-add}}
 use Rattle.std.proofs.lemmas.List.Elements.{Contains-push_cases, Contains-append_right, All-nil, All-cons}
 use Rattle.list_laws.proofs.{Each.all_contained, Members.{Contains-cons, Contains-map}, Tests.few_kept}
 use Rattle.cnf_formula.specs.Literals.{LitValue, negation}
@@ -46,11 +46,7 @@ pub conflicts_from : (held : List Entry) (names : List ℕ) (clauses : List (Lis
     → (rest before : List StepValue) (falses : List LitValue) → steps ≡ before ++ rest → ((o : LitValue) → IsOut resolved before clause o → Contains falses o) → ((o : LitValue) → Contains falses o → IsFalse (lits_of steps) o)
     → Conflicts held falses (numbers_to names resolved rest conflict)
 conflicts_from held names clauses steps resolved conflict clause a con an [] before falses e out fal =
-    last_falsifies held names clauses falses conflict a an.within (λ o c. out o (subst (λ xs. IsOut resolved xs clause o) (e ∙ nil before) (an.last o c)))
-  where
-    nil : (xs : List StepValue) → xs ++ [] ≡ xs
-    nil [] = refl
-    nil (x ∷ xs) = ap (λ ys. x ∷ ys) (nil xs)
+    last_falsifies held names clauses falses conflict a an.within (λ o c. out o (subst (λ xs. IsOut resolved xs clause o) (e ∙ append-nil before) (an.last o c)))
 conflicts_from held names clauses steps resolved conflict clause a con an (s ∷ rest) before falses e out fal =
     ⊎_elim
     (λ b.
@@ -64,27 +60,22 @@ conflicts_from held names clauses steps resolved conflict clause a con an (s ∷
     rw b (hint_then held falses (name_of names s.reason) s.lit (numbers_of names resolved rest) (get_or names (conflict + 1) 0)
     (reason_takes held names clauses falses resolved clause before s a r out (λ c. con s.lit stands (fal s.lit c)))
     (conflicts_from held names clauses steps resolved conflict clause a con an rest (before ++ s ∷ []) (negation s.lit ∷ falses) seam
-    (λ o u. more o u)
+    (λ o u. ⊎_elim (λ h. Contains-cons (negation s.lit) falses o (out o h)) (λ e. subst (λ x. Contains (negation s.lit ∷ falses) x) e.1 (here (negation s.lit) falses)) (out_of o u))
     (λ o c. ⊎_elim (λ i. subst (λ x. Contains (lits_of steps) x) (sym (negated_twice s.lit) ∙ ap negation i) stands) (λ d. fal o d) (cons_cases (negation s.lit) falses o c)))))
-    (λ b. rw b (conflicts_from held names clauses steps resolved conflict clause a con an rest (before ++ s ∷ []) falses seam (λ o u. same b o u) fal))
+    (λ b. rw b (conflicts_from held names clauses steps resolved conflict clause a con an rest (before ++ s ∷ []) falses seam (λ o u. ⊎_elim (λ h. out o h) (λ e. absurd (false≢true (sym b ∙ e.0))) (out_of o u)) fal))
     (cases_Bool (resolved s))
   where
     seam : steps ≡ before ++ s ∷ [] ++ rest
     seam = e ∙ sym (append_assoc before (s ∷ []) rest)
 
-    more : (o : LitValue) → IsOut resolved (before ++ s ∷ []) clause o → Contains (negation s.lit ∷ falses) o
-    more o u = ⊎_elim
-        (λ c. Contains-cons (negation s.lit) falses o (out o (inl c)))
+    -- one step more lets out what was out before, and the negation of its literal if it is resolved
+    out_of : (o : LitValue) → IsOut resolved (before ++ s ∷ []) clause o → IsOut resolved before clause o ⊎ ((resolved s ≡ true) × (negation s.lit ≡ o))
+    out_of o u = ⊎_elim
+        (λ c. inl (inl c))
         (λ q. ⊎_elim
-        (λ c. Contains-cons (negation s.lit) falses o (out o (inr (q.0, c, q.2, q.3))))
-        (λ i. subst (λ x. Contains (negation s.lit ∷ falses) x) (ap (λ x. negation x.lit) i ∙ ap negation q.3 ∙ negated_twice o) (here (negation s.lit) falses))
+        (λ c. inl (inr (q.0, c, q.2, q.3)))
+        (λ i. inr (ap resolved i ∙ q.2, ap (λ x. negation x.lit) i ∙ ap negation q.3 ∙ negated_twice o))
         (Contains-push_cases before s q.0 q.1))
-        u
-
-    same : resolved s ≡ false → (o : LitValue) → IsOut resolved (before ++ s ∷ []) clause o → Contains falses o
-    same b o u = ⊎_elim
-        (λ c. out o (inl c))
-        (λ q. ⊎_elim (λ c. out o (inr (q.0, c, q.2, q.3))) (λ i. absurd (false≢true (sym b ∙ ap resolved i ∙ q.2))) (Contains-push_cases before s q.0 q.1))
         u
 
 -- an analysis has its hints

@@ -4,7 +4,7 @@ use Rattle.std.proofs.lemmas.{Bool.cases_lt, List.{get_or-take, get_or_push, len
 use Rattle.std.proofs.lemmas.List.{Elements.{Contains-append_left, Contains-push, Contains-push_cases, Contains-get_or, All-contains}, Sums.sum_by-take-le}
 use Rattle.list_laws.proofs.Each.{all_contained}
 use Rattle.cnf_formula.specs.{Literals.{LitValue, negation}, Formulas.IsAbout, Lines.ProofLineValue}
-use Rattle.trail_core.specs.{Assigned.{IsFalse, IsOpen, AreLimits, level_at}, Trails.{StepValue, TrailValue, lits_of}, Search.IsUnit, Formed.IsTrail}
+use Rattle.trail_core.specs.{Assigned.{IsFalse, IsOpen, AreLimits, level_at}, Trails.{StepValue, TrailValue}, Search.IsUnit, Formed.IsTrail}
 use Rattle.trail_core.specs.{Meaning.{CoreValue, trues}, Kept.{IsDue, CanAdd, CanAddTo}}
 use Rattle.trail_core.proofs.{Trails.{all_counted, level_at_cut}, Keeping.{lits_length, nil_limits, in_front}}
 use Rattle.sat_core.specs.inner.Jumping.{gone_back, IsBacked, HasLevel, AreUpTo, front_of}
@@ -17,11 +17,8 @@ due_by t clause can a = ⊎_elim
     (λ z. inl (ap (λ ls. level_at ls (length t.steps)) (nil_limits t.limits z)))
     (λ q.
     let all : level_at t.limits (length t.steps) ≡ length t.limits = all_counted t.limits (length t.steps) (λ i w. let b = a.below i w in omega (arith, b)) in
-    inr (q.1, q.4.place, q.3, q.4.within, default t.steps q.4.place q.1 q.4.within q.4.here, q.4.level ∙ sym all))
+    inr (q.1, q.4.place, q.3, q.4.within, q.4.here, q.4.level ∙ sym all))
     can
-  where
-    default : (steps : List StepValue) (p : ℕ) (o : LitValue) → p < length steps → get_or (lits_of steps) p o ≡ negation o → get_or (lits_of steps) p o ≡ negation o
-    default steps p o w e = e
 
 -- the trail below a level
 abbrev pub below : ℕ → List StepValue → List ℕ → ℕ → TrailValue

@@ -5,26 +5,22 @@ use Rattle.cnf_formula.specs.{Formulas.{FormulaValue, IsClause}, Literals.LitVal
 use Rattle.proof_rules.specs.{declared.verdict.LineVerdict.TheVariants.Accepted, Held.CheckerValue, Judging.verdict_of, Refuting.{is_fresh, Refutes}}
 use Rattle.ledger_rules.specs.Logs.{checker_of}
 use Rattle.trail_core.specs.Meaning.{CoreValue, trues, IsClosed}
-use Rattle.conflict_analysis.specs.{Conflicts.IsConflict, Learned.IsLearned, Learning.hints_to, Met.IsRested}
+use Rattle.conflict_analysis.specs.{Conflicts.IsConflict, Learned.IsLearned, Met.IsRested}
 use Rattle.sat_core.specs.{inner.{Holding.{Agree, IsNext}, Turning.IsTurn, Jumping.IsBacked, Guided.IsGuided}, declared.guide.Guide.Guide}
 use Rattle.sat_core.specs.Ready.{AreWritten, IsReady, IsOver}
-use Rattle.sat_core.proofs.{AtConflict.{analysis_accepted, no_line_closes}, Hinted.few_named, Fresh.unit_is_fresh}
+use Rattle.sat_core.proofs.{AtConflict.{line_accepted, line_short, no_line_closes}, Fresh.unit_is_fresh}
 use Rattle.sat_core.proofs.Readiness.{IsGrown, next_number, written_more, ready_more, refuted_by, listed_more}
 use Rattle.sat_core.proofs.Jumping.{pointed_unit, learned_backed, backed_within, backed_differ}
-use Rattle.sleeping_clauses.specs.{Naming.{name, IsNamed, IsListed}, Sleeping.{SleepersValue, IsAsleep, HasNone, AreFew}, declared.awake.Awake.Awake}
+use Rattle.sleeping_clauses.specs.{Naming.{IsNamed, IsListed}, Sleeping.{SleepersValue, IsAsleep, HasNone, AreFew}, declared.awake.Awake.Awake}
 
 -- what is learned is accepted, short, and fresh above level 0
 pub learned_accepted : (c : CheckerValue) (core : CoreValue) (names : List ℕ) (held : ℕ) (s : SleepersValue) (conflict : ℕ) (learned line : ProofLineValue) → Agree c core names s → IsConflict core conflict → IsLearned core conflict learned → IsNamed names held learned line → IsNext c line.id → verdict_of c line ≡ Accepted true
-learned_accepted c core names held s conflict learned line a k l d n =
-    let hints : line.hints ≡ map (name names) (hints_to l.resolved core.trail conflict) = d.hints ∙ ap (map (name names)) l.hints in
-    ap (λ hs. verdict_of c (record { id = line.id; lits = line.lits; hints = hs })) hints
-    ∙ ap (λ ls. verdict_of c (record { id = line.id; lits = ls; hints = map (name names) (hints_to l.resolved core.trail conflict) })) d.lits
-    ∙ analysis_accepted c core names s l.resolved conflict learned.lits line.id a k.formed l.analysis l.once n
+learned_accepted c core names held s conflict learned line a k l d n = line_accepted c core names held s l.resolved conflict learned line a k.formed l.analysis l.once l.hints d n
 
 pub learned_short : (core : CoreValue) (names : List ℕ) (held conflict : ℕ) (learned line : ProofLineValue) → IsConflict core conflict → IsLearned core conflict learned → IsNamed names held learned line → length line.hints ≤ core.vars + 1
 learned_short core names held conflict learned line k l d =
-    let few = few_named names l.resolved core.trail conflict in
-    omega (arith, few, ap length (d.hints ∙ ap (map (name names)) l.hints), k.formed.few)
+    let short = line_short core names held l.resolved conflict learned line l.hints d in
+    omega (arith, short, k.formed.few)
 
 pub learned_fresh : (c : CheckerValue) (core : CoreValue) (names : List ℕ) (s : SleepersValue) (conflict : ℕ) (learned : ProofLineValue) → Agree c core names s → HasNone s learned.lits → IsConflict core conflict → 0 < length core.limits → IsLearned core conflict learned → is_fresh c learned.lits ≡ true
 learned_fresh c core names s conflict learned a none k above l =

@@ -28,8 +28,8 @@ returns-in_err-at_conflict-in-Conflict g c =
     record {
       written = written_then (g.met.L.Ledger.moves_trans _ _ _ _ _ _) i.written turn.written;
       vars = turn.vars ∙ c.advance.ensures.vars ∙ i.vars;
-      ended = IfOk-from_err c.from_residual.result _ c.from_residual.ensures.0;
-      cause = after i.faults (handed_on c.from_residual.result c.in_err-at_conflict-in-Conflict.was c.from_residual.ensures.1 turn.cause);
+      ended = IfOk-from_err _ _ c.from_residual.ensures.0;
+      cause = after i.faults (handed_on _ c.in_err-at_conflict-in-Conflict.was c.from_residual.ensures.1 turn.cause);
     }
 
 pub loop-conflict-preserved-in-Goes : goal.loop-conflict-preserved-in-Goes
