@@ -1,5 +1,5 @@
 -- What is learned at a conflict is accepted; and above level 0 no line without a literal is.
-use Rattle.std.proofs.Common.{◌≡◌, ℕ, ◌+◌, ◌<◌, ◌≤◌, Bool, true, List, [], ◌∷◌, length, get_or, take, sym, ap, ◌∙◌, subst, arith, AllPairs, map}
+use Rattle.std.proofs.Common.{◌≡◌, ℕ, ◌+◌, ◌<◌, ◌≤◌, Bool, true, List, [], ◌∷◌, length, get_or, take, sym, ap, ◌∙◌, subst, arith, AllPairs, map, filter}
 use Rattle.std.proofs.lemmas.List.Elements.{All-contains}
 use Rattle.list_laws.proofs.Each.{all_contained}
 use Rattle.cnf_formula.specs.{Literals.{LitValue, negation}, Lines.ProofLineValue, Formulas.IsAbout}
@@ -22,8 +22,8 @@ analysis_accepted c core names s resolved conflict clause id a t an once n =
         in_range = all_contained (IsAbout c.formula.vars) clause (λ o h. let i = All-contains (IsAbout core.vars) (lits_of core.trail) (negation o) t.within (an.falses o h) in record { some = i.some; within = omega (arith, i.within, a.vars) });
         once = once;
       };
-      no_groups = no_groups names resolved core.trail conflict 0;
-      conflict = subst (Conflicts c.held clause) (sym (leading_numbers names resolved core.trail conflict)) (hints_conflict c.held names core.clauses core.trail resolved conflict clause a.held.named (consistent_by (lits_of core.trail) t.apart) an);
+      no_groups = no_groups names (filter resolved core.trail) conflict 0;
+      conflict = subst (Conflicts c.held clause) (sym (leading_numbers names (filter resolved core.trail) conflict)) (hints_conflict c.held names core.clauses core.trail resolved conflict clause a.held.named (consistent_by (lits_of core.trail) t.apart) an);
     })
 
 -- so a line is accepted that has what remains and its hints, by the ledger's numbers

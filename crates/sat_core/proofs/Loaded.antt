@@ -59,16 +59,12 @@ keeping_new passed kept marks mark l k w new lit = record {
   lits = All-push IsLit kept l k.lits lit;
 }
 
-pub keeping_same : (lits kept : List LitValue) (marks : List ℕ) (mark : ℕ) → IsKeeping lits kept marks mark → IsSame lits kept
-keeping_same lits kept marks mark k = record { into = k.into; from = k.from }
-
 -- ---- its literals are about the variables of the core
 
-own_about : (vars : ℕ) (l : LitValue) → IsAbout vars l → IsLit l → IsAbout (own_of vars) l
-own_about vars l a i = record { some = a.some; within = omega (arith, a.within, i.small) }
-
 pub about_own : (vars own : ℕ) (clause : List LitValue) → own ≡ own_of vars → IsClause vars clause → (l : LitValue) → IsLit l → Contains clause l → IsAbout own l
-about_own vars own clause e a l i c = subst (λ n. IsAbout n l) (sym e) (own_about vars l (All-contains (IsAbout vars) clause l a c) i)
+about_own vars own clause e a l i c =
+    let about = All-contains (IsAbout vars) clause l a c in
+    record { some = about.some; within = omega (arith, e, about.within, i.small) }
 
 pub kept_about : (own : ℕ) (clause kept : List LitValue) → ((l : LitValue) → IsLit l → Contains clause l → IsAbout own l) → IsSame clause kept → All IsLit kept → IsClause own kept
 kept_about own clause kept a s i = all_contained (IsAbout own) kept (λ l c. a l (All-contains IsLit kept l i c) (s.from l c))
@@ -91,9 +87,6 @@ codes_within own clauses k clause n a w e len l i c =
     omega (arith, code_within own l (All-contains (IsAbout own) (get_or clauses k []) l (a k [] w) (subst (λ xs. Contains xs l) e c)), len)
 
 -- ---- the clauses, each literal of them once
-
-pub same_itself : (clause : List LitValue) → IsSame clause clause
-same_itself clause = record { into = λ l c. c; from = λ l c. c }
 
 pub loaded_more : (clauses : List (List LitValue)) (k : ℕ) (loaded loaded' : List (List LitValue)) (kept : List LitValue) → IsLoaded (take k clauses) loaded → k < length clauses → IsSame (get_or clauses k []) kept → loaded' ≡ loaded ++ kept ∷ [] → IsLoaded (take (k + 1) clauses) loaded'
 loaded_more clauses k loaded loaded' kept l w s e =

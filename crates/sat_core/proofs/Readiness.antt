@@ -64,10 +64,6 @@ held_more held names names' clauses clauses' s clause number a below len cs ns =
       (Contains-push_cases held (number, clause) entry c);
 }
 
--- the first clauses stay where one comes after them
-first_more : (bases clauses clauses' : List (List LitValue)) (clause : List LitValue) → length bases ≤ length clauses → ((k : ℕ) → k < length bases → IsSame (get_or bases k []) (get_or clauses k [])) → clauses' ≡ clauses ++ clause ∷ [] → (k : ℕ) → k < length bases → IsSame (get_or bases k []) (get_or clauses' k [])
-first_more bases clauses clauses' clause many f cs k w = subst (IsSame (get_or bases k [])) (sym (ap (λ xs. get_or xs k []) cs ∙ get_or_append_left clauses (clause ∷ []) [] k (omega (arith, w, many)))) (f k w)
-
 -- what a search has after a line: one clause more, under its number
 pub record IsGrown (core core' : CoreValue) (awake awake' : Awake) (line : ProofLineValue) : Type 0 where
   pub vars : core'.vars ≡ core.vars
@@ -89,7 +85,7 @@ holding_more base c core core' awake awake' s line h l e g =
       many = omega (arith, h.many, g.held);
       own = g.formula ∙ h.own;
       within = omega (arith, h.within, n);
-      first = first_more base.clauses core.clauses core'.clauses line.lits h.within h.first g.clauses;
+      first = λ k w. subst (IsSame (get_or base.clauses k [])) (sym (ap (λ xs. get_or xs k []) g.clauses ∙ get_or_append_left core.clauses (line.lits ∷ []) [] k (omega (arith, w, h.within)))) (h.first k w);
     }
 
 -- ---- ready
@@ -144,19 +140,13 @@ ready_moved base lines core core' awake awake' s s' r vars formula held are many
     }
 
 -- other steps leave the search ready
-pub ready_same : (base : FormulaValue) (lines : List ProofLineValue) (core core' : CoreValue) (awake : Awake) (s : SleepersValue) → IsReady base lines core awake s → core'.vars ≡ core.vars → core'.clauses ≡ core.clauses → IsReady base lines core' awake s
-ready_same base lines core core' awake s r vars clauses =
-    ready_moved base lines core core' awake awake s s r vars refl refl
-    (subst (λ cs. AreHeld (checker_of base lines).held awake.names.items cs s) (sym clauses) r.holding.agree.held)
+pub ready_same : (base : FormulaValue) (lines : List ProofLineValue) (core core' : CoreValue) (awake awake' : Awake) (s : SleepersValue) → IsReady base lines core awake s → core'.vars ≡ core.vars → core'.clauses ≡ core.clauses → awake'.names ≡ awake.names → awake'.formula ≡ awake.formula → awake'.held ≡ awake.held → IsReady base lines core' awake' s
+ready_same base lines core core' awake awake' s r vars clauses names formula held =
+    let h = (checker_of base lines).held in
+    ready_moved base lines core core' awake awake' s s r vars formula held
+    (subst (λ cs. AreHeld h awake'.names.items cs s) (sym clauses) (subst (λ v. AreHeld h v.items core.clauses s) (sym names) r.holding.agree.held))
     (omega (arith, r.holding.within, ap length clauses))
     (λ k w. ap (λ cs. get_or cs k []) clauses)
-
-pub ready_used : (base : FormulaValue) (lines : List ProofLineValue) (core : CoreValue) (awake awake' : Awake) (s : SleepersValue) → IsReady base lines core awake s → awake'.names ≡ awake.names → awake'.formula ≡ awake.formula → awake'.held ≡ awake.held → IsReady base lines core awake' s
-ready_used base lines core awake awake' s r names formula held =
-    ready_moved base lines core core awake awake' s s r refl formula held
-    (subst (λ v. AreHeld (checker_of base lines).held v.items core.clauses s) (sym names) r.holding.agree.held)
-    r.holding.within
-    (λ k w. refl)
 
 -- ---- a clause that slept is woken
 

@@ -1,6 +1,6 @@
 -- The line of a literal of level 0, over plain values: it is accepted, short and fresh.
 use Rattle.std.proofs.Common.{◌≡◌, ℕ, ◌+◌, ◌<◌, ◌≤◌, true, false, Bool, List, [], ◌∷◌, ◌++◌, length, get_or, take, refl, sym, ap, ◌∙◌, subst, ⊎_elim, arith, ◌≢◌, All, AllPairs, Contains, None}
-use Rattle.std.proofs.lemmas.{Bool.{false≢true}, List.{Elements.{All-push, All-take, Contains-push_cases}, Quantifiers.all_pairs_push}}
+use Rattle.std.proofs.lemmas.{Bool.false≢true, List.{Elements.{All-push, All-take, Contains-push_cases}, Quantifiers.all_pairs_push}}
 use Rattle.std.proofs.lemmas.List.{length-take-le, length_push, map-append, take-map, get_or-take, get_or_default}
 use Rattle.list_laws.proofs.Each.{all_contained}
 use Rattle.cnf_formula.specs.{Formulas.{FormulaValue, IsAbout}, Literals.{LitValue, negation, code_of}, Lines.ProofLineValue}
@@ -9,9 +9,9 @@ use Rattle.ledger_rules.specs.Logs.{checker_of}
 use Rattle.trail_core.{specs.{Trails.lits_of, Formed.IsTrail, Meaning.{CoreValue, trues}}, proofs.Keeping.lits_length}
 use Rattle.conflict_analysis.specs.{Met.lit_at, UnitLines.{denied, IsUnitLine}}
 use Rattle.conflict_analysis.proofs.{Marked.{lit_read, lit_about, same_place}, Members.{here, cons_cases}}
-use Rattle.sleeping_clauses.specs.{Naming.{IsName, IsNamed}, Sleeping.{SleepersValue, HasNone}, declared.awake.Awake.Awake}
+use Rattle.sleeping_clauses.specs.{Naming.{IsNamed}, Sleeping.{SleepersValue, HasNone}, declared.awake.Awake.Awake}
 use Rattle.sat_core.specs.{inner.Stating.{AreStated, IsStating}, Ready.IsReady}
-use Rattle.sat_core.proofs.{AtConflict.{line_accepted, line_short}, Hinted.hints_names, Fresh.fresh_by, Readiness.{next_number, written_more}}
+use Rattle.sat_core.proofs.{AtConflict.{line_accepted, line_short}, Fresh.fresh_by, Readiness.{next_number, written_more}}
 
 -- the core with the trail below a place, and then the negation of its literal
 abbrev denied_core : CoreValue → ℕ → CoreValue
@@ -54,11 +54,8 @@ denied_formed core place t w =
         let same = same_place core k place t u w (ap (λ y. y.var) (sym at) ∙ e) in
         omega (arith, same, lt)
 
-one_apart : (l : LitValue) → AllPairs (λ a b. a.var ≢ b.var) (l ∷ [])
-one_apart l i j d lt v e = absurd (omega (arith, lt, v))
-
-one_differs : (l : LitValue) → AllPairs (λ a b. a ≢ b) (l ∷ [])
-one_differs l i j d lt v e = absurd (omega (arith, lt, v))
+one_alone : (R : LitValue → LitValue → Type 0) (l : LitValue) → AllPairs R (l ∷ [])
+one_alone R l i j d lt v = absurd (omega (arith, lt, v))
 
 -- ---- the line
 
@@ -77,7 +74,7 @@ module _ {base : FormulaValue} {lines : List ProofLineValue} {core : CoreValue} 
   stating_accepted : verdict_of (checker_of base lines) line ≡ Accepted true
   stating_accepted =
       let a = t.ready.holding.agree in
-      line_accepted (checker_of base lines) (denied_core core place) awake.names.items awake.held s t.is.resolved t.is.conflict unit line (record { vars = a.vars; held = a.held }) (denied_formed core place t.formed t.within) t.is.analysis (subst (AllPairs (λ a b. a.var ≢ b.var)) (sym t.is.lits) (one_apart (lit_at core place))) t.is.hints t.named
+      line_accepted (checker_of base lines) (denied_core core place) awake.names.items awake.held s t.is.resolved t.is.conflict unit line (record { vars = a.vars; held = a.held }) (denied_formed core place t.formed t.within) t.is.analysis (subst (AllPairs (λ a b. a.var ≢ b.var)) (sym t.is.lits) (one_alone (λ a b. a.var ≢ b.var) (lit_at core place))) t.is.hints t.named
       (next_number base lines core awake s line.id t.ready t.named.id)
 
   stating_short : length line.hints ≤ base.vars + 1
@@ -92,10 +89,6 @@ module _ {base : FormulaValue} {lines : List ProofLineValue} {core : CoreValue} 
       subst (λ ls. is_fresh (checker_of base lines) ls ≡ true) (sym stating_lits)
       (fresh_by (checker_of base lines) core.clauses s (l ∷ []) l t.ready.holding.agree.held.only (subst (HasNone s) stating_lits none) (here l [])
       (λ other w sub. are other l w new (λ o h. ⊎_elim (λ q. sym q) (λ c. absurd (omega (arith, c.1))) (cons_cases l [] o (sub o h)))))
-
-pub stating_names : (core : CoreValue) (place : ℕ) (unit : ProofLineValue) (names : ℕ) → IsUnitLine core place unit → names ≡ length core.clauses + 1 → All (IsName names) unit.hints
-stating_names core place unit names t e =
-    subst (λ n. All (IsName n) unit.hints) (sym e) (subst (All (IsName (length core.clauses + 1))) (sym t.hints) (hints_names core.clauses (denied core place) t.resolved t.conflict unit.lits t.analysis))
 
 pub stating_about : (core : CoreValue) (place vars : ℕ) (lits : List LitValue) → IsTrail core.vars core.trail core.limits → place < length core.trail → vars ≡ core.vars → lits ≡ lit_at core place ∷ [] → All (IsAbout vars) lits
 stating_about core place vars lits t w v e =
@@ -125,7 +118,7 @@ stating_is base lines core awake awake' s place unit line stated t held are new 
   written = written_more base lines core awake s line t.ready (stating_accepted t) t.named.id (stating_short t);
   next = t.named.id ∙ ap (λ n. n + 1) (sym held);
   about = stating_about core place core.vars line.lits t.formed t.within refl (stating_lits t);
-  once = subst (AllPairs (λ a b. a ≢ b)) (sym (stating_lits t)) (one_differs (lit_at core place));
+  once = subst (AllPairs (λ a b. a ≢ b)) (sym (stating_lits t)) (one_alone (λ a b. a ≢ b) (lit_at core place));
 }
 
 -- ---- how a clause marks

@@ -36,20 +36,15 @@ learn-requires c =
       due = subst (λ y. IsDue y.limits y.trail lits) b (jump_due core lits level j);
     }
 
-pub returns-clause-vars : goal.returns-clause-vars
-returns-clause-vars c =
-    let core = c.args.core.now in
-    let level = c.args.level in
-    let b : c.back_to.new.self ≡ gone_back core level = c.back_to.ensures.back c.requires.above in
-    ap (λ x. x.vars) c.in_ok-learn.ensures.ok.1 ∙ ap (λ x. x.vars) b
-
-pub returns-clause-added : goal.returns-clause-added
-returns-clause-added c =
-    let core = c.args.core.now in
-    let lits = c.args.lits.now in
-    let level = c.args.level in
-    let b : c.back_to.new.self ≡ gone_back core level = c.back_to.ensures.back c.requires.above in
-    ap (λ x. x.clauses) c.in_ok-learn.ensures.ok.1 ∙ ap (λ x. x.clauses ++ lits ∷ []) b
+pub returns : goal.returns
+returns c =
+    let b : c.back_to.new.self ≡ gone_back c.args.core.now c.args.level = c.back_to.ensures.back c.requires.above in
+    let ok = c.in_ok-learn.ensures.ok in
+    record {
+      vars = ap (λ x. x.vars) ok.1 ∙ ap (λ x. x.vars) b;
+      id = ok.0 ∙ ap (λ x. length x.clauses) b;
+      added = ap (λ x. x.clauses) ok.1 ∙ ap (λ x. x.clauses ++ c.args.lits.now ∷ []) b;
+    }
 
 pub returns-in_err-learn-clause-vars : goal.returns-in_err-learn-clause-vars
 returns-in_err-learn-clause-vars c =
