@@ -49,11 +49,9 @@ returns-in_err-learn g c =
 
 pub returns-in_err-hold : goal.returns-in_err-hold
 returns-in_err-hold g c =
-    let V = g.L.LedgerView in
-    let old = c.args.ledger.now in
     let states = rw c.in-Some.is at c.in_ok-line.ensures.line in
     record {
-      written = written_to _ c.learn.ensures.moves c.learn.ensures.base c.learn.ensures.limit (omega (arith, c.in_ok-learn.ensures.spent)) c.in_ok-learn.ensures.lines (states (V.base old) (V.lines old) c.requires.can.ready).written;
+      written = written_to _ c.learn.ensures.moves c.learn.ensures.base c.learn.ensures.limit (omega (arith, c.in_ok-learn.ensures.spent)) c.in_ok-learn.ensures.lines (states _ _ c.requires.can.ready).written;
       can = on_fault _ _ c.from_residual-in_err-hold.ensures.0;
       same = c.hold.ensures.same;
       stated = on_fault _ _ c.from_residual-in_err-hold.ensures.0;
@@ -62,15 +60,13 @@ returns-in_err-hold g c =
 
 pub returns : goal.returns
 returns g c =
-    let V = g.L.LedgerView in
-    let old = c.args.ledger.now in
     let ready = c.requires.can.ready in
     let states = rw c.in-Some.is at c.in_ok-line.ensures.line in
-    let stating = states (V.base old) (V.lines old) ready in
+    let stating = states _ _ ready in
     record {
       written = written_to _ c.learn.ensures.moves c.learn.ensures.base c.learn.ensures.limit (omega (arith, c.in_ok-learn.ensures.spent)) c.in_ok-learn.ensures.lines stating.written;
       can = record {
-        ready = ready_at V _ c.learn.ensures.base c.in_ok-learn.ensures.lines (c.in_ok-hold.ensures.ready (V.base old) (V.lines old) (c.line_of.ensures.ready (V.base old) (V.lines old) ready) stating);
+        ready = ready_at g.L.LedgerView _ c.learn.ensures.base c.in_ok-learn.ensures.lines (c.in_ok-hold.ensures.ready _ _ (c.line_of.ensures.ready _ _ ready) stating);
         guided = c.in_ok-hold.ensures.guided;
         agrees = c.in_ok-learn.ensures.agrees;
       };
