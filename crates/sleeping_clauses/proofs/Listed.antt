@@ -1,5 +1,5 @@
 -- The numbers from 0 on.
-use Rattle.std.{proofs.Common.{◌≡◌, ◌+◌, ℕ, List, [], ◌∷◌, ◌++◌, sym, ap, ◌∙◌, arith}, specs.List.range_with_len}
+use Rattle.std.{proofs.Common.{◌≡◌, ◌+◌, ℕ, [], ◌∷◌, ◌++◌, sym, ap, ◌∙◌, arith}, specs.List.range_with_len}
 use Rattle.std.proofs.lemmas.List.{map-id, FromFn.map-range_with_len_more}
 
 pub range_more : (n : ℕ) → range_with_len 0 (n + 1) ≡ range_with_len 0 n ++ n ∷ []
