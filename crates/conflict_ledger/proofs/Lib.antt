@@ -1,2 +1,1 @@
-mod Learned
 mod Shelving

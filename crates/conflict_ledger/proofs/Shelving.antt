@@ -1,7 +1,7 @@
 -- What the files of a ledger on a shelf become.
 use Rattle.std.proofs.Common.{◌≡◌, ℕ, Bool, true, List, [], ◌∷◌, ◌++◌, take, drop, refl, sym, ap, ◌∙◌, subst, inl, inr, ⊎_elim, ◌≢◌, ◌⊎◌, IsTrue, Some, Contains, map, not}
-use Rattle.std.{specs.List.list_any, proofs.lemmas.{Bool.{cases_Bool, false≢true, or_right}, List.{append_assoc, take-append-drop, Folds.list_any_at}}}
-use Rattle.std.proofs.lemmas.List.Elements.{Contains-append_left, Contains-push}
+use Rattle.std.{specs.List.list_any, proofs.lemmas.{Bool.{false≢true, or_right}, List.{append-nil, append_assoc, take-append-drop, Folds.list_any_at}}}
+use Rattle.std.proofs.lemmas.List.Elements.{Contains-append_left, Contains-push, filter-append}
 use Rattle.cnf_formula.specs.{Literals.{LitValue, is_superset}, Formulas.FormulaValue, Lines.ProofLineValue, declared.line.LratLine.TheVariants.Addition}
 use Rattle.proof_rules.specs.{Held.{Entry, CheckerValue, start_of, has_none}, Refuting.{is_fresh, with_line, after_lines}, Learning.AllImplied, Judging.verdict_of, declared.verdict.LineVerdict.TheVariants.Accepted}
 use Rattle.proof_rules.proofs.InTurn.{implied_more}
@@ -9,7 +9,6 @@ use Rattle.text_lines.specs.Text.{line as text_line}
 use Rattle.lrat_text.specs.Printing.{line_words}
 use Rattle.outer_ports.specs.{declared.proof_name.ProofName.ProofName, Port.Tells, Files.Files, Shelf.OthersStay}
 use Rattle.ledger_rules.specs.Logs.{learned, checker_of}
-use Rattle.conflict_ledger.proofs.Learned.{fresh_some}
 use Rattle.conflict_ledger.specs.Shelved.{log_text, IsLogFront, LedgerState, ShelfMoves, ShelfAgrees, ShelfMoves-trans}
 
 -- ---- one line more
@@ -89,16 +88,19 @@ abbrev pub IsWhole : ProofName → Bool → Files → Files → List ℕ → Typ
 IsWhole name told files now text = IsTrue told → (before : List ℕ) → files name ≡ Some before → now name ≡ Some (before ++ text)
 
 learned_last : (lines : List ProofLineValue) (line : ProofLineValue) → not (has_none line.lits) ≡ true → learned (lines ++ line ∷ []) ≡ learned lines ++ line ∷ []
-learned_last [] line s = rw s refl
-learned_last (l ∷ lines) line s =
-    let more = learned_last lines line s in
-    ⊎_elim (λ b. rw b (ap (λ ls. l ∷ ls) more)) (λ b. rw b more) (cases_Bool (not (has_none l.lits)))
+learned_last lines line s =
+    let own : learned (line ∷ []) ≡ line ∷ [] = rw s refl in
+    filter-append (λ l. not (has_none l.lits)) lines (line ∷ []) ∙ ap (λ ls. learned lines ++ ls) own
 
 learned_but : (lines : List ProofLineValue) (line : ProofLineValue) → line.lits ≡ [] → learned (lines ++ line ∷ []) ≡ learned lines
-learned_but [] line e = rw e refl
-learned_but (l ∷ lines) line e =
-    let more = learned_but lines line e in
-    ⊎_elim (λ b. rw b (ap (λ ls. l ∷ ls) more)) (λ b. rw b more) (cases_Bool (not (has_none l.lits)))
+learned_but lines line e =
+    let own : learned (line ∷ []) ≡ [] = rw e refl in
+    filter-append (λ l. not (has_none l.lits)) lines (line ∷ []) ∙ ap (λ ls. learned lines ++ ls) own ∙ append-nil (learned lines)
+
+-- a fresh clause has a literal
+fresh_some : (c : CheckerValue) (clause : List LitValue) → is_fresh c clause ≡ true → not (has_none clause) ≡ true
+fresh_some c [] h = absurd (false≢true h)
+fresh_some c (l ∷ clause) h = refl
 
 -- ---- a line that follows comes to the ledger
 

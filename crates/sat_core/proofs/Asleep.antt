@@ -1,9 +1,9 @@
 -- Clauses that sleep: where one is woken, and where one more falls asleep.
 use Rattle.std.proofs.Common.{◌≡◌, ℕ, ◌<◌, true, false, List, [], ◌∷◌, ◌++◌, length, get_or, set, refl, sym, ap, ◌∙◌, subst, inl, inr, ⊎_elim, arith, ◌⊎◌}
-use Rattle.std.proofs.lemmas.{Bool.{cases_lt, cases_eq}, List.{get_or_append_left, get_or_push, length_push, get_or-set_other}}
+use Rattle.std.proofs.lemmas.{Bool.cases_eq, List.{get_or_append_left, get_or_push, length_push, get_or-set_other}}
 use Rattle.cnf_formula.specs.Literals.{LitValue}
 use Rattle.proof_rules.specs.Held.{Entry}
-use Rattle.sat_core.specs.inner.Holding.{AreAsleep, IsHeldAs}
+use Rattle.sat_core.{specs.inner.Holding.{AreAsleep, IsHeldAs}, proofs.Members.both_more}
 use Rattle.sleeping_clauses.specs.Sleeping.{SleepersValue, IsAsleep}
 
 -- ---- one is woken
@@ -38,14 +38,5 @@ pushed_sleeps s s' lits same cs bs = (
 )
 
 pub asleep_more : (held : List Entry) (s s' : SleepersValue) (lits : List LitValue) (number : ℕ) → length s.numbers ≡ length s.clauses → s'.clauses ≡ s.clauses ++ lits ∷ [] → s'.numbers ≡ s.numbers ++ number ∷ [] → AreAsleep held s → IsHeldAs held number lits → AreAsleep held s'
-asleep_more held s s' lits number same cs ns a h = λ place w. ⊎_elim
-    (λ lt.
-    let c : get_or s.clauses place [] ≡ get_or s'.clauses place [] = sym (ap (λ xs. get_or xs place []) cs ∙ get_or_append_left s.clauses (lits ∷ []) [] place lt) in
-    let n : get_or s.numbers place 0 ≡ get_or s'.numbers place 0 = sym (ap (λ xs. get_or xs place 0) ns ∙ get_or_append_left s.numbers (number ∷ []) 0 place (omega (arith, lt, same))) in
-    subst (IsHeldAs held (get_or s'.numbers place 0)) c (subst (λ m. IsHeldAs held m (get_or s.clauses place [])) n (a place lt)))
-    (λ ge.
-    let at : length s.clauses ≡ place = omega (arith, ge, w, ap length cs, length_push s.clauses lits) in
-    let c : lits ≡ get_or s'.clauses place [] = sym (ap (λ xs. get_or xs place []) cs ∙ get_or_push s.clauses lits [] place at) in
-    let n : number ≡ get_or s'.numbers place 0 = sym (ap (λ xs. get_or xs place 0) ns ∙ get_or_push s.numbers number 0 place (omega (arith, at, same))) in
-    subst (IsHeldAs held (get_or s'.numbers place 0)) c (subst (λ m. IsHeldAs held m lits) n h))
-    (cases_lt place (length s.clauses))
+asleep_more held s s' lits number same cs ns a h =
+    both_more (IsHeldAs held) (λ place. place) s.numbers s'.numbers s.clauses s'.clauses number 0 lits [] ns cs (λ place v. omega (arith, v, same)) (sym same) a h

@@ -54,18 +54,6 @@ of_ledger last is h cause = same_kind _ (fault_is last _ h) is cause
       stays = λ _. cause.stays (λ e. let clash : Err ledger.OutOfMemory ≡ Err ledger.Failed = sym is ∙ e in cc);
     }
 
--- an answer after a call that gave one
-pub answered_after : {A T E D : Type 0} {fault : E} {other : D} {before now : ℕ} {one : Result A E} {is : A} {answer : T} → one ≡ Ok is → HasCause fault before now one → HasCause other before now (Ok answer)
-answered_after is cause = record { later = cause.later; rose = λ e. absurd (cc); stays = λ _. cause.stays (λ e. cc) }
-
--- memory ran out after a call that gave an answer
-pub no_memory_after : {A T E : Type 0} {fault : E} {before now : ℕ} {one : Result A E} {is : A} (last : Result T SolveFault) → one ≡ Ok is → IsErrAnd last (λ e. e ≡ OutOfMemory) → HasCause fault before now one → HasCause LedgerFailed before now last
-no_memory_after last is h cause = record {
-  later = cause.later;
-  rose = λ e. let clash : Err OutOfMemory ≡ Err LedgerFailed = sym (fault_is last OutOfMemory h) ∙ e in absurd (cc);
-  stays = λ _. cause.stays (λ e. cc);
-}
-
 -- a call that gave an answer left the count as it was
 pub unmoved : {T E : Type 0} {fault : E} {before now : ℕ} {answer : T} {one : Result T E} → one ≡ Ok answer → HasCause fault before now one → now ≡ before
 unmoved is cause = cause.stays (λ e. cc)
@@ -73,3 +61,11 @@ unmoved is cause = cause.stays (λ e. cc)
 -- what comes after calls that left the count as it was
 pub after : {T E : Type 0} {fault : E} {before mid now : ℕ} {last : Result T E} → mid ≡ before → HasCause fault mid now last → HasCause fault before now last
 after {T} {E} {fault} {before} {mid} {now} {last} same cause = subst (λ n. HasCause fault n now last) same cause
+
+-- an answer after a call that gave one
+pub answered_after : {A T E D : Type 0} {fault : E} {other : D} {before now : ℕ} {one : Result A E} {is : A} {answer : T} → one ≡ Ok is → HasCause fault before now one → HasCause other before now (Ok answer)
+answered_after is cause = after (unmoved is cause) answered
+
+-- memory ran out after a call that gave an answer
+pub no_memory_after : {A T E : Type 0} {fault : E} {before now : ℕ} {one : Result A E} {is : A} (last : Result T SolveFault) → one ≡ Ok is → IsErrAnd last (λ e. e ≡ OutOfMemory) → HasCause fault before now one → HasCause LedgerFailed before now last
+no_memory_after last is h cause = after (unmoved is cause) (no_memory last h)

@@ -1,5 +1,5 @@
 -- Some clauses of a core make another, and the others fall asleep: what is held stays held.
-use Rattle.std.proofs.Common.{◌≡◌, ℕ, ◌+◌, ◌<◌, ◌≤◌, true, List, [], ◌∷◌, ◌++◌, length, get_or, sym, ap, ◌∙◌, subst, inl, inr, ⊎_elim, arith, ◌⊎◌, ◌≢◌, AllPairs, Contains}
+use Rattle.std.proofs.Common.{◌≡◌, ℕ, ◌+◌, ◌<◌, ◌≤◌, true, List, [], ◌∷◌, ◌++◌, length, get_or, sym, ap, ◌∙◌, subst, inl, inr, ⊎_elim, arith, ◌⊎◌, ◌≢◌, AllPairs, Contains, below_more}
 use Rattle.std.proofs.lemmas.{Bool.cases_lt, List.{get_or_append_left, get_or_push, length_push, get_or_default}}
 use Rattle.std.proofs.lemmas.List.Elements.{Contains-push, Contains-append_left}
 use Rattle.cnf_formula.specs.{Literals.LitValue, Formulas.FormulaValue, Lines.ProofLineValue}
@@ -20,25 +20,21 @@ dividing_awake clauses names formula before k left left' awake awake' now id d w
       listed = listed_more left left' clause awake awake' id (get_or names (k + 1) 0) d.listed cs at ids ns once;
       named = λ held a. named_more held awake.names.items awake'.names.items left left' clause (get_or names (k + 1) 0) (d.named held a) d.listed.names cs ns (a k w);
       asleep = d.asleep;
-      all = λ j v. ⊎_elim
-          (λ lt. ⊎_elim (λ c. inl (subst (λ xs. Contains xs (get_or clauses j [])) (sym cs) (Contains-append_left left (clause ∷ []) (get_or clauses j []) c))) (λ s. inr s) (d.all j lt))
-          (λ ge. let e : k ≡ j = omega (arith, ge, v) in inl (subst (λ xs. Contains xs (get_or clauses j [])) (sym cs) (subst (λ i. Contains (left ++ clause ∷ []) (get_or clauses i [])) e (Contains-push left clause))))
-          (cases_lt j k);
+      all = below_more (λ j. Contains left' (get_or clauses j []) ⊎ IsAsleep now (get_or clauses j [])) k
+          (λ j lt. ⊎_elim (λ c. inl (subst (λ xs. Contains xs (get_or clauses j [])) (sym cs) (Contains-append_left left (clause ∷ []) (get_or clauses j []) c))) (λ s. inr s) (d.all j lt))
+          (inl (subst (λ xs. Contains xs clause) (sym cs) (Contains-push left clause)));
       stay = d.stay;
       few = λ v. let f = d.few (omega (arith, v)) in omega (arith, f, n);
       many = λ v. ⊎_elim
           (λ lt. let f = d.few (omega (arith, lt)) in omega (arith, f, n, v))
           (λ ge. let f = d.many ge in omega (arith, f, n))
           (cases_lt k formula);
-      first = λ j u v. ⊎_elim
-          (λ lt.
-          let room : j < length left = ⊎_elim (λ a. let f = d.few (omega (arith, a)) in omega (arith, f, lt)) (λ a. let f = d.many a in omega (arith, f, u)) (cases_lt k formula) in
-          ap (λ xs. get_or xs j []) cs ∙ get_or_append_left left (clause ∷ []) [] j room ∙ d.first j u lt)
-          (λ ge.
-          let e : k ≡ j = omega (arith, ge, v) in
-          let f = d.few (omega (arith, e, u)) in
-          ap (λ xs. get_or xs j []) cs ∙ get_or_push left clause [] j (omega (arith, f, e)) ∙ ap (λ i. get_or clauses i []) e)
-          (cases_lt j k);
+      first = λ j u v. below_more (λ i. i < formula → get_or left' i [] ≡ get_or clauses i []) k
+          (λ i lt low.
+          let room : i < length left = ⊎_elim (λ a. let f = d.few (omega (arith, a)) in omega (arith, f, lt)) (λ a. let f = d.many a in omega (arith, f, low)) (cases_lt k formula) in
+          ap (λ xs. get_or xs i []) cs ∙ get_or_append_left left (clause ∷ []) [] i room ∙ d.first i low lt)
+          (λ low. let f = d.few (omega (arith, low)) in ap (λ xs. get_or xs k []) cs ∙ get_or_push left clause [] k f)
+          j v u;
     }
 
 -- the next clause, which is none of the formula, falls asleep
@@ -55,10 +51,7 @@ dividing_asleep clauses names formula before k left awake now now' d w learned n
       listed = d.listed;
       named = d.named;
       asleep = λ held a s. asleep_more held now now' clause (get_or names (k + 1) 0) numbers cs ns (d.asleep held a s) (a k w);
-      all = λ j v. ⊎_elim
-          (λ lt. ⊎_elim (λ c. inl c) (λ s. inr (more (get_or clauses j []) s)) (d.all j lt))
-          (λ ge. let e : k ≡ j = omega (arith, ge, v) in inr (subst (λ i. IsAsleep now' (get_or clauses i [])) e (pushed_sleeps now now' clause flags cs bs)))
-          (cases_lt j k);
+      all = below_more (λ j. Contains left (get_or clauses j []) ⊎ IsAsleep now' (get_or clauses j [])) k (λ j lt. ⊎_elim (λ c. inl c) (λ s. inr (more (get_or clauses j []) s)) (d.all j lt)) (inr (pushed_sleeps now now' clause flags cs bs));
       stay = λ c s. more c (d.stay c s);
       few = λ v. absurd (omega (arith, v, learned));
       many = λ v. d.many learned;

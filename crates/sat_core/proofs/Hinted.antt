@@ -1,7 +1,7 @@
 -- The reasons of the resolved steps in the order of the trail, and then the falsified clause, are a conflict for what remains.
-use Rattle.std.proofs.Common.{◌≡◌, ℕ, ◌+◌, ◌<◌, ◌≤◌, Bool, true, false, List, [], ◌∷◌, ◌++◌, length, get_or, take, refl, sym, ap, ◌∙◌, subst, inl, inr, ⊎_elim, arith, All, Contains, Some, map, filter, pos}
-use Rattle.std.proofs.lemmas.{Bool.{false≢true, cases_Bool}, List.{append_assoc, take_at, length-append, length-map, length_push, get_or-append-add}}
-use Rattle.std.proofs.lemmas.List.Elements.{Contains-push_cases, Contains-append_right, All-nil, All-cons}
+use Rattle.std.proofs.Common.{◌≡◌, ℕ, ◌+◌, ◌<◌, ◌≤◌, Bool, true, List, [], ◌∷◌, ◌++◌, length, get_or, take, refl, sym, ap, ◌∙◌, subst, inl, inr, ⊎_elim, arith, All, Contains, Some, map, filter, ℤ, pos, ◌⊎◌}
+use Rattle.std.proofs.lemmas.{Bool.{false≢true, cases_Bool}, List.{append-nil, append_assoc, take_at, length-append, length-map, length_push, get_or-append-add}}
+use Rattle.std.proofs.lemmas.List.Elements.{Contains-push_cases, Contains-append_right, All-map, All-push}
 use Rattle.list_laws.proofs.{Each.all_contained, Members.{Contains-cons, Contains-map}, Tests.few_kept}
 use Rattle.cnf_formula.specs.Literals.{LitValue, negation}
 use Rattle.proof_rules.specs.{Held.{Entry, clause_at}, Accepting.{Takes, Falsifies, Conflicts, leading, hint_groups_from}}
@@ -46,11 +46,7 @@ pub conflicts_from : (held : List Entry) (names : List ℕ) (clauses : List (Lis
     → (rest before : List StepValue) (falses : List LitValue) → steps ≡ before ++ rest → ((o : LitValue) → IsOut resolved before clause o → Contains falses o) → ((o : LitValue) → Contains falses o → IsFalse (lits_of steps) o)
     → Conflicts held falses (numbers_to names resolved rest conflict)
 conflicts_from held names clauses steps resolved conflict clause a con an [] before falses e out fal =
-    last_falsifies held names clauses falses conflict a an.within (λ o c. out o (subst (λ xs. IsOut resolved xs clause o) (e ∙ nil before) (an.last o c)))
-  where
-    nil : (xs : List StepValue) → xs ++ [] ≡ xs
-    nil [] = refl
-    nil (x ∷ xs) = ap (λ ys. x ∷ ys) (nil xs)
+    last_falsifies held names clauses falses conflict a an.within (λ o c. out o (subst (λ xs. IsOut resolved xs clause o) (e ∙ append-nil before) (an.last o c)))
 conflicts_from held names clauses steps resolved conflict clause a con an (s ∷ rest) before falses e out fal =
     ⊎_elim
     (λ b.
@@ -64,27 +60,22 @@ conflicts_from held names clauses steps resolved conflict clause a con an (s ∷
     rw b (hint_then held falses (name_of names s.reason) s.lit (numbers_of names resolved rest) (get_or names (conflict + 1) 0)
     (reason_takes held names clauses falses resolved clause before s a r out (λ c. con s.lit stands (fal s.lit c)))
     (conflicts_from held names clauses steps resolved conflict clause a con an rest (before ++ s ∷ []) (negation s.lit ∷ falses) seam
-    (λ o u. more o u)
+    (λ o u. ⊎_elim (λ h. Contains-cons (negation s.lit) falses o (out o h)) (λ e. subst (λ x. Contains (negation s.lit ∷ falses) x) e.1 (here (negation s.lit) falses)) (out_of o u))
     (λ o c. ⊎_elim (λ i. subst (λ x. Contains (lits_of steps) x) (sym (negated_twice s.lit) ∙ ap negation i) stands) (λ d. fal o d) (cons_cases (negation s.lit) falses o c)))))
-    (λ b. rw b (conflicts_from held names clauses steps resolved conflict clause a con an rest (before ++ s ∷ []) falses seam (λ o u. same b o u) fal))
+    (λ b. rw b (conflicts_from held names clauses steps resolved conflict clause a con an rest (before ++ s ∷ []) falses seam (λ o u. ⊎_elim (λ h. out o h) (λ e. absurd (false≢true (sym b ∙ e.0))) (out_of o u)) fal))
     (cases_Bool (resolved s))
   where
     seam : steps ≡ before ++ s ∷ [] ++ rest
     seam = e ∙ sym (append_assoc before (s ∷ []) rest)
 
-    more : (o : LitValue) → IsOut resolved (before ++ s ∷ []) clause o → Contains (negation s.lit ∷ falses) o
-    more o u = ⊎_elim
-        (λ c. Contains-cons (negation s.lit) falses o (out o (inl c)))
+    -- one step more lets out what was out before, and the negation of its literal if it is resolved
+    out_of : (o : LitValue) → IsOut resolved (before ++ s ∷ []) clause o → IsOut resolved before clause o ⊎ ((resolved s ≡ true) × (negation s.lit ≡ o))
+    out_of o u = ⊎_elim
+        (λ c. inl (inl c))
         (λ q. ⊎_elim
-        (λ c. Contains-cons (negation s.lit) falses o (out o (inr (q.0, c, q.2, q.3))))
-        (λ i. subst (λ x. Contains (negation s.lit ∷ falses) x) (ap (λ x. negation x.lit) i ∙ ap negation q.3 ∙ negated_twice o) (here (negation s.lit) falses))
+        (λ c. inl (inr (q.0, c, q.2, q.3)))
+        (λ i. inr (ap resolved i ∙ q.2, ap (λ x. negation x.lit) i ∙ ap negation q.3 ∙ negated_twice o))
         (Contains-push_cases before s q.0 q.1))
-        u
-
-    same : resolved s ≡ false → (o : LitValue) → IsOut resolved (before ++ s ∷ []) clause o → Contains falses o
-    same b o u = ⊎_elim
-        (λ c. out o (inl c))
-        (λ q. ⊎_elim (λ c. out o (inr (q.0, c, q.2, q.3))) (λ i. absurd (false≢true (sym b ∙ ap resolved i ∙ q.2))) (Contains-push_cases before s q.0 q.1))
         u
 
 -- an analysis has its hints
@@ -97,49 +88,43 @@ hints_conflict held names clauses steps resolved conflict clause a con an =
 
 -- ---- the same as hints, none of which begins a group
 
-leading_from : (names : List ℕ) (steps : List StepValue) (conflict : ℕ) → leading (map (name names) (map (λ s. pos (number_of s.reason)) steps ++ pos (conflict + 1) ∷ [])) ≡ map (λ s. name_of names s.reason) steps ++ get_or names (conflict + 1) 0 ∷ []
-leading_from names [] conflict = refl
-leading_from names (s ∷ steps) conflict = ap (λ ids. name_of names s.reason ∷ ids) (leading_from names steps conflict)
+pub leading_numbers : (names : List ℕ) (steps : List StepValue) (conflict : ℕ) → leading (map (name names) (map (λ s. pos (number_of s.reason)) steps ++ pos (conflict + 1) ∷ [])) ≡ map (λ s. name_of names s.reason) steps ++ get_or names (conflict + 1) 0 ∷ []
+leading_numbers names [] conflict = refl
+leading_numbers names (s ∷ steps) conflict = ap (λ ids. name_of names s.reason ∷ ids) (leading_numbers names steps conflict)
 
-pub leading_numbers : (names : List ℕ) (resolved : StepValue → Bool) (steps : List StepValue) (conflict : ℕ) → leading (map (name names) (hints_to resolved steps conflict)) ≡ numbers_to names resolved steps conflict
-leading_numbers names resolved steps conflict = leading_from names (filter resolved steps) conflict
-
-no_groups_from : (names : List ℕ) (steps : List StepValue) (conflict place : ℕ) → hint_groups_from place (map (name names) (map (λ s. pos (number_of s.reason)) steps ++ pos (conflict + 1) ∷ [])) ≡ []
-no_groups_from names [] conflict place = refl
-no_groups_from names (s ∷ steps) conflict place = no_groups_from names steps conflict (place + 1)
-
-pub no_groups : (names : List ℕ) (resolved : StepValue → Bool) (steps : List StepValue) (conflict place : ℕ) → hint_groups_from place (map (name names) (hints_to resolved steps conflict)) ≡ []
-no_groups names resolved steps conflict place = no_groups_from names (filter resolved steps) conflict place
+pub no_groups : (names : List ℕ) (steps : List StepValue) (conflict place : ℕ) → hint_groups_from place (map (name names) (map (λ s. pos (number_of s.reason)) steps ++ pos (conflict + 1) ∷ [])) ≡ []
+no_groups names [] conflict place = refl
+no_groups names (s ∷ steps) conflict place = no_groups names steps conflict (place + 1)
 
 -- ---- each is a name
 
-names_from : (places : ℕ) (steps : List StepValue) (conflict : ℕ) → ((s : StepValue) → Contains steps s → number_of s.reason < places) → conflict + 1 < places → All (IsName places) (map (λ s. pos (number_of s.reason)) steps ++ pos (conflict + 1) ∷ [])
-names_from places [] conflict each w = All-cons (IsName places) (pos (conflict + 1)) [] (conflict + 1, refl, w) (All-nil (IsName places))
-names_from places (s ∷ steps) conflict each w =
-    All-cons (IsName places) (pos (number_of s.reason)) (map (λ x. pos (number_of x.reason)) steps ++ pos (conflict + 1) ∷ []) (number_of s.reason, refl, each s (here s steps))
-    (names_from places steps conflict (λ x c. each x (Contains-cons s steps x c)) w)
+pub hints_names : (clauses : List (List LitValue)) (steps : List StepValue) (resolved : StepValue → Bool) (conflict : ℕ) (clause : List LitValue) (hints : List ℤ) (names : ℕ) → IsAnalysis clauses steps resolved conflict clause → hints ≡ hints_to resolved steps conflict → names ≡ length clauses + 1 → All (IsName names) hints
+hints_names clauses steps resolved conflict clause hints names an is many =
+    subst (λ n. All (IsName n) hints) (sym many) (subst (All (IsName places)) (sym is)
+    (All-push (IsName places) (map hint kept) (pos (conflict + 1)) (All-map (IsName places) hint kept (all_contained (λ s. IsName places (hint s)) kept named)) (conflict + 1, refl, omega (arith, an.within))))
+  where
+    places : ℕ
+    places = length clauses + 1
 
-pub hints_names : (clauses : List (List LitValue)) (steps : List StepValue) (resolved : StepValue → Bool) (conflict : ℕ) (clause : List LitValue) → IsAnalysis clauses steps resolved conflict clause → All (IsName (length clauses + 1)) (hints_to resolved steps conflict)
-hints_names clauses steps resolved conflict clause an =
-    names_from (length clauses + 1) (filter resolved steps) conflict
-    (λ s c.
-    let f = from_filter resolved steps s c in
-    let g : get_or steps f.0.0 s ≡ s = f.0.2 in
-    let r = an.each f.0.0 s f.0.1 (subst (λ x. resolved x ≡ true) (sym g) f.1) in
-    omega (arith, r.within, ap number_of (ap (λ x. x.reason) (sym g) ∙ r.reason)))
-    (omega (arith, an.within))
+    kept : List StepValue
+    kept = filter resolved steps
+
+    hint : StepValue → ℤ
+    hint s = pos (number_of s.reason)
+
+    named : (s : StepValue) → Contains kept s → IsName places (hint s)
+    named s c =
+        let f = from_filter resolved steps s c in
+        let g : get_or steps f.0.0 s ≡ s = f.0.2 in
+        let r = an.each f.0.0 s f.0.1 (subst (λ x. resolved x ≡ true) (sym g) f.1) in
+        (number_of s.reason, refl, omega (arith, r.within, ap number_of (ap (λ x. x.reason) (sym g) ∙ r.reason)))
 
 -- ---- and so few
 
-pub few_hints : (resolved : StepValue → Bool) (steps : List StepValue) (conflict : ℕ) → length (hints_to resolved steps conflict) ≤ length steps + 1
-few_hints resolved steps conflict =
+pub few_named : (names : List ℕ) (resolved : StepValue → Bool) (steps : List StepValue) (conflict : ℕ) → length (map (name names) (hints_to resolved steps conflict)) ≤ length steps + 1
+few_named names resolved steps conflict =
     let a = few_kept resolved steps in
     let b = length-map (filter resolved steps) (λ s. pos (number_of s.reason)) in
     let c = length_push (hints_of resolved steps) (pos (conflict + 1)) in
-    omega (arith, a, b, c)
-
-pub few_named : (names : List ℕ) (resolved : StepValue → Bool) (steps : List StepValue) (conflict : ℕ) → length (map (name names) (hints_to resolved steps conflict)) ≤ length steps + 1
-few_named names resolved steps conflict =
-    let a = few_hints resolved steps conflict in
-    let b = length-map (hints_to resolved steps conflict) (name names) in
-    omega (arith, a, b)
+    let d = length-map (hints_to resolved steps conflict) (name names) in
+    omega (arith, a, b, c, d)

@@ -4,12 +4,12 @@ use Rattle.std.proofs.lemmas.{Bool.cases_lt, List.{get_or-take, get_or_push, len
 use Rattle.std.proofs.lemmas.List.{Elements.{Contains-append_left, Contains-push, Contains-push_cases, Contains-get_or, All-contains}, Sums.sum_by-take-le}
 use Rattle.list_laws.proofs.Each.{all_contained}
 use Rattle.cnf_formula.specs.{Literals.{LitValue, negation}, Formulas.IsAbout, Lines.ProofLineValue}
-use Rattle.trail_core.specs.{Assigned.{IsFalse, IsOpen, AreLimits, level_at}, Trails.{StepValue, TrailValue, lits_of}, Search.IsUnit, Formed.IsTrail}
+use Rattle.trail_core.specs.{Assigned.{IsFalse, IsOpen, AreLimits, level_at}, Trails.{StepValue, TrailValue}, Search.IsUnit, Formed.IsTrail}
 use Rattle.trail_core.specs.{Meaning.{CoreValue, trues}, Kept.{IsDue, CanAdd, CanAddTo}}
 use Rattle.trail_core.proofs.{Trails.{all_counted, level_at_cut}, Keeping.{lits_length, nil_limits, in_front}}
 use Rattle.sat_core.specs.inner.Jumping.{gone_back, IsBacked, HasLevel, AreUpTo, front_of}
 use Rattle.conflict_analysis.specs.{Learned.{IsPointed, IsLearned}, Met.lit_at}
-use Rattle.conflict_analysis.proofs.{Marked.{IsAt, false_at, lit_read, same_place, level_within, level_read}, Levels.level_below, Pointed.false_below}
+use Rattle.conflict_analysis.proofs.{Marked.{IsAt, false_at, lit_read, same_place, level_within, level_read}, Levels.{level_below, limits_rise}, Pointed.false_below}
 
 -- what may be added is due
 pub due_by : (t : TrailValue) (clause : List LitValue) → CanAddTo t clause → AreLimits t.limits (length t.steps) → IsDue t.limits t.steps clause
@@ -17,11 +17,8 @@ due_by t clause can a = ⊎_elim
     (λ z. inl (ap (λ ls. level_at ls (length t.steps)) (nil_limits t.limits z)))
     (λ q.
     let all : level_at t.limits (length t.steps) ≡ length t.limits = all_counted t.limits (length t.steps) (λ i w. let b = a.below i w in omega (arith, b)) in
-    inr (q.1, q.4.place, q.3, q.4.within, default t.steps q.4.place q.1 q.4.within q.4.here, q.4.level ∙ sym all))
+    inr (q.1, q.4.place, q.3, q.4.within, q.4.here, q.4.level ∙ sym all))
     can
-  where
-    default : (steps : List StepValue) (p : ℕ) (o : LitValue) → p < length steps → get_or (lits_of steps) p o ≡ negation o → get_or (lits_of steps) p o ≡ negation o
-    default steps p o w e = e
 
 -- the trail below a level
 abbrev pub below : ℕ → List StepValue → List ℕ → ℕ → TrailValue
@@ -52,10 +49,8 @@ under_next limits len level k a w low = ⊎_elim
     let n : length (take (level + 1) limits) ≡ level + 1 = length-take-le (level + 1) limits (omega (arith, w)) in
     let all = all_counted (take (level + 1) limits) k (λ i v.
     let q = get_or-take (level + 1) limits i 0 (omega (arith, v, n)) in
-    ⊎_elim
-    (λ lt. let r = a.rising i level lt w in omega (arith, q, r, ge))
-    (λ h. let s : i ≡ level = omega (arith, h, v, n) in let u : get_or limits i 0 ≡ get_or limits level 0 = ap (λ x. get_or limits x 0) s in omega (arith, q, u, ge))
-    (cases_lt i level)) in
+    let r = limits_rise limits len i level a (omega (arith, v, n)) w in
+    omega (arith, q, r, ge)) in
     let part = sum_by-take-le (λ m. cond {A = ℕ} (nat_le m k) 1 0) limits (level + 1) in
     absurd (omega (arith, all, n, part, low)))
     (cases_lt k (get_or limits level 0))
@@ -135,10 +130,7 @@ jump_unit core lits level j =
     above = p.open_ last (let w = j.above in omega (arith, w))
 
     within : a ≤ get_or core.limits last 0
-    within = ⊎_elim
-        (λ lt. let r = j.formed.levels.rising level last lt (let w = j.above in omega (arith, w)) in omega (arith, r))
-        (λ ge. let s : level ≡ last = let w = j.above in omega (arith, ge, w) in let u : a ≡ get_or core.limits last 0 = ap (λ x. get_or core.limits x 0) s in omega (arith, u))
-        (cases_lt level last)
+    within = let w = j.above in limits_rise core.limits (length core.trail) level last j.formed.levels (omega (arith, w)) (omega (arith, w))
 
     further : (x : LitValue) → Contains (take a (trues core)) x → Contains (take (get_or core.limits last 0) (trues core)) x
     further x c = in_front a (take (get_or core.limits last 0) (trues core)) x (subst (λ xs. Contains xs x) (sym (take-take a (get_or core.limits last 0) (trues core) within)) c)

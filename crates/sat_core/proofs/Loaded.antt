@@ -1,14 +1,14 @@
 -- Clauses of a formula, each literal once, make a core that is ready.
 use Rattle.std.proofs.Common.{◌≡◌, ℕ, ◌+◌, ◌*◌, ◌<◌, ◌≤◌, List, [], ◌∷◌, ◌++◌, length, get_or, take, set, eqb, refl, sym, ap, ◌∙◌, subst, inl, ⊎_elim, arith, ◌≢◌, Contains, Some, All, AllPairs, flat_map}
-use Rattle.std.{specs.List.{enumerate_from, range_with_len}, proofs.lemmas.{Bool.{cases_lt, cases_Bool, eqb-true, eqb-false}, List.Quantifiers.all_pairs_push}}
-use Rattle.std.proofs.lemmas.List.{get_or_append_left, get_or_push, length_push, get_or-take, get_or_default, length-take-le, get_or-set_same, get_or-set_other, set-get_or}
+use Rattle.std.{specs.List.{enumerate_from, range_with_len}, proofs.lemmas.{Bool.{cases_Bool, eqb-true, eqb-false}, List.Quantifiers.all_pairs_push}}
+use Rattle.std.proofs.lemmas.List.{length_push, get_or_default, take_more, get_or-set_same, get_or-set_other, set-get_or}
 use Rattle.std.proofs.lemmas.List.FromFn.{length-enumerate_from, get_or-enumerate_from, length-range_with_len, get_or-range_with_len}
 use Rattle.std.proofs.lemmas.List.Elements.{Contains-push, Contains-push_cases, Contains-append_left, Contains-append_right, Contains-get_or, All-push, All-nil, All-cons, All-contains}
 use Rattle.list_laws.proofs.Each.{all_contained}
 use Rattle.cnf_formula.{specs.{Literals.{LitValue, IsLit, code_of}, Formulas.{FormulaValue, IsAbout, IsClause}}, proofs.Codes.{same_code, code_within}}
 use Rattle.proof_rules.{specs.Held.{Entry, clause_at}, proofs.Numbered.start_numbered}
 use Rattle.trail_core.specs.Meaning.{CoreValue}
-use Rattle.sat_core.specs.{inner.{Holding.{IsSame, AreHeld}, Loading.{own_of, IsLoaded}}, Ready.IsReady}
+use Rattle.sat_core.{specs.{inner.{Holding.{IsSame, AreHeld}, Loading.{own_of, IsLoaded}}, Ready.IsReady}, proofs.Members.both_more}
 use Rattle.sleeping_clauses.specs.{Naming.IsListed, Sleeping.no_sleepers, declared.awake.Awake.Awake}
 
 -- ---- a clause with each literal once
@@ -59,16 +59,12 @@ keeping_new passed kept marks mark l k w new lit = record {
   lits = All-push IsLit kept l k.lits lit;
 }
 
-pub keeping_same : (lits kept : List LitValue) (marks : List ℕ) (mark : ℕ) → IsKeeping lits kept marks mark → IsSame lits kept
-keeping_same lits kept marks mark k = record { into = k.into; from = k.from }
-
 -- ---- its literals are about the variables of the core
 
-own_about : (vars : ℕ) (l : LitValue) → IsAbout vars l → IsLit l → IsAbout (own_of vars) l
-own_about vars l a i = record { some = a.some; within = omega (arith, a.within, i.small) }
-
 pub about_own : (vars own : ℕ) (clause : List LitValue) → own ≡ own_of vars → IsClause vars clause → (l : LitValue) → IsLit l → Contains clause l → IsAbout own l
-about_own vars own clause e a l i c = subst (λ n. IsAbout n l) (sym e) (own_about vars l (All-contains (IsAbout vars) clause l a c) i)
+about_own vars own clause e a l i c =
+    let about = All-contains (IsAbout vars) clause l a c in
+    record { some = about.some; within = omega (arith, e, about.within, i.small) }
 
 pub kept_about : (own : ℕ) (clause kept : List LitValue) → ((l : LitValue) → IsLit l → Contains clause l → IsAbout own l) → IsSame clause kept → All IsLit kept → IsClause own kept
 kept_about own clause kept a s i = all_contained (IsAbout own) kept (λ l c. a l (All-contains IsLit kept l i c) (s.from l c))
@@ -92,31 +88,12 @@ codes_within own clauses k clause n a w e len l i c =
 
 -- ---- the clauses, each literal of them once
 
-pub same_itself : (clause : List LitValue) → IsSame clause clause
-same_itself clause = record { into = λ l c. c; from = λ l c. c }
-
-pub loaded_itself : (clauses : List (List LitValue)) → IsLoaded clauses clauses
-loaded_itself clauses = record { count = refl; same = λ k w. same_itself (get_or clauses k []) }
-
 pub loaded_more : (clauses : List (List LitValue)) (k : ℕ) (loaded loaded' : List (List LitValue)) (kept : List LitValue) → IsLoaded (take k clauses) loaded → k < length clauses → IsSame (get_or clauses k []) kept → loaded' ≡ loaded ++ kept ∷ [] → IsLoaded (take (k + 1) clauses) loaded'
 loaded_more clauses k loaded loaded' kept l w s e =
-    let n : length (take k clauses) ≡ k = length-take-le k clauses (omega (arith, w)) in
-    let m : length (take (k + 1) clauses) ≡ k + 1 = length-take-le (k + 1) clauses (omega (arith, w)) in
-    let c : length loaded ≡ k = omega (arith, l.count, n) in
+    let more = take_more clauses k [] w in
     record {
-      count = omega (arith, ap length e, length_push loaded kept, c, m);
-      same = λ i v. ⊎_elim
-          (λ lt.
-          let old : IsSame (get_or (take k clauses) i []) (get_or loaded i []) = l.same i (omega (arith, lt, n)) in
-          let a : get_or (take k clauses) i [] ≡ get_or (take (k + 1) clauses) i [] = get_or-take k clauses i [] lt ∙ sym (get_or-take (k + 1) clauses i [] (omega (arith, lt))) in
-          let b : get_or loaded i [] ≡ get_or loaded' i [] = sym (get_or_append_left loaded (kept ∷ []) [] i (omega (arith, lt, c))) ∙ ap (λ xs. get_or xs i []) (sym e) in
-          subst (IsSame (get_or (take (k + 1) clauses) i [])) b (subst (λ x. IsSame x (get_or loaded i [])) a old))
-          (λ ge.
-          let at : k ≡ i = omega (arith, ge, v, m) in
-          let a : get_or clauses k [] ≡ get_or (take (k + 1) clauses) i [] = ap (λ j. get_or clauses j []) at ∙ sym (get_or-take (k + 1) clauses i [] (omega (arith, at))) in
-          let b : kept ≡ get_or loaded' i [] = sym (get_or_push loaded kept [] i (omega (arith, c, at))) ∙ ap (λ xs. get_or xs i []) (sym e) in
-          subst (IsSame (get_or (take (k + 1) clauses) i [])) b (subst (λ x. IsSame x kept) a s))
-          (cases_lt i k);
+      count = omega (arith, ap length e, length_push loaded kept, ap length more, length_push (take k clauses) (get_or clauses k []), l.count);
+      same = both_more (λ a b. IsSame b a) (λ i. i) loaded loaded' (take k clauses) (take (k + 1) clauses) kept [] (get_or clauses k []) [] e more (λ i v. omega (arith, v, l.count)) (sym l.count) l.same s;
     }
 
 -- ---- the search is ready

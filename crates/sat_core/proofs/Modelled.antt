@@ -1,13 +1,12 @@
 -- Where nothing is left to decide, the values of the variables satisfy the formula.
-use Rattle.std.proofs.Common.{◌≡◌, ◌+◌, ◌-◌, ◌<◌, Bool, true, false, List, [], ◌∷◌, length, get_or, refl, sym, ap, ◌∙◌, subst, ⊎_elim, arith, not, Contains}
-use Rattle.std.proofs.lemmas.{Bool.{cases_Bool, and_from, or_left, or_right}, List.{get_or_default, Elements.{Contains-get_or, All-contains}}}
-use Rattle.list_laws.proofs.Members.{Contains-cons}
-use Rattle.cnf_formula.specs.{Literals.{LitValue, yes, same_sign, value_of, is_true, clause_holds, all_hold}, Lines.ProofLineValue}
+use Rattle.std.proofs.Common.{◌≡◌, ◌+◌, ◌-◌, ◌<◌, Bool, true, false, List, [], length, get_or, refl, sym, ap, ◌∙◌, subst, ⊎_elim, arith, not, Contains}
+use Rattle.std.proofs.lemmas.{Bool.cases_Bool, List.{get_or_default, Elements.{Contains-get_or, All-contains}, Sums.list_all-from_AllPass}}
+use Rattle.list_laws.proofs.Each.{all_contained}
+use Rattle.cnf_formula.specs.{Literals.{LitValue, yes, same_sign, value_of, is_true, clause_holds}, Lines.ProofLineValue}
 use Rattle.cnf_formula.specs.Formulas.{FormulaValue, IsAbout, IsClause, Satisfies}
 use Rattle.trail_core.specs.Meaning.{CoreValue, trues}
-use Rattle.sat_core.{specs.{inner.{Holding.IsSame, Totals.{IsTotal, AreValues}}, Ready.IsReady}, proofs.{Once.consistent_by, Totality.total_satisfied}}
+use Rattle.sat_core.{specs.{inner.{Holding.IsSame, Totals.{IsTotal, AreValues}}, Ready.IsReady}, proofs.{Members.any_by, Once.consistent_by, Totality.total_satisfied}}
 use Rattle.sleeping_clauses.specs.{Sleeping.SleepersValue, declared.awake.Awake.Awake}
-use Rattle.conflict_analysis.proofs.Members.{here, cons_cases}
 
 -- a literal on the trail is true
 stands_true : (core : CoreValue) (values : List Bool) (l : LitValue) → IsTotal core → AreValues (trues core) core.vars values → IsAbout core.vars l → Contains (trues core) l → is_true values l ≡ true
@@ -32,21 +31,10 @@ stands_true core values l t v a c = go l.positive c
         (λ h. ap not (at ∙ h))
         (cases_Bool (get_or values (l.var - 1) false))
 
-any_true : (values : List Bool) (clause : List LitValue) (l : LitValue) → Contains clause l → is_true values l ≡ true → clause_holds values clause ≡ true
-any_true values [] l c h = absurd (omega (arith, c.1))
-any_true values (x ∷ clause) l c h = ⊎_elim
-    (λ e. or_left (is_true values x) (clause_holds values clause) (ap (is_true values) e ∙ h))
-    (λ d. or_right (is_true values x) (clause_holds values clause) (any_true values clause l d h))
-    (cons_cases x clause l c)
-
-all_true : (values : List Bool) (clauses : List (List LitValue)) → ((clause : List LitValue) → Contains clauses clause → clause_holds values clause ≡ true) → all_hold values clauses ≡ true
-all_true values [] h = refl
-all_true values (x ∷ clauses) h = and_from (clause_holds values x) (all_hold values clauses) (h x (here x clauses)) (all_true values clauses (λ clause c. h clause (Contains-cons x clauses clause c)))
-
 pub model_satisfies : (base : FormulaValue) (lines : List ProofLineValue) (core : CoreValue) (awake : Awake) (sleepers : SleepersValue) (values : List Bool) → IsReady base lines core awake sleepers → IsTotal core → length values ≡ base.vars → AreValues (trues core) core.vars values → Satisfies values base
 model_satisfies base lines core awake sleepers values r t n v = record {
   values_are = n;
-  holds = all_true values base.clauses (λ clause c.
+  holds = list_all-from_AllPass (clause_holds values) base.clauses (all_contained (λ clause. clause_holds values clause ≡ true) base.clauses (λ clause c.
       let k = c.0 in
       let is : get_or base.clauses k [] ≡ clause = get_or_default base.clauses k [] clause c.1 ∙ c.2 in
       let other = get_or core.clauses k [] in
@@ -54,5 +42,5 @@ model_satisfies base lines core awake sleepers values r t n v = record {
       let same : IsSame clause other = subst (λ xs. IsSame xs other) is (r.holding.first k c.1) in
       let about = All-contains (IsClause core.vars) core.clauses other t.about stands in
       let s = total_satisfied core t other stands about in
-      any_true values clause s.0 (same.from s.0 s.1) (stands_true core values s.0 t v (All-contains (IsAbout core.vars) other s.0 about s.1) s.2));
+      any_by (is_true values) clause s.0 (same.from s.0 s.1) (stands_true core values s.0 t v (All-contains (IsAbout core.vars) other s.0 about s.1) s.2)));
 }

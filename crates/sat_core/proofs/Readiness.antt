@@ -1,6 +1,6 @@
 -- A line that is accepted and added leaves the search ready.
 use Rattle.std.proofs.Common.{◌≡◌, ℕ, ◌+◌, ◌<◌, ◌≤◌, true, List, [], ◌∷◌, ◌++◌, false, get_or, set, length, refl, sym, ap, ◌∙◌, subst, inl, inr, ⊎_elim, arith, eq-eqb, ◌≢◌, All, AllPairs, Contains, Some, map}
-use Rattle.std.proofs.lemmas.{Bool.{cases_lt, ne_eqb, or_right}, List.{get_or_append_left, get_or_push, length_push}}
+use Rattle.std.proofs.lemmas.{Bool.{ne_eqb, or_right}, List.{get_or_append_left, length_push}}
 use Rattle.std.proofs.lemmas.List.Elements.{Contains-push, Contains-push_cases, Contains-append_left, All-head, All-tail, All-push}
 use Rattle.cnf_formula.specs.{Literals.LitValue, Formulas.FormulaValue, Lines.ProofLineValue, declared.line.LratLine.TheVariants.Addition}
 use Rattle.proof_rules.specs.{declared.verdict.LineVerdict.TheVariants.Accepted as AcceptedVerdict, Held.{Entry, CheckerValue, start_of, clause_at, has_none}}
@@ -9,7 +9,7 @@ use Rattle.proof_rules.proofs.{InTurn.{after_more, implied_more, implied_accepte
 use Rattle.ledger_rules.specs.Logs.{checker_of}
 use Rattle.trail_core.specs.Meaning.{CoreValue}
 use Rattle.sat_core.specs.{inner.Holding.{IsSame, IsHeldAs, AreNamed, AreHeld, IsNext}, Ready.{AreNumbered, AreWritten, IsHolding, IsReady}}
-use Rattle.sat_core.proofs.Asleep.{woken_stays}
+use Rattle.sat_core.proofs.{Asleep.woken_stays, Members.both_more}
 use Rattle.sleeping_clauses.specs.{Naming.IsListed, Sleeping.SleepersValue, declared.awake.Awake.Awake}
 use Rattle.list_laws.proofs.Places.{by_place_push}
 
@@ -20,12 +20,7 @@ fresh_more [] c line a f = (f, tt)
 fresh_more (l ∷ lines) c line a f = (a.0, fresh_more lines (with_line c l) line a.1 f)
 
 numbered_more : (many : ℕ) (lines : List ProofLineValue) (line : ProofLineValue) → AreNumbered many lines → line.id ≡ many + 1 + length lines → AreNumbered many (lines ++ line ∷ [])
-numbered_more many lines line a e k d w = ⊎_elim
-    (λ lt. ap (λ l. l.id) (get_or_append_left lines (line ∷ []) d k lt) ∙ a k d lt)
-    (λ ge.
-    let at : length lines ≡ k = omega (arith, ge, w, length_push lines line) in
-    ap (λ l. l.id) (get_or_push lines line d k at) ∙ e ∙ ap (λ n. many + 1 + n) at)
-    (cases_lt k (length lines))
+numbered_more many lines line a e k d w = by_place_push (λ j l. l.id ≡ many + 1 + j) lines line d (λ j v. a j d v) e k w
 
 -- the last of what is held, where all numbers before it are smaller
 found_last : (held : List Entry) (n : ℕ) (clause : List LitValue) → All (λ entry. entry.0 < n) held → clause_at (held ++ (n, clause) ∷ []) n ≡ Some clause
@@ -44,17 +39,8 @@ kept_as held entry number lits h = (h.0, keeps_append held (entry ∷ []) number
 
 -- a core with one clause more
 pub named_more : (held : List Entry) (names names' : List ℕ) (clauses clauses' : List (List LitValue)) (clause : List LitValue) (number : ℕ) → AreNamed held names clauses → length names ≡ length clauses + 1 → clauses' ≡ clauses ++ clause ∷ [] → names' ≡ names ++ number ∷ [] → IsHeldAs held number clause → AreNamed held names' clauses'
-named_more held names names' clauses clauses' clause number a len cs ns h = λ id w. ⊎_elim
-    (λ v.
-    let c : get_or clauses id [] ≡ get_or clauses' id [] = sym (ap (λ xs. get_or xs id []) cs ∙ get_or_append_left clauses (clause ∷ []) [] id v) in
-    let n : get_or names (id + 1) 0 ≡ get_or names' (id + 1) 0 = sym (ap (λ xs. get_or xs (id + 1) 0) ns ∙ get_or_append_left names (number ∷ []) 0 (id + 1) (omega (arith, v, len))) in
-    subst (IsHeldAs held (get_or names' (id + 1) 0)) c (subst (λ m. IsHeldAs held m (get_or clauses id [])) n (a id v)))
-    (λ v.
-    let at : length clauses ≡ id = omega (arith, v, w, ap length cs, length_push clauses clause) in
-    let c : clause ≡ get_or clauses' id [] = sym (ap (λ xs. get_or xs id []) cs ∙ get_or_push clauses clause [] id at) in
-    let n : number ≡ get_or names' (id + 1) 0 = sym (ap (λ xs. get_or xs (id + 1) 0) ns ∙ get_or_push names number 0 (id + 1) (omega (arith, at, len))) in
-    subst (IsHeldAs held (get_or names' (id + 1) 0)) c (subst (λ m. IsHeldAs held m clause) n h))
-    (cases_lt id (length clauses))
+named_more held names names' clauses clauses' clause number a len cs ns h =
+    both_more (IsHeldAs held) (λ id. id + 1) names names' clauses clauses' number 0 clause [] ns cs (λ id v. omega (arith, v, len)) (sym len) a h
 
 pub listed_more : (clauses clauses' : List (List LitValue)) (clause : List LitValue) (awake awake' : Awake) (id number : ℕ) → IsListed clauses awake → clauses' ≡ clauses ++ clause ∷ [] → id ≡ length clauses → awake'.ids.items ≡ awake.ids.items ++ id ∷ [] → awake'.names.items ≡ awake.names.items ++ number ∷ [] → AllPairs (λ a b. a ≢ b) clause
     → IsListed clauses' awake'
@@ -62,12 +48,7 @@ listed_more clauses clauses' clause awake awake' id number l cs at ids names onc
     let n : length clauses' ≡ length clauses + 1 = ap length cs ∙ length_push clauses clause in
     record {
       ids_len = omega (arith, n, ap length ids, length_push awake.ids.items id, l.ids_len);
-      ids = λ k w. ⊎_elim
-          (λ v. ap (λ xs. get_or xs k 0) ids ∙ get_or_append_left awake.ids.items (id ∷ []) 0 k (omega (arith, v, l.ids_len)) ∙ l.ids k v)
-          (λ v.
-          let e : length clauses ≡ k = omega (arith, v, w, n) in
-          ap (λ xs. get_or xs k 0) ids ∙ get_or_push awake.ids.items id 0 k (l.ids_len ∙ e) ∙ at ∙ e)
-          (cases_lt k (length clauses));
+      ids = λ k w. ap (λ xs. get_or xs k 0) ids ∙ by_place_push (λ j i. i ≡ j) awake.ids.items id 0 (λ j v. l.ids j (omega (arith, v, l.ids_len))) (at ∙ sym l.ids_len) k (omega (arith, w, n, l.ids_len, length_push awake.ids.items id));
       names = omega (arith, n, ap length names, length_push awake.names.items number, l.names);
       once = λ k w. subst (λ xs. AllPairs (λ a b. a ≢ b) (get_or xs k [])) (sym cs) (by_place_push (λ j c. AllPairs (λ a b. a ≢ b) c) clauses clause [] l.once once k (subst (λ xs. k < length xs) cs w));
     }
@@ -82,10 +63,6 @@ held_more held names names' clauses clauses' s clause number a below len cs ns =
       (λ e. (clause, inl (subst (λ xs. Contains xs clause) (sym cs) (Contains-push clauses clause)), subst (λ x. IsSame x clause) (ap (λ y. y.1) e) (record { into = λ l d. d; from = λ l d. d })))
       (Contains-push_cases held (number, clause) entry c);
 }
-
--- the first clauses stay where one comes after them
-first_more : (bases clauses clauses' : List (List LitValue)) (clause : List LitValue) → length bases ≤ length clauses → ((k : ℕ) → k < length bases → IsSame (get_or bases k []) (get_or clauses k [])) → clauses' ≡ clauses ++ clause ∷ [] → (k : ℕ) → k < length bases → IsSame (get_or bases k []) (get_or clauses' k [])
-first_more bases clauses clauses' clause many f cs k w = subst (IsSame (get_or bases k [])) (sym (ap (λ xs. get_or xs k []) cs ∙ get_or_append_left clauses (clause ∷ []) [] k (omega (arith, w, many)))) (f k w)
 
 -- what a search has after a line: one clause more, under its number
 pub record IsGrown (core core' : CoreValue) (awake awake' : Awake) (line : ProofLineValue) : Type 0 where
@@ -108,7 +85,7 @@ holding_more base c core core' awake awake' s line h l e g =
       many = omega (arith, h.many, g.held);
       own = g.formula ∙ h.own;
       within = omega (arith, h.within, n);
-      first = first_more base.clauses core.clauses core'.clauses line.lits h.within h.first g.clauses;
+      first = λ k w. subst (IsSame (get_or base.clauses k [])) (sym (ap (λ xs. get_or xs k []) g.clauses ∙ get_or_append_left core.clauses (line.lits ∷ []) [] k (omega (arith, w, h.within)))) (h.first k w);
     }
 
 -- ---- ready
@@ -163,19 +140,13 @@ ready_moved base lines core core' awake awake' s s' r vars formula held are many
     }
 
 -- other steps leave the search ready
-pub ready_same : (base : FormulaValue) (lines : List ProofLineValue) (core core' : CoreValue) (awake : Awake) (s : SleepersValue) → IsReady base lines core awake s → core'.vars ≡ core.vars → core'.clauses ≡ core.clauses → IsReady base lines core' awake s
-ready_same base lines core core' awake s r vars clauses =
-    ready_moved base lines core core' awake awake s s r vars refl refl
-    (subst (λ cs. AreHeld (checker_of base lines).held awake.names.items cs s) (sym clauses) r.holding.agree.held)
+pub ready_same : (base : FormulaValue) (lines : List ProofLineValue) (core core' : CoreValue) (awake awake' : Awake) (s : SleepersValue) → IsReady base lines core awake s → core'.vars ≡ core.vars → core'.clauses ≡ core.clauses → awake'.names ≡ awake.names → awake'.formula ≡ awake.formula → awake'.held ≡ awake.held → IsReady base lines core' awake' s
+ready_same base lines core core' awake awake' s r vars clauses names formula held =
+    let h = (checker_of base lines).held in
+    ready_moved base lines core core' awake awake' s s r vars formula held
+    (subst (λ cs. AreHeld h awake'.names.items cs s) (sym clauses) (subst (λ v. AreHeld h v.items core.clauses s) (sym names) r.holding.agree.held))
     (omega (arith, r.holding.within, ap length clauses))
     (λ k w. ap (λ cs. get_or cs k []) clauses)
-
-pub ready_used : (base : FormulaValue) (lines : List ProofLineValue) (core : CoreValue) (awake awake' : Awake) (s : SleepersValue) → IsReady base lines core awake s → awake'.names ≡ awake.names → awake'.formula ≡ awake.formula → awake'.held ≡ awake.held → IsReady base lines core awake' s
-ready_used base lines core awake awake' s r names formula held =
-    ready_moved base lines core core awake awake' s s r refl formula held
-    (subst (λ v. AreHeld (checker_of base lines).held v.items core.clauses s) (sym names) r.holding.agree.held)
-    r.holding.within
-    (λ k w. refl)
 
 -- ---- a clause that slept is woken
 

@@ -55,11 +55,8 @@ no_conflict held trues a (hint ∷ next ∷ hints) falses fal c =
 pub no_closing : (c : CheckerValue) (trues : List LitValue) → AllRest c.held trues → (line : ProofLineValue) → line.lits ≡ [] → verdict_of c line ≡ AcceptedVerdict true → ⊥
 no_closing c trues a line e v =
     no_conflict c.held trues a (leading line.hints) line.lits
-    (λ o h. absurd (nothing line.lits o e h))
+    (λ o h. absurd (omega (arith, h.1, ap length e)))
     (implied_by c line v).conflict
-  where
-    nothing : (xs : List LitValue) (o : LitValue) → xs ≡ [] → Contains xs o → ⊥
-    nothing xs o e c = omega (arith, c.1, ap length e)
 
 is_that : (clause other : List LitValue) → Contains (clause ∷ []) other → clause ≡ other
 is_that clause other h = ⊎_elim (λ e. e) (λ n. absurd (omega (arith, n.1))) (cons_cases clause [] other h)

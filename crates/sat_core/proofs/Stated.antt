@@ -1,17 +1,17 @@
 -- The line of a literal of level 0, over plain values: it is accepted, short and fresh.
-use Rattle.std.proofs.Common.{◌≡◌, ℕ, ◌+◌, ◌<◌, ◌≤◌, true, false, Bool, List, [], ◌∷◌, ◌++◌, length, get_or, set, take, refl, sym, ap, ◌∙◌, subst, ⊎_elim, arith, ◌≢◌, All, AllPairs, Contains, None, map}
-use Rattle.std.proofs.lemmas.{Bool.{cases_lt, cases_eq, false≢true}, List.{Elements.{All-contains, Contains-push_cases}, Quantifiers.all_pairs_push}}
-use Rattle.std.proofs.lemmas.List.{length-take-le, length_push, length-set, map-append, take-map, get_or-take, get_or-set_same, get_or-set_other, get_or_default, get_or_past}
+use Rattle.std.proofs.Common.{◌≡◌, ℕ, ◌+◌, ◌<◌, ◌≤◌, true, false, Bool, List, [], ◌∷◌, ◌++◌, length, get_or, take, refl, sym, ap, ◌∙◌, subst, ⊎_elim, arith, ◌≢◌, All, AllPairs, Contains, None}
+use Rattle.std.proofs.lemmas.{Bool.false≢true, List.{Elements.{All-push, All-take, Contains-push_cases}, Quantifiers.all_pairs_push}}
+use Rattle.std.proofs.lemmas.List.{length-take-le, length_push, map-append, take-map, get_or-take, get_or_default}
 use Rattle.list_laws.proofs.Each.{all_contained}
 use Rattle.cnf_formula.specs.{Formulas.{FormulaValue, IsAbout}, Literals.{LitValue, negation, code_of}, Lines.ProofLineValue}
 use Rattle.proof_rules.specs.{declared.verdict.LineVerdict.TheVariants.Accepted, Judging.verdict_of, Refuting.is_fresh}
 use Rattle.ledger_rules.specs.Logs.{checker_of}
 use Rattle.trail_core.{specs.{Trails.lits_of, Formed.IsTrail, Meaning.{CoreValue, trues}}, proofs.Keeping.lits_length}
-use Rattle.conflict_analysis.specs.{Met.lit_at, Learning.hints_to, UnitLines.{denied, IsUnitLine}}
+use Rattle.conflict_analysis.specs.{Met.lit_at, UnitLines.{denied, IsUnitLine}}
 use Rattle.conflict_analysis.proofs.{Marked.{lit_read, lit_about, same_place}, Members.{here, cons_cases}}
-use Rattle.sleeping_clauses.specs.{Naming.{name, IsName, IsNamed}, Sleeping.{SleepersValue, HasNone}, declared.awake.Awake.Awake}
-use Rattle.sat_core.specs.{inner.{Holding.Agree, Stating.{AreStated, IsStating}}, Ready.{AreWritten, IsReady}}
-use Rattle.sat_core.proofs.{AtConflict.analysis_accepted, Hinted.{few_named, hints_names}, Fresh.fresh_by, Readiness.{next_number, written_more}}
+use Rattle.sleeping_clauses.specs.{Naming.{IsNamed}, Sleeping.{SleepersValue, HasNone}, declared.awake.Awake.Awake}
+use Rattle.sat_core.specs.{inner.Stating.{AreStated, IsStating}, Ready.IsReady}
+use Rattle.sat_core.proofs.{AtConflict.{line_accepted, line_short}, Fresh.fresh_by, Readiness.{next_number, written_more}}
 
 -- the core with the trail below a place, and then the negation of its literal
 abbrev denied_core : CoreValue → ℕ → CoreValue
@@ -26,22 +26,12 @@ denied_few core place w =
     let m = length_push (take place core.trail) (record { lit = negation (lit_at core place); reason = None }) in
     omega (arith, n, m)
 
--- a literal before the place is one of the trail
-in_trail : (core : CoreValue) (place : ℕ) (o : LitValue) → Contains (take place (trues core)) o → place < length core.trail → Contains (trues core) o
-in_trail core place o c w =
-    let n = length-take-le place (trues core) (omega (arith, w, lits_length core.trail)) in
-    let lt : c.0 < place = omega (arith, c.1, n) in
-    (c.0, omega (arith, lt, w, lits_length core.trail), sym (get_or-take place (trues core) c.0 o lt) ∙ c.2)
-
 denied_formed : (core : CoreValue) (place : ℕ) → IsTrail core.vars core.trail core.limits → place < length core.trail → IsTrail core.vars (denied core place) []
 denied_formed core place t w =
     let few = denied_few core place w in
     let about = lit_about core place t w in
     record {
-      within = all_contained (IsAbout core.vars) (lits_of (denied core place)) (λ o c. ⊎_elim
-          (λ h. All-contains (IsAbout core.vars) (trues core) o t.within (in_trail core place o h w))
-          (λ e. subst (IsAbout core.vars) e (record { some = about.some; within = about.within }))
-          (Contains-push_cases (take place (trues core)) (negation (lit_at core place)) o (subst (λ xs. Contains xs o) (denied_lits core place) c)));
+      within = subst (All (IsAbout core.vars)) (sym (denied_lits core place)) (All-push (IsAbout core.vars) (take place (trues core)) (negation (lit_at core place)) (All-take (IsAbout core.vars) place (trues core) t.within) (record { some = about.some; within = about.within }));
       apart = subst (AllPairs (λ a b. a.var ≢ b.var)) (sym (denied_lits core place)) (all_pairs_push (λ a b. a.var ≢ b.var) (take place (trues core)) (negation (lit_at core place)) front last);
       few = omega (arith, few, w, t.few);
       levels = record { rising = λ i j lt v. absurd (omega (arith, v)); below = λ i v. absurd (omega (arith, v)) };
@@ -64,11 +54,8 @@ denied_formed core place t w =
         let same = same_place core k place t u w (ap (λ y. y.var) (sym at) ∙ e) in
         omega (arith, same, lt)
 
-one_apart : (l : LitValue) → AllPairs (λ a b. a.var ≢ b.var) (l ∷ [])
-one_apart l i j d lt v e = absurd (omega (arith, lt, v))
-
-one_differs : (l : LitValue) → AllPairs (λ a b. a ≢ b) (l ∷ [])
-one_differs l i j d lt v e = absurd (omega (arith, lt, v))
+one_alone : (R : LitValue → LitValue → Type 0) (l : LitValue) → AllPairs R (l ∷ [])
+one_alone R l i j d lt v = absurd (omega (arith, lt, v))
 
 -- ---- the line
 
@@ -80,41 +67,28 @@ pub record HasUnitLine (base : FormulaValue) (lines : List ProofLineValue) (core
   pub is : IsUnitLine core place unit
   pub named : IsNamed awake.names.items awake.held unit line
 
-stating_lits : (base : FormulaValue) (lines : List ProofLineValue) (core : CoreValue) (awake : Awake) (s : SleepersValue) (place : ℕ) (unit line : ProofLineValue) → HasUnitLine base lines core awake s place unit line → line.lits ≡ lit_at core place ∷ []
-stating_lits base lines core awake s place unit line t = t.named.lits ∙ t.is.lits
+module _ {base : FormulaValue} {lines : List ProofLineValue} {core : CoreValue} {awake : Awake} {s : SleepersValue} {place : ℕ} {unit line : ProofLineValue} (t : HasUnitLine base lines core awake s place unit line) where
+  stating_lits : line.lits ≡ lit_at core place ∷ []
+  stating_lits = t.named.lits ∙ t.is.lits
 
-stating_accepted : (base : FormulaValue) (lines : List ProofLineValue) (core : CoreValue) (awake : Awake) (s : SleepersValue) (place : ℕ) (unit line : ProofLineValue) → HasUnitLine base lines core awake s place unit line → verdict_of (checker_of base lines) line ≡ Accepted true
-stating_accepted base lines core awake s place unit line t =
-    let c = checker_of base lines in
-    let a = t.ready.holding.agree in
-    let hints : line.hints ≡ map (name awake.names.items) (hints_to t.is.resolved (denied core place) t.is.conflict) = t.named.hints ∙ ap (map (name awake.names.items)) t.is.hints in
-    let agree : Agree c (denied_core core place) awake.names.items s = record { vars = a.vars; held = a.held } in
-    ap (λ hs. verdict_of c (record { id = line.id; lits = line.lits; hints = hs })) hints
-    ∙ ap (λ ls. verdict_of c (record { id = line.id; lits = ls; hints = map (name awake.names.items) (hints_to t.is.resolved (denied core place) t.is.conflict) })) t.named.lits
-    ∙ analysis_accepted c (denied_core core place) awake.names.items s t.is.resolved t.is.conflict unit.lits line.id agree (denied_formed core place t.formed t.within) t.is.analysis (subst (AllPairs (λ a b. a.var ≢ b.var)) (sym t.is.lits) (one_apart (lit_at core place))) (next_number base lines core awake s line.id t.ready t.named.id)
+  stating_accepted : verdict_of (checker_of base lines) line ≡ Accepted true
+  stating_accepted =
+      let a = t.ready.holding.agree in
+      line_accepted (checker_of base lines) (denied_core core place) awake.names.items awake.held s t.is.resolved t.is.conflict unit line (record { vars = a.vars; held = a.held }) (denied_formed core place t.formed t.within) t.is.analysis (subst (AllPairs (λ a b. a.var ≢ b.var)) (sym t.is.lits) (one_alone (λ a b. a.var ≢ b.var) (lit_at core place))) t.is.hints t.named
+      (next_number base lines core awake s line.id t.ready t.named.id)
 
-stating_short : (base : FormulaValue) (lines : List ProofLineValue) (core : CoreValue) (awake : Awake) (s : SleepersValue) (place : ℕ) (unit line : ProofLineValue) → HasUnitLine base lines core awake s place unit line → length line.hints ≤ base.vars + 1
-stating_short base lines core awake s place unit line t =
-    let few = few_named awake.names.items t.is.resolved (denied core place) t.is.conflict in
-    let n = denied_few core place t.within in
-    omega (arith, few, n, ap length (t.named.hints ∙ ap (map (name awake.names.items)) t.is.hints), t.within, t.formed.few, t.ready.holding.agree.vars, ap (λ f. f.vars) t.ready.holding.formula)
+  stating_short : length line.hints ≤ base.vars + 1
+  stating_short =
+      let short = line_short (denied_core core place) awake.names.items awake.held t.is.resolved t.is.conflict unit line t.is.hints t.named in
+      omega (arith, short, denied_few core place t.within, t.within, t.formed.few, t.ready.holding.agree.vars, ap (λ f. f.vars) t.ready.holding.formula)
 
-stating_written : (base : FormulaValue) (lines : List ProofLineValue) (core : CoreValue) (awake : Awake) (s : SleepersValue) (place : ℕ) (unit line : ProofLineValue) → HasUnitLine base lines core awake s place unit line → AreWritten base (lines ++ line ∷ [])
-stating_written base lines core awake s place unit line t =
-    written_more base lines core awake s line t.ready (stating_accepted base lines core awake s place unit line t) t.named.id (stating_short base lines core awake s place unit line t)
-
--- no clause of the core has the literal alone, and none that sleeps has
-stating_fresh : (base : FormulaValue) (lines : List ProofLineValue) (core : CoreValue) (awake : Awake) (s : SleepersValue) (place : ℕ) (unit line : ProofLineValue) (stated : List Bool) → HasUnitLine base lines core awake s place unit line → AreStated core.clauses stated → get_or stated (code_of (lit_at core place)) true ≡ false → HasNone s line.lits → is_fresh (checker_of base lines) line.lits ≡ true
-stating_fresh base lines core awake s place unit line stated t are new none =
-    let l = lit_at core place in
-    let e = stating_lits base lines core awake s place unit line t in
-    subst (λ ls. is_fresh (checker_of base lines) ls ≡ true) (sym e)
-    (fresh_by (checker_of base lines) core.clauses s (l ∷ []) l t.ready.holding.agree.held.only (subst (HasNone s) e none) (here l [])
-    (λ other w sub. are other l w new (λ o h. ⊎_elim (λ q. sym q) (λ c. absurd (omega (arith, c.1))) (cons_cases l [] o (sub o h)))))
-
-pub stating_names : (core : CoreValue) (place : ℕ) (unit : ProofLineValue) (names : ℕ) → IsUnitLine core place unit → names ≡ length core.clauses + 1 → All (IsName names) unit.hints
-stating_names core place unit names t e =
-    subst (λ n. All (IsName n) unit.hints) (sym e) (subst (All (IsName (length core.clauses + 1))) (sym t.hints) (hints_names core.clauses (denied core place) t.resolved t.conflict unit.lits t.analysis))
+  -- no clause of the core has the literal alone, and none that sleeps has
+  stating_fresh : (stated : List Bool) → AreStated core.clauses stated → get_or stated (code_of (lit_at core place)) true ≡ false → HasNone s line.lits → is_fresh (checker_of base lines) line.lits ≡ true
+  stating_fresh stated are new none =
+      let l = lit_at core place in
+      subst (λ ls. is_fresh (checker_of base lines) ls ≡ true) (sym stating_lits)
+      (fresh_by (checker_of base lines) core.clauses s (l ∷ []) l t.ready.holding.agree.held.only (subst (HasNone s) stating_lits none) (here l [])
+      (λ other w sub. are other l w new (λ o h. ⊎_elim (λ q. sym q) (λ c. absurd (omega (arith, c.1))) (cons_cases l [] o (sub o h)))))
 
 pub stating_about : (core : CoreValue) (place vars : ℕ) (lits : List LitValue) → IsTrail core.vars core.trail core.limits → place < length core.trail → vars ≡ core.vars → lits ≡ lit_at core place ∷ [] → All (IsAbout vars) lits
 stating_about core place vars lits t w v e =
@@ -138,31 +112,16 @@ stated_more clauses lits stated stated' are on this clause l c new alone = ⊎_e
 
 pub stating_is : (base : FormulaValue) (lines : List ProofLineValue) (core : CoreValue) (awake awake' : Awake) (s : SleepersValue) (place : ℕ) (unit line : ProofLineValue) (stated : List Bool) → HasUnitLine base lines core awake s place unit line → awake'.held ≡ awake.held → AreStated core.clauses stated → get_or stated (code_of (lit_at core place)) true ≡ false → HasNone s line.lits
     → IsStating base lines core awake' line
-stating_is base lines core awake awake' s place unit line stated t held are new none =
-    let lits = stating_lits base lines core awake s place unit line t in
-    record {
-      accepted = stating_accepted base lines core awake s place unit line t;
-      fresh = stating_fresh base lines core awake s place unit line stated t are new none;
-      written = stating_written base lines core awake s place unit line t;
-      next = t.named.id ∙ ap (λ n. n + 1) (sym held);
-      about = stating_about core place core.vars line.lits t.formed t.within refl lits;
-      once = subst (AllPairs (λ a b. a ≢ b)) (sym lits) (one_differs (lit_at core place));
-    }
-
-pub written_is : (base base' : FormulaValue) (lines lines' : List ProofLineValue) (line : ProofLineValue) → AreWritten base (lines ++ line ∷ []) → base' ≡ base → lines' ≡ lines ++ line ∷ [] → AreWritten base' lines'
-written_is base base' lines lines' line w b l = subst (λ x. AreWritten x lines') (sym b) (subst (AreWritten base) (sym l) w)
+stating_is base lines core awake awake' s place unit line stated t held are new none = record {
+  accepted = stating_accepted t;
+  fresh = stating_fresh t stated are new none;
+  written = written_more base lines core awake s line t.ready (stating_accepted t) t.named.id (stating_short t);
+  next = t.named.id ∙ ap (λ n. n + 1) (sym held);
+  about = stating_about core place core.vars line.lits t.formed t.within refl (stating_lits t);
+  once = subst (AllPairs (λ a b. a ≢ b)) (sym (stating_lits t)) (one_alone (λ a b. a ≢ b) (lit_at core place));
+}
 
 -- ---- how a clause marks
-
--- a mark that is set takes none away
-pub mark_set : (stated : List Bool) (i k : ℕ) → get_or (set stated i true) k true ≡ false → get_or stated k true ≡ false
-mark_set stated i k e = ⊎_elim
-    (λ s. ⊎_elim
-    (λ w. absurd (false≢true (sym e ∙ ap (λ j. get_or (set stated i true) j true) s ∙ get_or-set_same stated i true true w)))
-    (λ o. absurd (false≢true (sym e ∙ get_or_past (set stated i true) k true (omega (arith, o, s, length-set stated i true)))))
-    (cases_lt i (length stated)))
-    (λ n. sym (get_or-set_other stated i k true true n) ∙ e)
-    (cases_eq k i)
 
 pub stated_one : (stated : List Bool) (lit : LitValue) → get_or stated (code_of lit) true ≡ true → AreStated ((lit ∷ []) ∷ []) stated
 stated_one stated lit is clause l c new alone = ⊎_elim

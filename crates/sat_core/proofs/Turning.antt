@@ -1,30 +1,26 @@
 -- A turn at a conflict, over plain values.
-use Rattle.std.proofs.Common.{◌≡◌, ℕ, Bool, eqb, ◌+◌, ◌-◌, ◌<◌, ◌≤◌, true, List, [], ◌∷◌, ◌++◌, length, get_or, take, sym, ap, ◌∙◌, subst, ⊎_elim, arith, map, false, Contains}
+use Rattle.std.proofs.Common.{◌≡◌, ℕ, Bool, eqb, ◌+◌, ◌-◌, ◌<◌, ◌≤◌, true, List, [], ◌∷◌, ◌++◌, length, get_or, take, sym, ap, ◌∙◌, subst, ⊎_elim, arith, map, false, Contains, AllPairs, ◌≢◌}
 use Rattle.std.proofs.lemmas.Bool.{cases_lt, eqb-false}
 use Rattle.cnf_formula.specs.{Formulas.{FormulaValue, IsClause}, Literals.LitValue, Lines.ProofLineValue, declared.line.LratLine.TheVariants.Addition}
 use Rattle.proof_rules.specs.{declared.verdict.LineVerdict.TheVariants.Accepted, Held.CheckerValue, Judging.verdict_of, Refuting.{is_fresh, Refutes}}
 use Rattle.ledger_rules.specs.Logs.{checker_of}
 use Rattle.trail_core.specs.Meaning.{CoreValue, trues, IsClosed}
-use Rattle.conflict_analysis.specs.{Conflicts.IsConflict, Learned.IsLearned, Learning.hints_to, Met.IsRested}
+use Rattle.conflict_analysis.specs.{Conflicts.IsConflict, Learned.IsLearned, Met.IsRested}
 use Rattle.sat_core.specs.{inner.{Holding.{Agree, IsNext}, Turning.IsTurn, Jumping.IsBacked, Guided.IsGuided}, declared.guide.Guide.Guide}
-use Rattle.sat_core.specs.Ready.{AreWritten, IsReady, IsOver}
-use Rattle.sat_core.proofs.{AtConflict.{analysis_accepted, no_line_closes}, Hinted.few_named, Fresh.unit_is_fresh}
-use Rattle.sat_core.proofs.Readiness.{IsGrown, next_number, written_more, ready_more, refuted_by, listed_more}
-use Rattle.sat_core.proofs.Jumping.{pointed_unit, learned_backed, backed_within, backed_differ}
-use Rattle.sleeping_clauses.specs.{Naming.{name, IsNamed, IsListed}, Sleeping.{SleepersValue, IsAsleep, HasNone, AreFew}, declared.awake.Awake.Awake}
+use Rattle.sat_core.specs.Ready.{AreWritten, IsOver}
+use Rattle.sat_core.proofs.{AtConflict.{line_accepted, line_short, no_line_closes}, Fresh.unit_is_fresh}
+use Rattle.sat_core.proofs.Readiness.{IsGrown, next_number, written_more, refuted_by, listed_more}
+use Rattle.sat_core.proofs.Jumping.{pointed_unit, learned_backed, backed_within}
+use Rattle.sleeping_clauses.specs.{Naming.{IsNamed, IsListed}, Sleeping.{SleepersValue, IsAsleep, HasNone, AreFew}, declared.awake.Awake.Awake}
 
 -- what is learned is accepted, short, and fresh above level 0
 pub learned_accepted : (c : CheckerValue) (core : CoreValue) (names : List ℕ) (held : ℕ) (s : SleepersValue) (conflict : ℕ) (learned line : ProofLineValue) → Agree c core names s → IsConflict core conflict → IsLearned core conflict learned → IsNamed names held learned line → IsNext c line.id → verdict_of c line ≡ Accepted true
-learned_accepted c core names held s conflict learned line a k l d n =
-    let hints : line.hints ≡ map (name names) (hints_to l.resolved core.trail conflict) = d.hints ∙ ap (map (name names)) l.hints in
-    ap (λ hs. verdict_of c (record { id = line.id; lits = line.lits; hints = hs })) hints
-    ∙ ap (λ ls. verdict_of c (record { id = line.id; lits = ls; hints = map (name names) (hints_to l.resolved core.trail conflict) })) d.lits
-    ∙ analysis_accepted c core names s l.resolved conflict learned.lits line.id a k.formed l.analysis l.once n
+learned_accepted c core names held s conflict learned line a k l d n = line_accepted c core names held s l.resolved conflict learned line a k.formed l.analysis l.once l.hints d n
 
 pub learned_short : (core : CoreValue) (names : List ℕ) (held conflict : ℕ) (learned line : ProofLineValue) → IsConflict core conflict → IsLearned core conflict learned → IsNamed names held learned line → length line.hints ≤ core.vars + 1
 learned_short core names held conflict learned line k l d =
-    let few = few_named names l.resolved core.trail conflict in
-    omega (arith, few, ap length (d.hints ∙ ap (map (name names)) l.hints), k.formed.few)
+    let short = line_short core names held l.resolved conflict learned line l.hints d in
+    omega (arith, short, k.formed.few)
 
 pub learned_fresh : (c : CheckerValue) (core : CoreValue) (names : List ℕ) (s : SleepersValue) (conflict : ℕ) (learned : ProofLineValue) → Agree c core names s → HasNone s learned.lits → IsConflict core conflict → 0 < length core.limits → IsLearned core conflict learned → is_fresh c learned.lits ≡ true
 learned_fresh c core names s conflict learned a none k above l =
@@ -75,11 +71,8 @@ module _ {base : FormulaValue} {lines : List ProofLineValue} {core : CoreValue} 
 pub none_by : (s : SleepersValue) (clause : List LitValue) → ((place : ℕ) → place < length s.clauses → get_or s.asleep place false ≡ true → ((l : LitValue) → Contains (get_or s.clauses place []) l → Contains clause l) → ⊥) → HasNone s clause
 none_by s clause none = λ other a sub. none a.0 a.1.within a.1.asleep (λ l c. sub l (subst (λ xs. Contains xs l) a.2 c))
 
-pub positive : (n : ℕ) → (n ≡ 0 → ⊥) → 0 < n
-positive n h = ⊎_elim (λ w. w) (λ z. absurd (h (omega (arith, z)))) (cases_lt 0 n)
-
 pub not_empty : {n : ℕ} {empty : Bool} (lits : List LitValue) → empty ≡ eqb n 0 → empty ≡ false → n ≡ length lits → 0 < length lits
-not_empty {n} lits is full len = positive (length lits) (λ e. eqb-false n 0 (sym is ∙ full) (omega (arith, e, len)))
+not_empty {n} lits is full len = ⊎_elim (λ w. w) (λ z. absurd (eqb-false n 0 (sym is ∙ full) (omega (arith, z, len)))) (cases_lt 0 (length lits))
 
 -- ---- what is kept beside the core
 
@@ -95,14 +88,9 @@ guided_more core core' guide r d p listed sleepers few vars = record {
 
 -- ---- after a line was learned
 
-pub grown_guided : (core core' : CoreValue) (guide guide' : Guide) (line : ProofLineValue) (id : ℕ) → IsGuided core guide → IsBacked core line.lits → IsGrown core core' guide.awake guide'.awake line → id ≡ length core.clauses → guide'.awake.ids.items ≡ guide.awake.ids.items ++ id ∷ [] → guide'.walk ≡ guide.walk → guide'.decider ≡ guide.decider → guide'.probes ≡ guide.probes → guide'.sleepers ≡ guide.sleepers
+pub grown_guided : (core core' : CoreValue) (guide guide' : Guide) (line : ProofLineValue) (id : ℕ) → IsGuided core guide → AllPairs (λ a b. a ≢ b) line.lits → IsGrown core core' guide.awake guide'.awake line → id ≡ length core.clauses → guide'.awake.ids.items ≡ guide.awake.ids.items ++ id ∷ [] → guide'.walk ≡ guide.walk → guide'.decider ≡ guide.decider → guide'.probes ≡ guide.probes → guide'.sleepers ≡ guide.sleepers
     → IsGuided core' guide'
-grown_guided core core' guide guide' line id g b w at ids walk decider probes sleepers =
+grown_guided core core' guide guide' line id g once w at ids walk decider probes sleepers =
     guided_more core core' guide' (subst (λ x. IsRested core.vars x.stamp x.marks.items) (sym walk) g.rested) (decider ∙ g.decider) (probes ∙ g.probes)
-    (listed_more core.clauses core'.clauses line.lits guide.awake guide'.awake id (guide.awake.held + 1) g.listed w.clauses at ids w.names (backed_differ core line.lits b))
+    (listed_more core.clauses core'.clauses line.lits guide.awake guide'.awake id (guide.awake.held + 1) g.listed w.clauses at ids w.names once)
     (ap (λ s. s.vars) sleepers ∙ g.sleepers) (subst AreFew (sym sleepers) g.few) w.vars
-
-pub grown_ready : (base : FormulaValue) (lines : List ProofLineValue) (core core' : CoreValue) (guide : Guide) (awake' : Awake) (sleepers' : SleepersValue) (line : ProofLineValue) → IsReady base lines core guide.awake guide.sleepers → IsGuided core guide → AreWritten base (lines ++ line ∷ []) → is_fresh (checker_of base lines) line.lits ≡ true → line.id ≡ guide.awake.held + 1 → IsGrown core core' guide.awake awake' line → sleepers' ≡ guide.sleepers
-    → IsReady base (lines ++ line ∷ []) core' awake' sleepers'
-grown_ready base lines core core' guide awake' sleepers' line r g w f e more same =
-    subst (IsReady base (lines ++ line ∷ []) core' awake') (sym same) (ready_more base lines core core' guide.awake awake' guide.sleepers line r g.listed w f e more)

@@ -225,14 +225,6 @@ impl Sleepers {
         self.clauses.vars()
     }
 
-    /// Whether none sleeps.
-    pub fn is_empty(&self) -> bool
-        ensures none { result ≡ true → sleeping self.now ≡ 0 }
-        ensures some { result ≡ false → 0 < sleeping self.now }
-    {
-        self.count == 0
-    }
-
     /// Whether the clause at a place sleeps.
     pub fn is_asleep(&self, place: usize) -> bool
         requires { place < length self.now.clauses }

@@ -16,65 +16,35 @@ bounds-lits-lits c =
     let lits = c.args.lits.now in
     let some = backed_some core lits c.requires.backed in omega (arith, some)
 
-pub learn-requires-clause-within : goal.learn-requires-clause-within
-learn-requires-clause-within c =
+pub learn-requires : goal.learn-requires
+learn-requires c =
     let core = c.args.core.now in
     let lits = c.args.lits.now in
     let level = c.args.level in
-    let b : c.back_to.new.self ≡ gone_back core level = c.back_to.ensures.back c.requires.above in
-    subst (λ x. All (IsAbout x.vars) lits) (sym b) (backed_within core lits c.requires.formed c.requires.backed)
-
-pub learn-requires-clause-once : goal.learn-requires-clause-once
-learn-requires-clause-once c =
-    let core = c.args.core.now in
-    let lits = c.args.lits.now in
-    backed_differ core lits c.requires.backed
-
-pub learn-requires-clause-place : goal.learn-requires-clause-place
-learn-requires-clause-place c =
-    let core = c.args.core.now in
-    let lits = c.args.lits.now in
-    let level = c.args.level in
-    let j : IsJump core lits level = record { formed = c.requires.formed; backed = c.requires.backed; above = c.requires.above; top = c.requires.top; attained = c.requires.attained } in
-    let b : c.back_to.new.self ≡ gone_back core level = c.back_to.ensures.back c.requires.above in
-    subst (λ x. CanAdd x lits) (sym b) (jump_can core lits level j)
-
-pub learn-requires-clause-alone : goal.learn-requires-clause-alone
-learn-requires-clause-alone c =
-    let core = c.args.core.now in
-    let lits = c.args.lits.now in
-    let level = c.args.level in
-    let j : IsJump core lits level = record { formed = c.requires.formed; backed = c.requires.backed; above = c.requires.above; top = c.requires.top; attained = c.requires.attained } in
-    let b : c.back_to.new.self ≡ gone_back core level = c.back_to.ensures.back c.requires.above in
-    let some = backed_some core lits c.requires.backed in
+    let backed = c.requires.backed in
+    let p = backed.pointed in
+    let j : IsJump core lits level = record { formed = c.requires.formed; backed = backed; above = c.requires.above; top = c.requires.top; attained = c.requires.attained } in
+    let b : gone_back core level ≡ c.back_to.new.self = sym (c.back_to.ensures.back c.requires.above) in
+    let some = backed_some core lits backed in
     let x : LitValue = c.index-lits-lits.result in
-    let p = c.requires.backed.pointed in
     let at : x ≡ p.point = c.index-lits-lits.is ∙ last_is p.front lits p.point x (length lits - 1) p.is (omega (arith, some)) in
-    subst (λ y. IsUnit (trues y) lits x) (sym b) (subst (IsUnit (trues (gone_back core level)) lits) (sym at) (jump_unit core lits level j))
+    record {
+      within = subst (λ y. All (IsAbout y.vars) lits) b (backed_within core lits c.requires.formed backed);
+      once = backed_differ core lits backed;
+      place = subst (λ y. CanAdd y lits) b (jump_can core lits level j);
+      alone = subst (λ y. IsUnit (trues y) lits x) b (subst (IsUnit (trues (gone_back core level)) lits) (sym at) (jump_unit core lits level j));
+      due = subst (λ y. IsDue y.limits y.trail lits) b (jump_due core lits level j);
+    }
 
-pub learn-requires-clause-due : goal.learn-requires-clause-due
-learn-requires-clause-due c =
-    let core = c.args.core.now in
-    let lits = c.args.lits.now in
-    let level = c.args.level in
-    let j : IsJump core lits level = record { formed = c.requires.formed; backed = c.requires.backed; above = c.requires.above; top = c.requires.top; attained = c.requires.attained } in
-    let b : c.back_to.new.self ≡ gone_back core level = c.back_to.ensures.back c.requires.above in
-    subst (λ y. IsDue y.limits y.trail lits) (sym b) (jump_due core lits level j)
-
-pub returns-clause-vars : goal.returns-clause-vars
-returns-clause-vars c =
-    let core = c.args.core.now in
-    let level = c.args.level in
-    let b : c.back_to.new.self ≡ gone_back core level = c.back_to.ensures.back c.requires.above in
-    ap (λ x. x.vars) c.in_ok-learn.ensures.ok.1 ∙ ap (λ x. x.vars) b
-
-pub returns-clause-added : goal.returns-clause-added
-returns-clause-added c =
-    let core = c.args.core.now in
-    let lits = c.args.lits.now in
-    let level = c.args.level in
-    let b : c.back_to.new.self ≡ gone_back core level = c.back_to.ensures.back c.requires.above in
-    ap (λ x. x.clauses) c.in_ok-learn.ensures.ok.1 ∙ ap (λ x. x.clauses ++ lits ∷ []) b
+pub returns : goal.returns
+returns c =
+    let b : c.back_to.new.self ≡ gone_back c.args.core.now c.args.level = c.back_to.ensures.back c.requires.above in
+    let ok = c.in_ok-learn.ensures.ok in
+    record {
+      vars = ap (λ x. x.vars) ok.1 ∙ ap (λ x. x.vars) b;
+      id = ok.0 ∙ ap (λ x. length x.clauses) b;
+      added = ap (λ x. x.clauses) ok.1 ∙ ap (λ x. x.clauses ++ c.args.lits.now ∷ []) b;
+    }
 
 pub returns-in_err-learn-clause-vars : goal.returns-in_err-learn-clause-vars
 returns-in_err-learn-clause-vars c =

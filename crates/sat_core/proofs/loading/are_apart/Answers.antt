@@ -34,14 +34,14 @@ returns-then-not-marks_at-clause-marked c = λ j.
     let room : c.code.result < length seen = omega (arith, code, c.code.ensures.code, c.loop-lit.invariant.len) in
     subst (λ ms. get_or ms j 0 ≤ c.args.mark) (sym c.marks_at.ensures.marked) (marks_below seen c.code.result c.args.mark room c.loop-lit.invariant.below j)
 
-pub returns-clause-once : goal.returns-clause-once
-returns-clause-once c = λ e.
+pub returns : goal.returns
+returns c =
+    let i = c.loop-lit.invariant in
     let k = c.loop-lit.lit-index in
     let all : take k c.args.lits.now ≡ c.args.lits.now = take_all k c.args.lits.now (omega (arith, c.loop-lit-test.false)) in
-    subst (AllPairs (λ a b. a ≢ b)) all c.loop-lit.invariant.keeping.once
-
-pub returns-clause-lits : goal.returns-clause-lits
-returns-clause-lits c = λ e.
-    let k = c.loop-lit.lit-index in
-    let all : take k c.args.lits.now ≡ c.args.lits.now = take_all k c.args.lits.now (omega (arith, c.loop-lit-test.false)) in
-    subst (All IsLit) all c.loop-lit.invariant.keeping.lits
+    record {
+      len = i.len;
+      marked = i.below;
+      once = λ _. subst (AllPairs (λ a b. a ≢ b)) all i.keeping.once;
+      lits = λ _. subst (All IsLit) all i.keeping.lits;
+    }

@@ -10,14 +10,8 @@ core_of-requires c =
     subst (All (IsClause c.args.own)) (sym is) (clauses_own base.vars c.args.own base.clauses c.requires c.clauses-clauses.ensures.limits
     (subst (All IsLit) (c.lits.ensures ∙ ap (flat_map (λ clause. clause)) is) c.know.ensures))
 
-pub returns-clause-listed : goal.returns-clause-listed
-returns-clause-listed c =
-    let e = c.in_ok-awake.ensures in
-    let n : c.len-2.result ≡ length c.in_ok-core.core.clauses = omega (arith, c.len-2.ensures, c.in_ok-core.ensures.loaded.count) in
-    (numbered_from c.in_ok-core.core c.in_ok-awake.awake c.len-2.result n e.ids e.names c.in_ok-core.ensures.once).listed
-
-pub returns-clause-ready : goal.returns-clause-ready
-returns-clause-ready c =
+pub returns : goal.returns
+returns c =
     let base = c.args.formula.now in
     let core = c.in_ok-core.core in
     let awake = c.in_ok-awake.awake in
@@ -25,4 +19,8 @@ returns-clause-ready c =
     let is : c.clauses-clauses.result.now ≡ base.clauses = c.clauses-clauses.ensures.clauses in
     let n : c.len-2.result ≡ length core.clauses = omega (arith, c.len-2.ensures, c.in_ok-core.ensures.loaded.count) in
     let numbered : IsNumbered core awake = numbered_from core awake c.len-2.result n e.ids e.names c.in_ok-core.ensures.once in
-    ready_loaded base core awake c.args.own (subst (λ cs. IsLoaded cs core.clauses) is c.in_ok-core.ensures.loaded) numbered (omega (arith, e.formula, c.len-2.ensures, ap length is)) (omega (arith, e.held, c.len-2.ensures, ap length is)) (omega (arith, c.in_ok-core.ensures.vars, c.requires))
+    record {
+      vars = c.in_ok-core.ensures.vars;
+      listed = numbered.listed;
+      ready = ready_loaded base core awake c.args.own (subst (λ cs. IsLoaded cs core.clauses) is c.in_ok-core.ensures.loaded) numbered (omega (arith, e.formula, c.len-2.ensures, ap length is)) (omega (arith, e.held, c.len-2.ensures, ap length is)) (omega (arith, c.in_ok-core.ensures.vars, c.requires));
+    }

@@ -1,7 +1,7 @@
 use Rattle.std.proofs.Common.{◌≡◌, ℕ, ◌+◌, ◌<◌, ◌≤◌, [], ◌∷◌, ◌++◌, List, length, get_or, set, take, sym, ap, ◌∙◌, subst, arith}
 use Rattle.std.proofs.lemmas.List.{take_more, take_all, length-set}
 use Rattle.cnf_formula.specs.Literals.{LitValue, code_of}
-use Rattle.sat_core.{specs.inner.Holding.IsSame, proofs.Loaded.{IsKeeping, keeping_old, keeping_new, keeping_same, marks_below}}
+use Rattle.sat_core.{specs.inner.Holding.IsSame, proofs.Loaded.{IsKeeping, keeping_old, keeping_new, marks_below}}
 use Rattle.sat_core.proofs.loading.once_each.Goals as goal
 use Rattle.sat_core.proofs.loading.once_each.Goals.{then-marks_at+in_ok-push, else-marks_at}
 
@@ -45,4 +45,5 @@ pub returns-clause-same : goal.returns-clause-same
 returns-clause-same c =
     let k = c.loop-lit.lit-index in
     let all : take k c.args.lits.now ≡ c.args.lits.now = take_all k c.args.lits.now (omega (arith, c.loop-lit-test.false)) in
-    subst (λ xs. IsSame xs c.loop-lit.kept.items) all (keeping_same (take k c.args.lits.now) c.loop-lit.kept.items c.loop-lit.seen.items c.args.mark c.loop-lit.invariant.keeping)
+    let keeping = c.loop-lit.invariant.keeping in
+    subst (λ xs. IsSame xs c.loop-lit.kept.items) all (record { into = keeping.into; from = keeping.from })

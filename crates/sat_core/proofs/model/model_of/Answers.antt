@@ -1,5 +1,5 @@
-use Rattle.std.proofs.Common.{◌≡◌, ℕ, ◌+◌, ◌<◌, Bool, false, [], ◌∷◌, ◌++◌, List, length, get_or, sym, ap, ◌∙◌, subst, ⊎_elim, arith, Contains}
-use Rattle.std.proofs.lemmas.{Bool.cases_lt, List.{get_or_append_left, get_or_push, length_push}}
+use Rattle.std.proofs.{Common.{◌≡◌, ◌+◌, ◌<◌, Bool, true, false, [], ◌∷◌, ◌++◌, List, length, get_or, sym, ap, ◌∙◌, subst, arith, Contains}, lemmas.List.length_push}
+use Rattle.list_laws.proofs.Places.{by_place_push}
 use Rattle.cnf_formula.specs.Literals.{yes}
 use Rattle.trail_core.specs.Meaning.{trues}
 use Rattle.sat_core.proofs.model.model_of.Goals as goal
@@ -12,18 +12,14 @@ loop-index-preserved c =
     let b : Bool = c.value_at.result in
     let n : length old ≡ k = c.loop-index.invariant.len in
     let new : c.push.new.self.items ≡ old ++ b ∷ [] = c.in_ok-push.ensures.items in
-    let before : (v : ℕ) → v < k → get_or c.push.new.self.items v false ≡ get_or old v false =
-    λ v lt. ap (λ xs. get_or xs v false) new ∙ get_or_append_left old (b ∷ []) false v (omega (arith, lt, n)) in
-    let last : (v : ℕ) → k ≡ v → get_or c.push.new.self.items v false ≡ b =
-    λ v e. ap (λ xs. get_or xs v false) new ∙ get_or_push old b false v (n ∙ e) in
     record {
       len = ap length new ∙ length_push old b ∙ ap (λ m. m + 1) n;
-      stands = λ v w own e. ⊎_elim
-          (λ lt. c.loop-index.invariant.stands v lt own (sym (before v lt) ∙ e))
-          (λ ge. let is : k ≡ v = omega (arith, ge, w) in subst (λ m. Contains ts (yes (m + 1))) is (c.value_at.ensures.stands (omega (arith, is, own)) (sym (last v is) ∙ e)))
-          (cases_lt v k);
-      lacks = λ v w own e. ⊎_elim
-          (λ lt. c.loop-index.invariant.lacks v lt own (sym (before v lt) ∙ e))
-          (λ ge. let is : k ≡ v = omega (arith, ge, w) in subst (λ m. Contains ts (yes (m + 1)) → ⊥) is (c.value_at.ensures.lacks (omega (arith, is, own)) (sym (last v is) ∙ e)))
-          (cases_lt v k);
+      stands = λ v w. subst (λ xs. v < c.args.own → get_or xs v false ≡ true → Contains ts (yes (v + 1))) (sym new) (by_place_push (λ m x. m < c.args.own → x ≡ true → Contains ts (yes (m + 1))) old b false
+          (λ m lt. c.loop-index.invariant.stands m (omega (arith, lt, n)))
+          (λ low e. subst (λ m. Contains ts (yes (m + 1))) (sym n) (c.value_at.ensures.stands (omega (arith, n, low)) e))
+          v (omega (arith, w, n, length_push old b)));
+      lacks = λ v w. subst (λ xs. v < c.args.own → get_or xs v false ≡ false → Contains ts (yes (v + 1)) → ⊥) (sym new) (by_place_push (λ m x. m < c.args.own → x ≡ false → Contains ts (yes (m + 1)) → ⊥) old b false
+          (λ m lt. c.loop-index.invariant.lacks m (omega (arith, lt, n)))
+          (λ low e. subst (λ m. Contains ts (yes (m + 1)) → ⊥) (sym n) (c.value_at.ensures.lacks (omega (arith, n, low)) e))
+          v (omega (arith, w, n, length_push old b)));
     }

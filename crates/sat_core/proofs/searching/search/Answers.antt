@@ -1,5 +1,4 @@
-use Rattle.std.proofs.{Common.{◌≡◌, ℕ, ◌<◌, length, refl, sym, ◌∙◌, subst, arith}, lemmas.Result.IfOk-from_err}
-use Rattle.sat_core.specs.inner.Measure.{remaining}
+use Rattle.std.proofs.{Common.{◌≡◌, length, refl, ◌∙◌, arith}, lemmas.Result.IfOk-from_err}
 use Rattle.sat_core.proofs.{Caused.{after, answered, answered_after, handed_on, unmoved}, Going.{advanced_can, still_written, written_then}}
 use Rattle.sat_core.proofs.Measure.{conflict_leaves_less, decision_leaves_less}
 use Rattle.sleeping_clauses.specs.Sleeping.{sleeping}
@@ -28,8 +27,8 @@ returns-in_err-at_conflict-in-Conflict g c =
     record {
       written = written_then (g.met.L.Ledger.moves_trans _ _ _ _ _ _) i.written turn.written;
       vars = turn.vars ∙ c.advance.ensures.vars ∙ i.vars;
-      ended = IfOk-from_err c.from_residual.result _ c.from_residual.ensures.0;
-      cause = after i.faults (handed_on c.from_residual.result c.in_err-at_conflict-in-Conflict.was c.from_residual.ensures.1 turn.cause);
+      ended = IfOk-from_err _ _ c.from_residual.ensures.0;
+      cause = after i.faults (handed_on _ c.in_err-at_conflict-in-Conflict.was c.from_residual.ensures.1 turn.cause);
     }
 
 pub loop-conflict-preserved-in-Goes : goal.loop-conflict-preserved-in-Goes
@@ -53,10 +52,7 @@ loop-conflict-smaller-in-Goes g c =
     let limit : V.limit new.ledger ≡ V.limit old.ledger = c.at_conflict.ensures.written.limit in
     let vars : new.core.vars ≡ old.core.vars = c.at_conflict.ensures.vars ∙ c.advance.ensures.vars in
     let within = g.met.L.LedgerView.within new.ledger in
-    let before = remaining (V.limit old.ledger) (V.spent old.ledger) (sleeping old.guide.sleepers) old.core.vars (length old.core.trail) in
-    let less = conflict_leaves_less (V.limit old.ledger) (V.spent old.ledger) (V.spent new.ledger) (sleeping old.guide.sleepers) (sleeping new.guide.sleepers) old.core.vars (length old.core.trail) (length new.core.trail) turned.1 (omega (arith, within, limit)) turned.0.guided.few in
-    subst (λ v. remaining (V.limit new.ledger) (V.spent new.ledger) (sleeping new.guide.sleepers) v (length new.core.trail) < before) (sym vars)
-    (subst (λ n. remaining n (V.spent new.ledger) (sleeping new.guide.sleepers) old.core.vars (length new.core.trail) < before) (sym limit) less)
+    rw (limit, vars) (conflict_leaves_less (V.limit old.ledger) (V.spent old.ledger) (V.spent new.ledger) (sleeping old.guide.sleepers) (sleeping new.guide.sleepers) old.core.vars (length old.core.trail) (length new.core.trail) turned.1 (omega (arith, within, limit)) turned.0.guided.few)
 
 pub returns-in-Refuted : goal.returns-in-Refuted
 returns-in-Refuted g c =
@@ -97,10 +93,8 @@ loop-conflict-smaller g c =
     let old = c.loop-conflict in
     let new = c.advance.new.core in
     let step = c.advance.ensures in
-    let left : ℕ → ℕ → ℕ = λ n len. remaining (V.limit old.ledger) (V.spent old.ledger) (sleeping old.guide.sleepers) n len in
     let few = step.few c.in-Decided.is in
-    subst (λ n. left n (length new.trail) < left old.core.vars (length old.core.trail)) (sym step.vars)
-    (decision_leaves_less (V.limit old.ledger) (V.spent old.ledger) (sleeping old.guide.sleepers) old.core.vars (length old.core.trail) (length new.trail) (step.longer c.in-Decided.is) (omega (arith, few, step.vars)))
+    rw step.vars (decision_leaves_less (V.limit old.ledger) (V.spent old.ledger) (sleeping old.guide.sleepers) old.core.vars (length old.core.trail) (length new.trail) (step.longer c.in-Decided.is) (omega (arith, few, step.vars)))
 
 pub returns-in-Total : goal.returns-in-Total
 returns-in-Total g c =

@@ -13,17 +13,17 @@ returns-then-not-anew g c = record {
 pub returns-in_err-state_all : goal.returns-in_err-state_all
 returns-in_err-state_all g c = record {
   written = c.state_all.ensures.written;
-  can = on_fault _ c.from_residual.result c.from_residual.ensures.0;
+  can = on_fault _ _ c.from_residual.ensures.0;
   vars = c.state_all.ensures.vars;
-  cause = handed_on c.from_residual.result c.in_err-state_all.was c.from_residual.ensures.1 c.state_all.ensures.cause;
+  cause = handed_on _ c.in_err-state_all.was c.from_residual.ensures.1 c.state_all.ensures.cause;
 }
 
 pub returns-in_err-rest : goal.returns-in_err-rest
 returns-in_err-rest g c = record {
   written = c.state_all.ensures.written;
-  can = on_fault _ c.from_residual-in_err-rest.result c.from_residual-in_err-rest.ensures.0;
+  can = on_fault _ _ c.from_residual-in_err-rest.ensures.0;
   vars = c.rest.ensures.vars ∙ c.state_all.ensures.vars;
-  cause = no_memory_after c.from_residual-in_err-rest.result c.in_ok-state_all.was c.from_residual-in_err-rest.ensures.1 c.state_all.ensures.cause;
+  cause = no_memory_after _ c.in_ok-state_all.was c.from_residual-in_err-rest.ensures.1 c.state_all.ensures.cause;
 }
 
 pub returns : goal.returns

@@ -1,4 +1,4 @@
-use Rattle.std.proofs.Common.{◌++◌, ◌∷◌, [], sym, subst, arith}
+use Rattle.std.proofs.Common.{sym, subst, arith}
 use Rattle.sat_core.specs.inner.Stating.{AreStated}
 use Rattle.sat_core.proofs.Caused.{answered, answered_after, no_memory, no_memory_after, of_ledger, on_fault}
 use Rattle.sat_core.proofs.Going.{ready_at, same_trail, still_written, written_to}
@@ -19,10 +19,10 @@ line_of-requires-clause-stated g c = subst (AreStated c.args.core.now.clauses) (
 pub returns-in_err-line : goal.returns-in_err-line
 returns-in_err-line g c = record {
   written = still_written (g.met.L.Ledger.moves_refl c.args.ledger.now c.args.store.now) c.requires.can.ready.written;
-  can = on_fault _ c.from_residual.result c.from_residual.ensures.0;
+  can = on_fault _ _ c.from_residual.ensures.0;
   same = same_trail c.args.core.now;
-  stated = on_fault _ c.from_residual.result c.from_residual.ensures.0;
-  cause = no_memory c.from_residual.result c.from_residual.ensures.1;
+  stated = on_fault _ _ c.from_residual.ensures.0;
+  cause = no_memory _ c.from_residual.ensures.1;
 }
 
 pub returns-in_default : goal.returns-in_default
@@ -38,44 +38,35 @@ returns-in_default g c =
 
 pub returns-in_err-learn : goal.returns-in_err-learn
 returns-in_err-learn g c =
-    let V = g.L.LedgerView in
-    let fault = c.from_residual-in_err-learn.ensures in
     let kept = c.in_err-learn.ensures.kept in
     record {
-      written = written_to (V.lines c.args.ledger.now) c.learn.ensures.moves c.learn.ensures.base c.learn.ensures.limit (omega (arith, kept.1)) kept.0 c.requires.can.ready.written;
-      can = on_fault _ c.from_residual-in_err-learn.result fault.0;
+      written = written_to _ c.learn.ensures.moves c.learn.ensures.base c.learn.ensures.limit (omega (arith, kept.1)) kept.0 c.requires.can.ready.written;
+      can = on_fault _ _ c.from_residual-in_err-learn.ensures.0;
       same = same_trail c.args.core.now;
-      stated = on_fault _ c.from_residual-in_err-learn.result fault.0;
-      cause = of_ledger c.from_residual-in_err-learn.result c.in_err-learn.was fault.1 c.learn.ensures.cause;
+      stated = on_fault _ _ c.from_residual-in_err-learn.ensures.0;
+      cause = of_ledger _ c.in_err-learn.was c.from_residual-in_err-learn.ensures.1 c.learn.ensures.cause;
     }
 
 pub returns-in_err-hold : goal.returns-in_err-hold
 returns-in_err-hold g c =
-    let V = g.L.LedgerView in
-    let old = c.args.ledger.now in
-    let line = c.in-Some.line in
-    let fault = c.from_residual-in_err-hold.ensures in
     let states = rw c.in-Some.is at c.in_ok-line.ensures.line in
     record {
-      written = written_to (V.lines old ++ line ∷ []) c.learn.ensures.moves c.learn.ensures.base c.learn.ensures.limit (omega (arith, c.in_ok-learn.ensures.spent)) c.in_ok-learn.ensures.lines (states (V.base old) (V.lines old) c.requires.can.ready).written;
-      can = on_fault _ c.from_residual-in_err-hold.result fault.0;
+      written = written_to _ c.learn.ensures.moves c.learn.ensures.base c.learn.ensures.limit (omega (arith, c.in_ok-learn.ensures.spent)) c.in_ok-learn.ensures.lines (states _ _ c.requires.can.ready).written;
+      can = on_fault _ _ c.from_residual-in_err-hold.ensures.0;
       same = c.hold.ensures.same;
-      stated = on_fault _ c.from_residual-in_err-hold.result fault.0;
-      cause = no_memory_after c.from_residual-in_err-hold.result c.in_ok-learn.was fault.1 c.learn.ensures.cause;
+      stated = on_fault _ _ c.from_residual-in_err-hold.ensures.0;
+      cause = no_memory_after _ c.in_ok-learn.was c.from_residual-in_err-hold.ensures.1 c.learn.ensures.cause;
     }
 
 pub returns : goal.returns
 returns g c =
-    let V = g.L.LedgerView in
-    let old = c.args.ledger.now in
-    let line = c.in-Some.line in
     let ready = c.requires.can.ready in
     let states = rw c.in-Some.is at c.in_ok-line.ensures.line in
-    let stating = states (V.base old) (V.lines old) ready in
+    let stating = states _ _ ready in
     record {
-      written = written_to (V.lines old ++ line ∷ []) c.learn.ensures.moves c.learn.ensures.base c.learn.ensures.limit (omega (arith, c.in_ok-learn.ensures.spent)) c.in_ok-learn.ensures.lines stating.written;
+      written = written_to _ c.learn.ensures.moves c.learn.ensures.base c.learn.ensures.limit (omega (arith, c.in_ok-learn.ensures.spent)) c.in_ok-learn.ensures.lines stating.written;
       can = record {
-        ready = ready_at V (V.lines old ++ line ∷ []) c.learn.ensures.base c.in_ok-learn.ensures.lines (c.in_ok-hold.ensures.ready (V.base old) (V.lines old) (c.line_of.ensures.ready (V.base old) (V.lines old) ready) stating);
+        ready = ready_at g.L.LedgerView _ c.learn.ensures.base c.in_ok-learn.ensures.lines (c.in_ok-hold.ensures.ready _ _ (c.line_of.ensures.ready _ _ ready) stating);
         guided = c.in_ok-hold.ensures.guided;
         agrees = c.in_ok-learn.ensures.agrees;
       };

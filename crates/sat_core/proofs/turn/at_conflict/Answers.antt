@@ -13,8 +13,8 @@ pub returns-in_err-line : goal.returns-in_err-line
 returns-in_err-line g c = record {
   written = still_written (g.met.L.Ledger.moves_refl c.args.ledger.now c.args.store.now) c.requires.can.ready.written;
   vars = refl;
-  turned = IfOk-from_err c.from_residual.result _ c.from_residual.ensures.0;
-  cause = no_memory c.from_residual.result c.from_residual.ensures.1;
+  turned = IfOk-from_err _ _ c.from_residual.ensures.0;
+  cause = no_memory _ c.from_residual.ensures.1;
 }
 
 pub close-requires-clause-implied : goal.close-requires-clause-implied
@@ -23,12 +23,11 @@ close-requires-clause-implied g c = turn_accepted (c.in_ok-line.ensures.turn _ _
 pub returns-in_err-close : goal.returns-in_err-close
 returns-in_err-close g c =
     let closed = c.close.ensures in
-    let fault = c.from_residual-in_err-close in
     record {
-      written = written_to (g.L.LedgerView.lines c.args.ledger.now) closed.moves closed.base closed.limit (omega (arith, closed.spent)) c.in_err-close.ensures.kept c.requires.can.ready.written;
+      written = written_to _ closed.moves closed.base closed.limit (omega (arith, closed.spent)) c.in_err-close.ensures.kept c.requires.can.ready.written;
       vars = refl;
-      turned = IfOk-from_err fault.result _ fault.ensures.0;
-      cause = of_ledger fault.result c.in_err-close.was fault.ensures.1 closed.cause;
+      turned = IfOk-from_err _ _ c.from_residual-in_err-close.ensures.0;
+      cause = of_ledger _ c.in_err-close.was c.from_residual-in_err-close.ensures.1 closed.cause;
     }
 
 pub returns-then-is_empty : goal.returns-then-is_empty
@@ -46,7 +45,7 @@ returns-then-is_empty g c =
     nil_from_length line.lits (omega (arith, z, ap (λ l. length l.lits) c.line.view_is)) in
     let few = closed_few (V.base old) (V.lines old) (V.lines now) line (V.spent old) (V.limit old) c.requires.can.ready.fresh (laws.charged old) (laws.within old) are in
     record {
-      written = written_to lines closed.moves closed.base closed.limit (omega (arith, closed.spent)) are (turn_written t);
+      written = written_to _ closed.moves closed.base closed.limit (omega (arith, closed.spent)) are (turn_written t);
       vars = refl;
       turned = record {
         refutes = subst (Refutes (map Addition (V.lines now))) (sym closed.base) (subst (λ ls. Refutes (map Addition ls) (V.base old)) (sym are) (turn_refuted t none));
@@ -70,12 +69,11 @@ wake_due-requires g c =
 
 pub returns-in_err-woken : goal.returns-in_err-woken
 returns-in_err-woken g c =
-    let fault = c.from_residual-in_err-woken in
     record {
       written = still_written (g.met.L.Ledger.moves_refl c.args.ledger.now c.args.store.now) c.requires.can.ready.written;
       vars = c.wake_due.ensures.vars;
-      turned = IfOk-from_err fault.result _ fault.ensures.0;
-      cause = no_memory fault.result fault.ensures.1;
+      turned = IfOk-from_err _ _ c.from_residual-in_err-woken.ensures.0;
+      cause = no_memory _ c.from_residual-in_err-woken.ensures.1;
     }
 
 pub returns-then-woken : goal.returns-then-woken
@@ -139,12 +137,11 @@ wake-requires g c =
 
 pub returns-in_err-wake : goal.returns-in_err-wake
 returns-in_err-wake g c =
-    let fault = c.from_residual-in_err-wake in
     record {
       written = still_written (g.met.L.Ledger.moves_refl c.args.ledger.now c.args.store.now) c.requires.can.ready.written;
       vars = c.wake.ensures.vars;
-      turned = IfOk-from_err fault.result _ fault.ensures.0;
-      cause = no_memory fault.result fault.ensures.1;
+      turned = IfOk-from_err _ _ c.from_residual-in_err-wake.ensures.0;
+      cause = no_memory _ c.from_residual-in_err-wake.ensures.1;
     }
 
 pub returns-in-Some : goal.returns-in-Some
@@ -187,12 +184,11 @@ pub returns-in_err-learn : goal.returns-in_err-learn
 returns-in_err-learn g c =
     let learned = c.learn.ensures in
     let kept = c.in_err-learn.ensures.kept in
-    let fault = c.from_residual-in_err-learn in
     record {
-      written = written_to (g.L.LedgerView.lines c.args.ledger.now) learned.moves learned.base learned.limit (omega (arith, kept.1)) kept.0 c.requires.can.ready.written;
+      written = written_to _ learned.moves learned.base learned.limit (omega (arith, kept.1)) kept.0 c.requires.can.ready.written;
       vars = refl;
-      turned = IfOk-from_err fault.result _ fault.ensures.0;
-      cause = of_ledger fault.result c.in_err-learn.was fault.ensures.1 learned.cause;
+      turned = IfOk-from_err _ _ c.from_residual-in_err-learn.ensures.0;
+      cause = of_ledger _ c.in_err-learn.was c.from_residual-in_err-learn.ensures.1 learned.cause;
     }
 
 pub go_on-requires : goal.go_on-requires
@@ -211,18 +207,14 @@ go_on-requires g c =
 
 pub returns-in_err-anew : goal.returns-in_err-anew
 returns-in_err-anew g c =
-    let V = g.L.LedgerView in
-    let old = c.args.ledger.now in
-    let line = c.in_ok-line.line in
     let t = c.in_ok-line.ensures.turn _ _ c.requires.can.ready in
     let learned = c.learn.ensures in
     let added = c.in_ok-learn.ensures in
-    let fault = c.from_residual-in_err-anew in
     record {
-      written = written_to (V.lines old ++ line ∷ []) learned.moves learned.base learned.limit (omega (arith, added.spent)) added.lines (turn_written t);
+      written = written_to _ learned.moves learned.base learned.limit (omega (arith, added.spent)) added.lines (turn_written t);
       vars = c.go_on.ensures.vars;
-      turned = IfOk-from_err fault.result _ fault.ensures.0;
-      cause = no_memory_after fault.result c.in_ok-learn.was fault.ensures.1 learned.cause;
+      turned = IfOk-from_err _ _ c.from_residual-in_err-anew.ensures.0;
+      cause = no_memory_after _ c.in_ok-learn.was c.from_residual-in_err-anew.ensures.1 learned.cause;
     }
 
 pub rest_if_due-requires : goal.rest_if_due-requires
@@ -238,7 +230,7 @@ rest_if_due-requires g c =
     let ready : IsReady (V.base old) (V.lines old) c.args.core.now guide.awake c.subset_of.new.self = subst (IsReady (V.base old) (V.lines old) c.args.core.now guide.awake) (sym c.subset_of.ensures.same) t.ready in
     record {
       can = record {
-        ready = ready_at V (V.lines old ++ line ∷ []) c.learn.ensures.base c.in_ok-learn.ensures.lines (c.in_ok-anew.ensures.ready (V.base old) (V.lines old) ready (turn_written t) fresh t.named.id);
+        ready = ready_at V _ c.learn.ensures.base c.in_ok-learn.ensures.lines (c.in_ok-anew.ensures.ready (V.base old) (V.lines old) ready (turn_written t) fresh t.named.id);
         guided = c.in_ok-anew.ensures.guided;
         agrees = c.in_ok-learn.ensures.agrees;
       };
@@ -246,32 +238,25 @@ rest_if_due-requires g c =
 
 pub returns-in_err-rest_if_due : goal.returns-in_err-rest_if_due
 returns-in_err-rest_if_due g c =
-    let V = g.L.LedgerView in
-    let old = c.args.ledger.now in
-    let line = c.in_ok-line.line in
     let t = c.in_ok-line.ensures.turn _ _ c.requires.can.ready in
     let learned = c.learn.ensures in
     let added = c.in_ok-learn.ensures in
     let rested = c.rest_if_due.ensures in
-    let fault = c.from_residual-in_err-rest_if_due in
     record {
-      written = written_then (g.met.L.Ledger.moves_trans _ _ _ _ _ _) (written_to (V.lines old ++ line ∷ []) learned.moves learned.base learned.limit (omega (arith, added.spent)) added.lines (turn_written t)) rested.written;
+      written = written_then (g.met.L.Ledger.moves_trans _ _ _ _ _ _) (written_to _ learned.moves learned.base learned.limit (omega (arith, added.spent)) added.lines (turn_written t)) rested.written;
       vars = rested.vars ∙ c.go_on.ensures.vars;
-      turned = IfOk-from_err fault.result _ fault.ensures.0;
-      cause = after (unmoved c.in_ok-learn.was learned.cause) (handed_on fault.result c.in_err-rest_if_due.was fault.ensures.1 rested.cause);
+      turned = IfOk-from_err _ _ c.from_residual-in_err-rest_if_due.ensures.0;
+      cause = after (unmoved c.in_ok-learn.was learned.cause) (handed_on _ c.in_err-rest_if_due.was c.from_residual-in_err-rest_if_due.ensures.1 rested.cause);
     }
 
 pub returns : goal.returns
 returns g c =
-    let V = g.L.LedgerView in
-    let old = c.args.ledger.now in
-    let line = c.in_ok-line.line in
     let t = c.in_ok-line.ensures.turn _ _ c.requires.can.ready in
     let learned = c.learn.ensures in
     let added = c.in_ok-learn.ensures in
     let rested = c.rest_if_due.ensures in
     record {
-      written = written_then (g.met.L.Ledger.moves_trans _ _ _ _ _ _) (written_to (V.lines old ++ line ∷ []) learned.moves learned.base learned.limit (omega (arith, added.spent)) added.lines (turn_written t)) rested.written;
+      written = written_then (g.met.L.Ledger.moves_trans _ _ _ _ _ _) (written_to _ learned.moves learned.base learned.limit (omega (arith, added.spent)) added.lines (turn_written t)) rested.written;
       vars = rested.vars ∙ c.go_on.ensures.vars;
       turned = (c.in_ok-rest_if_due.ensures.can, inl (omega (arith, added.spent, rested.written.spent)));
       cause = after (unmoved c.in_ok-learn.was learned.cause) (answered_after c.in_ok-rest_if_due.was rested.cause);

@@ -1,15 +1,13 @@
-use Rattle.std.proofs.Common.{◌+◌, length, sym, subst, All}
-use Rattle.sleeping_clauses.specs.Naming.{IsName, IsNamed}
-use Rattle.sat_core.proofs.{Hinted.hints_names, Readiness.ready_used}
+use Rattle.std.proofs.Common.{refl, sym, subst}
+use Rattle.sleeping_clauses.specs.Naming.{IsNamed}
+use Rattle.sat_core.proofs.{Hinted.hints_names, Readiness.ready_same}
 use Rattle.sat_core.proofs.turn.line_of_conflict.Goals as goal
 
 pub named-requires : goal.named-requires
 named-requires c =
-    let core = c.args.core.now in
     let learned = c.in_ok-learned.learned in
     let l = c.in_ok-learned.ensures.learned in
-    let names : All (IsName (length core.clauses + 1)) learned.hints = subst (All (IsName (length core.clauses + 1))) (sym l.hints) (hints_names core.clauses core.trail l.resolved c.args.conflict learned.lits l.analysis) in
-    record { known = subst (λ n. All (IsName n) learned.hints) (sym c.requires.guided.listed.names) names }
+    record { known = hints_names c.args.core.now.clauses c.args.core.now.trail l.resolved c.args.conflict learned.lits learned.hints _ l.analysis l.hints c.requires.guided.listed.names }
 
 pub returns-clause-turn : goal.returns-clause-turn
 returns-clause-turn c = λ base lines ready.
@@ -19,7 +17,7 @@ returns-clause-turn c = λ base lines ready.
     let learned = c.in_ok-learned.learned in
     let line = c.in_ok-named.field-0 in
     record {
-      ready = ready_used base lines c.args.core.now old.awake now old.sleepers ready same.names same.formula same.held;
+      ready = ready_same base lines c.args.core.now c.args.core.now old.awake now old.sleepers ready refl refl same.names same.formula same.held;
       conflicts = c.requires.conflict;
       learned = learned;
       is = c.in_ok-learned.ensures.learned;

@@ -1,15 +1,14 @@
-use Rattle.std.proofs.{Common.{◌≡◌, false, [], ◌∷◌, get_or, sym, ap, ◌∙◌, subst, ⊎_elim, arith}, lemmas.Bool.{false≢true, cases_lt}}
+use Rattle.std.proofs.{Common.{◌≡◌, true, false, [], ◌∷◌, get_or, sym, ◌∙◌, subst, below_more}, lemmas.Bool.false≢true}
 use Rattle.trail_core.specs.Meaning.{trues, IsClosed}
 use Rattle.sat_core.proofs.waking.due.Goals as goal
 use Rattle.sat_core.proofs.waking.due.Goals.{else-is_asleep-via-then-is_asleep+else-not-rests, else-is_asleep-via-else-is_asleep}
 
 pub loop-place-preserved : goal.loop-place-preserved
-loop-place-preserved c = λ k w a. ⊎_elim
-    (λ lt. c.loop-place.invariant k lt a)
-    (λ ge.
-    let at : k ≡ c.loop-place.place = omega (arith, w, ge) in
+loop-place-preserved c =
+    let place = c.loop-place.place in
+    let s = c.args.sleepers.now in
+    below_more (λ k. get_or s.asleep k false ≡ true → IsClosed (trues c.args.core.now) (get_or s.clauses k [] ∷ [])) place c.loop-place.invariant (λ a.
     elim c.else-is_asleep.branch [
-      | else-is_asleep-via-then-is_asleep+else-not-rests b ↦ subst (λ x. IsClosed (trues c.args.core.now) (x ∷ [])) (b.clause.ensures.value ∙ ap (λ i. get_or c.args.sleepers.now.clauses i []) (sym at)) (b.rests.ensures b.if-not-rests.false)
-      | else-is_asleep-via-else-is_asleep b ↦ absurd (false≢true (sym b.if-is_asleep.false ∙ c.is_asleep.ensures ∙ ap (λ i. get_or c.args.sleepers.now.asleep i false) (sym at) ∙ a))
+      | else-is_asleep-via-then-is_asleep+else-not-rests b ↦ subst (λ x. IsClosed (trues c.args.core.now) (x ∷ [])) b.clause.ensures.value (b.rests.ensures b.if-not-rests.false)
+      | else-is_asleep-via-else-is_asleep b ↦ absurd (false≢true (sym b.if-is_asleep.false ∙ c.is_asleep.ensures ∙ a))
     ])
-    (cases_lt k c.loop-place.place)

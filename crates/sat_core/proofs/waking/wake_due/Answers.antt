@@ -1,4 +1,4 @@
-use Rattle.std.proofs.{Common.{◌≡◌, List, [], ◌∷◌, get_or, take, sym, ap, ◌∙◌, subst}, lemmas.List.take-map}
+use Rattle.std.proofs.{Common.{◌≡◌, List, [], ◌∷◌, get_or, take, refl, sym, ap, ◌∙◌, subst}, lemmas.List.take-map}
 use Rattle.cnf_formula.specs.Literals.{LitValue}
 use Rattle.trail_core.specs.{Trails.lits_of, Meaning.{trues, IsClosed}}
 use Rattle.sat_core.proofs.Readiness.{ready_same}
@@ -6,7 +6,7 @@ use Rattle.sat_core.proofs.waking.wake_due.Goals as goal
 
 pub returns-in_ok-wake-in-Some-clause-ready : goal.returns-in_ok-wake-in-Some-clause-ready
 returns-in_ok-wake-in-Some-clause-ready c = λ _ base lines r.
-    c.in_ok-wake-in-Some.ensures.ready base lines (ready_same base lines c.args.core.now c.go_to_bottom.new.core c.args.awake.now c.args.sleepers.now r c.go_to_bottom.ensures.vars c.go_to_bottom.ensures.clauses)
+    c.in_ok-wake-in-Some.ensures.ready base lines (ready_same base lines c.args.core.now c.go_to_bottom.new.core c.args.awake.now c.args.awake.now c.args.sleepers.now r c.go_to_bottom.ensures.vars c.go_to_bottom.ensures.clauses refl refl refl)
 
 pub returns-in-None-clause-rest : goal.returns-in-None-clause-rest
 returns-in-None-clause-rest c = λ _ clause a.
