@@ -11,8 +11,15 @@ use trail_core::{ClauseId, Core};
 /// A clause whose literals became false on so few levels, or fewer, stays awake.
 const GLUE: u32 = 2;
 
-/// A clause that took part in no conflict while so many lines were learned falls asleep.
+/// A clause that took part in a conflict while so many lines were learned stays awake.
+const RECENT: u32 = 1000;
+
+/// One that took part in none while so many were learned falls asleep.
 const IDLE: u32 = 5000;
+
+/// Between these two a clause falls asleep if it took part in none while so many times the lines of
+/// the search, divided by its levels, were learned. So early on clauses of many levels go first.
+const SHARE: u32 = 6;
 
 /// So many lines are learned before clauses fall asleep anew.
 const ROUND: u32 = 2000;
@@ -220,6 +227,13 @@ impl Awake {
         }
     }
 
+    /// How many lines are learned before a clause whose literals became false on so many levels
+    /// falls asleep, if it takes part in no conflict meanwhile.
+    fn patience(&self, levels: u32) -> u32 {
+        let learned = self.held.saturating_sub(self.formula);
+        (learned.saturating_mul(SHARE) / levels.max(1)).clamp(RECENT, IDLE)
+    }
+
     /// Whether the clause at a place is to fall asleep: one that was learned, has three literals or
     /// more, and was of little use.
     pub fn is_idle(&self, place: usize, lits: &[Lit]) -> bool
@@ -230,7 +244,10 @@ impl Awake {
             return false;
         }
         match self.usage.get(place) {
-            Some(usage) => { usage.levels > GLUE && usage.last.saturating_add(IDLE) <= self.held }
+            Some(usage) => {
+                usage.levels > GLUE
+                    && usage.last.saturating_add(self.patience(usage.levels)) <= self.held
+            }
             None => false,
         }
     }
