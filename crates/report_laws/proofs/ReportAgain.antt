@@ -1,5 +1,5 @@
 -- The text of a valid report is read as that report.
-use Rattle.std.proofs.Common.{◌≡◌, ℕ, ◌+◌, Bool, true, false, not, List, [], ◌∷◌, ◌++◌, map, drop, Option, None, Some, Ok, refl, sym, ap, ◌∙◌, subst, codes, flat_map, is_some}
+use Rattle.std.proofs.Common.{◌≡◌, ℕ, Bool, true, false, not, List, [], ◌∷◌, ◌++◌, map, drop, Option, None, Some, Ok, refl, sym, ap, ◌∙◌, subst, codes, flat_map, is_some}
 use Rattle.std.proofs.lemmas.{Bool.not-true, List.map-append}
 use Rattle.text_lines.specs.{Text.{Row, rows_of}, Check.{refuse, at_line, line_part}}
 use Rattle.text_lines.proofs.{Checks.ok_is, Gives.rows_split, ReadBack.{Reads, reads_end, line_again, Ends}, Repeated.place, Rows.row_of}

@@ -1,5 +1,5 @@
 -- The lines of groups: what is read stands there, and what stands there is read.
-use Rattle.std.proofs.Common.{◌≡◌, ℕ, ◌+◌, ◌<◌, ◌≤◌, true, false, ◌||◌, not, leb, ltb, List, [], ◌∷◌, ◌++◌, map, length, drop, Option, None, Some, Result, Ok, refl, sym, ap, ◌∙◌, subst, arith, codes, decimal, slice_index_or}
+use Rattle.std.proofs.Common.{◌≡◌, ℕ, ◌<◌, ◌≤◌, true, false, ◌||◌, not, leb, ltb, List, [], ◌∷◌, ◌++◌, map, length, drop, Option, None, Some, Result, Ok, refl, sym, ap, ◌∙◌, subst, arith, codes, decimal, slice_index_or}
 use Rattle.std.{specs.List.All, proofs.lemmas.Bool.{or_parts, not-false, leb-false, lt-leb, le-ltb, ltb-false}}
 use Rattle.std.proofs.lemmas.List.{length-append, length-map, Elements.{All-nil, All-push, All-get_or, All-map, All-weaker, recursion_from_All}}
 use Rattle.text_lines.specs.{Text.{Row, Place, words_of}, Repeated.begins}

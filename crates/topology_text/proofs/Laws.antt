@@ -1,5 +1,5 @@
 -- Whole topologies: what is read stands there, and what stands there is read.
-use Rattle.std.proofs.Common.{◌≡◌, ℕ, ◌+◌, Bool, true, List, [], ◌∷◌, ◌++◌, get_or, map, length, Option, None, Some, Result, Ok, Err, refl, sym, ap, ◌∙◌, subst, arith, IfOk, IfSome, codes}
+use Rattle.std.proofs.Common.{◌≡◌, ℕ, Bool, true, List, [], ◌∷◌, ◌++◌, get_or, map, length, Option, None, Some, Result, Ok, Err, refl, sym, ap, ◌∙◌, subst, arith, IfOk, IfSome, codes}
 use Rattle.std.{specs.{Option.is_some, List.{All, AllByRecursion}}, proofs.lemmas.List.{append-nil, Elements.{All-nil, All-cons, All-map, recursion_from_All}}}
 use Rattle.text_lines.specs.{Text.{Row, Place, rows_of, start}, Check.{◌>>=◌, refuse, first, line_part}}
 use Rattle.text_lines.proofs.{Checks.{part_ok, part_err_at}, Gives.{Gives, gives_done, gives_then, rows_split, Between, then_on, Cut, cut_here, cut_more, cut_on, Stops, GivesPart}, ReadBack.{Reads, reads_here, reads_as, reads_then, reads_end, Ends}}
