@@ -1,10 +1,9 @@
 pub mod Turns
-pub mod Parted
 pub mod After
 pub mod Numbers
-pub mod ListedLines
 pub mod Onward
 pub mod FrontierTurns
 pub mod Scheduled
 pub mod ReaderAnswers
 pub mod BehindTopology
+pub mod ListedLines

@@ -1,10 +1,10 @@
 -- The rounds and the sends that were read are a schedule.
 use Rattle.std.proofs.Common.{◌≡◌, ℕ, ◌≤◌, List, length, Result, Ok, ap, ◌∙◌, codes}
-use Rattle.text_lines.specs.{Text.Place, Check.{◌>>=◌, line_part}}
+use Rattle.text_lines.specs.{Text.Place, Check.{◌>>=◌, line_part}, Repeated.lines_at}
 use Rattle.schedule.specs.{declared.hop.Hop.Hop, Sends.IsSchedule}
 use Rattle.collective_spec.specs.Collectives.{chunks_in}
 use Rattle.candidate_order.specs.Frontiers.{QuestionValue, PointValue}
-use Rattle.report_form.specs.{declared.fault.ReportCode.ReportCode, Lines.lines_at, Points.{HeadValue, rounds_line, send_line, schedule_at}}
+use Rattle.report_form.specs.{declared.fault.ReportCode.ReportCode, Points.{HeadValue, rounds_line, send_line, schedule_at}}
 use Rattle.report_form.proofs.PointsTaken.{point_of, schedule_take}
 
 abbrev Scheduled : Type 0

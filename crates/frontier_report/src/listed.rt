@@ -1,8 +1,8 @@
 //! The lines of refuted and of unknown candidates.
 
 ghost use Rattle.std.specs.Prelude.{◌≡◌, Some, codes, OnOk};
-ghost use Rattle.text_lines.specs.{Line.{IsIn, row_at}, Check.Tells};
-ghost use Rattle.report_form.specs.{Lines.lines_at, Reading.{refuted_line, unknown_line}};
+ghost use Rattle.text_lines.specs.{Line.{IsIn, row_at}, Check.Tells, Repeated.lines_at};
+ghost use Rattle.report_form.specs.Reading.{refuted_line, unknown_line};
 ghost use Rattle.frontier_report.specs.inner.{After.{refuted_after, unknown_after}, Gives.Reads};
 ghost use Rattle.report_lines.specs.{Asking.asks, Room.{HasRoom, Onward}};
 
@@ -10,8 +10,7 @@ use crate::report_stop::ReportStop;
 use candidate_order::{Candidate, Unknown};
 use report_form::{ReportCode, ReportFault};
 use report_lines::{
-    Question, begins, candidate_of, comes_next, fixed_word, next_digits, no_more, spells,
-    tokens_on, within,
+    Question, candidate_behind, candidate_of, fixed_word, next_digits, no_more, spells, tokens_on,
 };
 use std::alloc::Global;
 use text_lines::{Line, Lines, Tokens};
@@ -30,13 +29,7 @@ fn refuted_on(
     fixed_word(&mut tokens, b"refuted")?;
     let x = candidate_of(&mut tokens)?;
     no_more(&mut tokens)?;
-    let Some(candidate) = within(question, x) else {
-        return Err(ReportCode::Limits);
-    };
-    if !comes_next(last, candidate) {
-        return Err(ReportCode::Limits);
-    }
-    Ok(candidate)
+    candidate_behind(question, last, x).ok_or(ReportCode::Limits)
 }
 
 /// Takes the lines of refuted candidates, up to the first line that is none.
@@ -53,10 +46,7 @@ pub fn refuted_part(
     let text = lines.text();
     let mut refuted = Vec::new(alloc);
     let mut last = None;
-    while let Some(line) = lines.peek() {
-        if !begins(text, line, b"refuted ") {
-            break;
-        }
+    while let Some(line) = lines.next_with(b"refuted ") {
         match refuted_on(text, line, question, last) {
             Ok(candidate) => {
                 refuted.push(candidate)?;
@@ -69,7 +59,6 @@ pub fn refuted_part(
                 }));
             }
         }
-        let _ = lines.next();
     }
     Ok(refuted)
 }
@@ -90,12 +79,9 @@ fn unknown_on(
     let digits = next_digits(&mut tokens)?;
     no_more(&mut tokens)?;
     let conflicts = question.limits().conflicts();
-    let Some(candidate) = within(question, x) else {
+    let Some(candidate) = candidate_behind(question, last, x) else {
         return Err(ReportCode::Limits);
     };
-    if !comes_next(last, candidate) {
-        return Err(ReportCode::Limits);
-    }
     if !spells(digits, conflicts) {
         return Err(ReportCode::Limits);
     }
@@ -116,10 +102,7 @@ pub fn unknown_part(
     let text = lines.text();
     let mut unknown: Vec<Unknown> = Vec::new(alloc);
     let mut last = None;
-    while let Some(line) = lines.peek() {
-        if !begins(text, line, b"unknown ") {
-            break;
-        }
+    while let Some(line) = lines.next_with(b"unknown ") {
         match unknown_on(text, line, question, last) {
             Ok(candidate) => {
                 last = Some(candidate.candidate());
@@ -132,7 +115,6 @@ pub fn unknown_part(
                 }));
             }
         }
-        let _ = lines.next();
     }
     Ok(unknown)
 }

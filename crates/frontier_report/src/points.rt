@@ -1,7 +1,8 @@
 //! The points of a report, each of several lines.
 
 ghost use Rattle.std.specs.Prelude.{◌≡◌, [], ◌≤◌, ◌<◌, codes, length, OnOk};
-ghost use Rattle.report_form.specs.{Lines.parts_at, Points.{frontier_point_at, joined_point_at, schedule_at}};
+ghost use Rattle.text_lines.specs.Repeated.{parts_at};
+ghost use Rattle.report_form.specs.Points.{frontier_point_at, joined_point_at, schedule_at};
 ghost use Rattle.frontier_report.specs.inner.{After.point_after, Gives.Reads};
 ghost use Rattle.report_lines.specs.{Asking.asks, Heads.head_value, Room.{HasRoom, Onward}};
 

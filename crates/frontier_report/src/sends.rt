@@ -1,15 +1,15 @@
 //! The lines of a point's sends.
 
 ghost use Rattle.std.specs.Prelude.{◌≡◌, ◌≤◌, ◌<◌, Some, None, if◌then◌else◌, codes, length, OnOk};
-ghost use Rattle.text_lines.specs.{Line.{IsIn, row_at}, Check.Tells};
-ghost use Rattle.report_form.specs.{Lines.lines_at, Points.{follows, may_be_sent, send_from, send_line}};
+ghost use Rattle.text_lines.specs.{Line.{IsIn, row_at}, Check.Tells, Repeated.lines_at};
+ghost use Rattle.report_form.specs.Points.{follows, may_be_sent, send_from, send_line};
 ghost use Rattle.frontier_report.specs.inner.{After.send_after, Gives.Reads, Wide.hop_of};
 ghost use Rattle.report_lines.specs.Room.{HasRoom, Onward};
 
 use crate::report_stop::ReportStop;
 use indexmap::IndexSet;
 use report_form::{ReportCode, ReportFault};
-use report_lines::{begins, fixed_word, next_node, next_number, no_more, tokens_on};
+use report_lines::{fixed_word, next_node, next_number, no_more, tokens_on};
 use schedule::{Hop, hop_cmp};
 use std::alloc::Global;
 use text_lines::{Line, Lines, Tokens};
@@ -113,10 +113,7 @@ pub fn sends_part(
     let text = lines.text();
     let mut sends = Vec::new(alloc);
     let mut last = None;
-    while let Some(line) = lines.peek() {
-        if !begins(text, line, b"send ") {
-            break;
-        }
+    while let Some(line) = lines.next_with(b"send ") {
         match send_on(text, line, names, extent, last) {
             Ok(hop) => {
                 sends.push(hop)?;
@@ -129,7 +126,6 @@ pub fn sends_part(
                 }));
             }
         }
-        let _ = lines.next();
     }
     Ok(sends)
 }

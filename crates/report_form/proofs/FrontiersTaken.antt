@@ -1,16 +1,16 @@
 -- What the checks of a report's parts took stands there, and is valid.
 use Rattle.std.proofs.{Common.{◌≡◌, ℕ, List, [], ◌∷◌, ◌++◌, map, length, refl, ap, ◌≢◌, codes, flat_map, All}, lemmas.List.Elements.{All-nil, All-cons}}
-use Rattle.text_lines.specs.Text.{Place, words_of}
+use Rattle.text_lines.{specs.Text.{Place, words_of}, proofs.Gives.{gives_done, gives_like, gives_then, here, then_on, cut_here, cut_more, cut_on, GivesPart, parts_give, lines_give}}
 use Rattle.outer_ports.specs.declared.part.Part.{Part}
 use Rattle.outer_ports.specs.declared.part.Part.TheVariants as part
 use Rattle.collective_spec.specs.declared.kind.Kind.{Kind}
 use Rattle.collective_spec.specs.declared.kind.Kind.TheVariants as kind
 use Rattle.candidate_order.specs.{declared.candidate.Candidate.Candidate, Ranges.IsLimits, Frontiers.{QuestionValue, PointValue, UnknownValue, FrontierValue}}
-use Rattle.topology_text.{specs.Value.NamedTopologyValue, proofs.Cuts.{cut_here, cut_more}}
+use Rattle.topology_text.specs.Value.{NamedTopologyValue}
 use Rattle.report_form.specs.{Reports.{WordsValue, IsFrontier, IsJoinedPoint, question_of}, Points.{frontier_point_at, joined_point_at}}
 use Rattle.report_form.specs.Spelling.{point_lines, refuted_words, unknown_words, part_words, frontier_lines, joined_lines}
 use Rattle.report_form.specs.Reading.{refuted_line, unknown_line, part_bytes, frontier_at, frontiers_from, joined_at}
-use Rattle.report_form.proofs.{Gives.{gives_done, gives_like, gives_then, here, then_on, cut_on, GivesPart, parts_give, lines_give}, LineTaken.fixed_gives}
+use Rattle.report_form.proofs.LineTaken.{fixed_gives}
 use Rattle.report_form.proofs.ListsTaken.{AreListed, none_listed, refuted_takes, AreUnknown, none_unknown, unknown_takes}
 use Rattle.report_form.proofs.{PointsTaken.{ArePoints, no_points, point_steps}, JoinedTaken.{joined_steps, no_joined}}
 
@@ -45,7 +45,7 @@ module _ (names : List (List ℕ)) (q : QuestionValue) (as_many : length names �
       let title : List (List (List ℕ)) = part_words x ∷ [] in
       gives_then _ _ (fixed_gives (part_bytes x) (part_words x) (part_tokens x) p)
       (λ e line. record { value = nothing_found; valid = nothing_valid; cut = cut_here _ p e.1 line })
-      (λ h read head. gives_then _ _ (parts_give (codes "point ") (frontier_point_at names q) (point_lines names) (ArePoints names q as_many) (point_steps names q as_many ok) (no_points names q as_many) h.1)
+      (λ h read head. gives_then _ _ (parts_give (point_lines names) (ArePoints names q as_many) (codes "point ") (frontier_point_at names q) (point_steps names q as_many ok) (no_points names q as_many) h.1)
       (λ e s. record { value = frontier s.value [] []; valid = frontier_valid s.value [] [] s.valid (none_listed q) (none_unknown q); cut = cut_on title (A s.value ++ []) p h.1 e.1 head.1 (cut_more (A s.value) [] h.1 e.1 s.cut) })
       (λ a ra ta. gives_then _ _ (lines_give (codes "refuted ") (refuted_line q) refuted_words (AreListed q) (refuted_takes q) (none_listed q) a.1)
       (λ e s. record {
@@ -112,5 +112,5 @@ module _ (words : WordsValue) (t : NamedTopologyValue) (as_many : length t.names
       (λ h read head. gives_like
       (λ e s. record { value = s.value; valid = all_are s.value s.valid; cut = cut_on title (flat_map (point_lines t.names) s.value) p h.1 e.1 head.1 s.cut })
       (λ x points. record { valid = all_are x.0 points.valid; lines = then_on title (flat_map (point_lines t.names) x.0) p h.1 x.1 head.1 points.lines })
-      (parts_give (codes "point ") (joined_point_at t.names q) (point_lines t.names) (λ ps. All (IsJoinedPoint q) ps) (joined_steps t.names q as_many ok) (no_joined t.names q as_many) h.1))
+      (parts_give (point_lines t.names) (λ ps. All (IsJoinedPoint q) ps) (codes "point ") (joined_point_at t.names q) (joined_steps t.names q as_many ok) (no_joined t.names q as_many) h.1))
   joined_gives ok k p = gives_done _ (record { valid = none_joined words t k; lines = here p })

@@ -1,10 +1,11 @@
 -- What the checks of a joined point took stands there, and is valid.
-use Rattle.std.proofs.Common.{◌≡◌, ℕ, ◌+◌, ◌*◌, ◌<◌, ◌≤◌, ◌&&◌, List, [], length, sym, subst, arith, nat_le, nat_lt, All, Decides}
+use Rattle.std.proofs.Common.{◌≡◌, ℕ, ◌+◌, ◌*◌, ◌<◌, ◌≤◌, ◌&&◌, List, [], length, sym, subst, arith, codes, nat_le, nat_lt, All, Decides}
 use Rattle.std.proofs.lemmas.{Bool.Decides.{Decides-and, Decides-ltb, Decides-like}, List.Elements.{All-push, All-nil}}
+use Rattle.text_lines.proofs.Gives.{Steps}
 use Rattle.candidate_order.specs.{declared.candidate.Candidate.Candidate, Ranges.IsLimits, Frontiers.QuestionValue}
 use Rattle.candidate_order.specs.declared.mark.Mark.TheVariants as mark
 use Rattle.report_form.specs.{Reports.IsJoinedPoint, Spelling.point_lines, Points.{HeadValue, may_join, joined_head_from, joined_head_line, joined_point_at}}
-use Rattle.report_form.proofs.{Tested.{leb_decides, six}, Gives.Steps, LineTaken.ruled_gives, Shapes.joined_head_take}
+use Rattle.report_form.proofs.{Tested.{leb_decides, six}, LineTaken.ruled_gives, Shapes.joined_head_take}
 use Rattle.report_form.proofs.PointsTaken.{some_rounds, headed, Headed, headed_steps}
 
 abbrev pub joined_of : Candidate × ℕ → HeadValue
@@ -35,7 +36,7 @@ module _ (names : List (List ℕ)) (q : QuestionValue) (as_many : length names �
   pub no_joined : All (IsJoinedPoint q) []
   no_joined = All-nil (IsJoinedPoint q)
 
-  pub joined_steps : IsLimits q.limits → Steps (joined_point_at names q) (point_lines names) (λ ps. All (IsJoinedPoint q) ps)
+  pub joined_steps : IsLimits q.limits → Steps (codes "point ") (joined_point_at names q) (point_lines names) (λ ps. All (IsJoinedPoint q) ps)
   unfolding joined_point_at
   joined_steps ok = headed_steps names q as_many (λ before. joined_head_line q) (λ ps. All (IsJoinedPoint q) ps)
       (λ before p are. ruled_gives joined_head_from (λ h. may_join q h.0 h.1) joined_of headed (Headed q (λ ps. All (IsJoinedPoint q) ps) before)

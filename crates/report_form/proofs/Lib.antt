@@ -1,7 +1,6 @@
 pub mod Tested
 pub mod Ascending
 pub mod Tokens
-pub mod Gives
 pub mod LineTaken
 pub mod Shapes
 pub mod ListsTaken

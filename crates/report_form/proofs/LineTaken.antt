@@ -2,9 +2,8 @@
 use Rattle.std.proofs.Common.{◌≡◌, ℕ, Bool, true, false, not, List, [], ◌∷◌, ◌++◌, Option, None, Some, Result, Ok, Err, refl, sym, ap, ◌∙◌, subst, bytes_eq}
 use Rattle.std.proofs.lemmas.{Bool.not-false, Slice.Eq.bytes_eq-Decides}
 use Rattle.text_lines.specs.{Text.{Row, Place, words_of}, Check.{◌>>=◌, refuse, first, line_part}}
-use Rattle.text_lines.proofs.{Checks.{bind_ok, refuse_ok, refuse_alone, part_ok, ok_is}, Rows.{row_of, row_back}}
+use Rattle.text_lines.proofs.{Checks.{bind_ok, refuse_ok, refuse_alone, part_ok, ok_is}, Gives.{Gives, Between, line_gives, Takes}, Rows.{row_of, row_back}}
 use Rattle.report_form.specs.{declared.fault.ReportCode.ReportCode, Lines.{whole_line, tokens_line, fixed_line, no_line}}
-use Rattle.report_form.proofs.Gives.{Gives, Between, line_gives, Takes}
 use Rattle.report_form.specs.declared.fault.ReportCode.TheVariants as code
 
 pub record WholeTaken (line : Option Row) (row : Row) : Type 0 where
@@ -75,16 +74,10 @@ module _ {A B : Type 0} (shape : List (List ℕ) → Result A ReportCode) (rule 
       → (p : Place) → Gives (λ (e : ReportCode × ℕ). e.1 ≡ p.number) (λ (x : B × Place). N x.0 × Between (spell x.0 ∷ []) p x.1) (line_part (on_words (ruled_by shape rule made)) p)
   ruled_gives spell N each p = line_gives (on_words (ruled_by shape rule made)) spell p (λ x e. ruled_spelled spell N each (first p.rows) x e)
 
-pub row_is : (row : Row) (words : List (List ℕ)) → Some row ≡ Some (row_of words) → row ≡ row_of words
-row_is row words e = cc
-
 -- lines that repeat, each behind those before it
-pub ruled_takes : {A : Type 0} (shape : List (List ℕ) → Result A ReportCode) (rule : List A → A → Bool) (spell : A → List (List ℕ)) (Q : List A → Type 0)
-    → ((before : List A) (words : List (List ℕ)) (x : A) → Q before → shape words ≡ Ok x → rule before x ≡ true → Spelled spell (λ y. Q (before ++ y ∷ [])) words x) → Takes (λ before. on_words (ruled_by shape (rule before) (λ x. x))) spell Q
-ruled_takes shape rule spell Q each = record {
-  line = λ before row x are e. row_is row (spell x) (ruled_spelled shape (rule before) (λ y. y) spell (λ y. Q (before ++ y ∷ [])) (λ words a. each before words a are) (Some row) x e).0;
-  keeps = λ before row x are e. (ruled_spelled shape (rule before) (λ y. y) spell (λ y. Q (before ++ y ∷ [])) (λ words a. each before words a are) (Some row) x e).1;
-}
+pub ruled_takes : {A : Type 0} (word : List ℕ) (shape : List (List ℕ) → Result A ReportCode) (rule : List A → A → Bool) (spell : A → List (List ℕ)) (Q : List A → Type 0)
+    → ((before : List A) (words : List (List ℕ)) (x : A) → Q before → shape words ≡ Ok x → rule before x ≡ true → Spelled spell (λ y. Q (before ++ y ∷ [])) words x) → Takes word (λ before. on_words (ruled_by shape (rule before) (λ x. x))) spell Q
+ruled_takes word shape rule spell Q each before line x begun are e = ruled_spelled shape (rule before) (λ y. y) spell (λ y. Q (before ++ y ∷ [])) (λ words a. each before words a are) line x e
 
 -- ---- lines without a value
 

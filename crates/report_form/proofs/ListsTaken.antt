@@ -2,12 +2,13 @@
 use Rattle.std.proofs.Common.{◌≡◌, true, ◌&&◌, List, [], ◌∷◌, ◌++◌, map, None, sym, ap, ◌∙◌, subst, arith, ◌==◌, decimal, codes, All, AllPairs}
 use Rattle.std.{specs.List.last_or, proofs.lemmas.{Bool.{and_parts, eqb-true}, List.{map-append, Elements.{All-push, All-nil}}}}
 use Rattle.list_laws.proofs.Pairs.{no_pairs}
+use Rattle.text_lines.proofs.Gives.{Takes}
 use Rattle.candidate_order.specs.{declared.candidate.Candidate.Candidate, Ranges.IsLimits, Costs.Before}
 use Rattle.candidate_order.specs.Frontiers.{QuestionValue, UnknownValue, IsWithin, IsUnknown}
 use Rattle.candidate_order.proofs.Orders.{has_chunk}
 use Rattle.report_form.specs.{Spelling.{refuted_words, unknown_words}, Tests.{is_within, comes_next}}
 use Rattle.report_form.specs.Reading.{refuted_from, refuted_line, unknown_from, unknown_line}
-use Rattle.report_form.proofs.{Tested.decides_within, Ascending.push_candidate, Tokens.any_number_is, Gives.Takes, LineTaken.ruled_takes}
+use Rattle.report_form.proofs.{Tested.decides_within, Ascending.push_candidate, Tokens.any_number_is, LineTaken.ruled_takes}
 use Rattle.report_form.proofs.Shapes.{refuted_take, unknown_take}
 
 module _ (q : QuestionValue) where
@@ -29,8 +30,8 @@ module _ (q : QuestionValue) where
   pub push_part : {A : Type 0} (part : A → Candidate) (before : List A) (x : A) → AreListed (map part before) → IsWithin q (part x) → comes_next (last_or None (map part before)) (part x) ≡ true → AreListed (map part (before ++ x ∷ []))
   push_part part before x are w next = subst AreListed (sym (map-append part before (x ∷ []))) (push_listed (map part before) (part x) are w next)
 
-  pub refuted_takes : Takes (refuted_line q) refuted_words AreListed
-  refuted_takes = ruled_takes refuted_from (λ before x. is_within q x && comes_next (last_or None before) x) refuted_words AreListed
+  pub refuted_takes : Takes (codes "refuted ") (refuted_line q) refuted_words AreListed
+  refuted_takes = ruled_takes (codes "refuted ") refuted_from (λ before x. is_within q x && comes_next (last_or None before) x) refuted_words AreListed
       (λ before words x are shape rule. let parts = and_parts (is_within q x) (comes_next (last_or None before) x) rule in (refuted_take words x shape, push_listed before x are ((decides_within q x).0 parts.0) parts.1))
 
   abbrev candidates : List UnknownValue → List Candidate
@@ -43,8 +44,8 @@ module _ (q : QuestionValue) where
   pub none_unknown : AreUnknown []
   none_unknown = record { each = All-nil (IsUnknown q); listed = none_listed }
 
-  pub unknown_takes : IsLimits q.limits → Takes (unknown_line q) unknown_words AreUnknown
-  unknown_takes ok = ruled_takes unknown_from (λ before u. is_within q u.candidate && comes_next (last_or None (candidates before)) u.candidate && u.conflicts == q.limits.conflicts) unknown_words AreUnknown
+  pub unknown_takes : IsLimits q.limits → Takes (codes "unknown ") (unknown_line q) unknown_words AreUnknown
+  unknown_takes ok = ruled_takes (codes "unknown ") unknown_from (λ before u. is_within q u.candidate && comes_next (last_or None (candidates before)) u.candidate && u.conflicts == q.limits.conflicts) unknown_words AreUnknown
       (λ before words u are shape rule.
       let taken = unknown_take words u shape in
       let parts = and_parts (is_within q u.candidate && comes_next (last_or None (candidates before)) u.candidate) (u.conflicts == q.limits.conflicts) rule in

@@ -4,7 +4,7 @@ use Rattle.std.{specs.List.{last_or, list_all}, proofs.lemmas.{Bool.{and_parts, 
 use Rattle.std.proofs.lemmas.List.Elements.{All-push, All-nil, All-cons}
 use Rattle.list_laws.proofs.Pairs.{no_pairs}
 use Rattle.text_lines.specs.{Text.{Row, Place}, Check.{◌>>=◌, line_part}}
-use Rattle.topology_text.proofs.Cuts.{cut_here}
+use Rattle.text_lines.proofs.Gives.{Gives, gives_done, gives_like, gives_then, Between, then_on, cut_here, cut_on, Took, Stops, Steps, Takes, lines_give}
 use Rattle.schedule.specs.{declared.hop.Hop.Hop, Sends.{IsRound, IsStep, is_hop_below}}
 use Rattle.collective_spec.specs.Collectives.{chunks_in}
 use Rattle.candidate_order.specs.{declared.{candidate.Candidate.Candidate, mark.Mark.Mark}, Ranges.IsLimits, Frontiers.{QuestionValue, PointValue, IsWithin}}
@@ -13,7 +13,6 @@ use Rattle.report_form.specs.{declared.fault.ReportCode.ReportCode, Reports.{Has
 use Rattle.report_form.specs.Spelling.{rounds_words, send_words, point_words, point_lines}
 use Rattle.report_form.specs.Points.{HeadValue, head_from, head_line, rounds_from, are_rounds, rounds_line, send_from, follows, may_be_sent, send_line, schedule_at, frontier_point_at}
 use Rattle.report_form.proofs.{Tested.decides_within, Ascending.{HopBefore, push_hop}, LineTaken.{ruled_gives, ruled_takes}}
-use Rattle.report_form.proofs.Gives.{Gives, gives_done, gives_like, gives_then, Between, then_on, cut_on, Took, Stops, Steps, Takes, lines_give}
 use Rattle.report_form.proofs.{Shapes.{head_take, rounds_take, send_take}, ListsTaken.{AreListed, none_listed, push_part}}
 
 each_of : {X : Type 0} (p : X → Bool) (P : X → Type 0) (h : (x : X) → p x ≡ true → P x) (xs : List X) → list_all p xs ≡ true → All P xs
@@ -73,8 +72,8 @@ module _ (names : List (List ℕ)) (chunks steps : ℕ) where
   pub no_sends : AreSends []
   no_sends = record { steps_are = All-nil (λ h. IsStep steps h.step); below = All-nil (λ h. is_hop_below chunks (length names) h ≡ true); ascending = no_pairs HopBefore }
 
-  pub send_takes : Takes (send_line names chunks steps) (send_words names) AreSends
-  send_takes = ruled_takes (send_from names) (λ before h. may_be_sent chunks steps h && follows (last_or None before) h) (send_words names) AreSends
+  pub send_takes : Takes (codes "send ") (send_line names chunks steps) (send_words names) AreSends
+  send_takes = ruled_takes (codes "send ") (send_from names) (λ before h. may_be_sent chunks steps h && follows (last_or None before) h) (send_words names) AreSends
       (λ before words h are shape rule.
       let taken = send_take names words h shape in
       let parts = and_parts (may_be_sent chunks steps h) (follows (last_or None before) h) rule in
@@ -154,8 +153,8 @@ module _ (names : List (List ℕ)) (q : QuestionValue) (as_many : length names �
   -- a part that begins with such a head
   pub headed_steps : (check : List PointValue → Option Row → Result HeadValue ReportCode) (Q : List PointValue → Type 0)
       → ((before : List PointValue) (p : Place) → Q before → Gives (λ (e : ReportCode × ℕ). e.1 ≡ p.number) (λ (h : HeadValue × Place). Headed q Q before h.0 × Between (headed h.0 ∷ []) p h.1) (line_part (check before) p))
-      → Steps (λ before p. line_part (check before) p >>= (λ h. schedule_at names q h.0 h.1)) (point_lines names) Q
-  headed_steps check Q heads before p are = gives_then _ _ (heads before p are) (λ e line. inl line)
+      → Steps (codes "point ") (λ before p. line_part (check before) p >>= (λ h. schedule_at names q h.0 h.1)) (point_lines names) Q
+  headed_steps check Q heads before p begun are = gives_then _ _ (heads before p are) (λ e line. inl line)
       (λ h read head. let lines : (x : PointValue) → Scheduled q h.0 x → Between (point_words x ∷ []) p h.1 = λ x s. subst (λ (ws : List (List ℕ)). Between (ws ∷ []) p h.1) (same_head q h.0 x s) head.1 in
       gives_like
       (λ e stops. let s = stops head.0.some in inr (record { value = s.value; valid = head.0.keeps s.value s.valid; cut = cut_on (point_words s.value ∷ []) (schedule_lines names s.value) p h.1 e.1 (lines s.value s.valid) s.cut }))
@@ -174,7 +173,7 @@ module _ (names : List (List ℕ)) (q : QuestionValue) (as_many : length names �
   pub no_points : ArePoints []
   no_points = record { each = All-nil (IsPrintedPoint q); listed = none_listed q }
 
-  pub point_steps : IsLimits q.limits → Steps (frontier_point_at names q) (point_lines names) ArePoints
+  pub point_steps : IsLimits q.limits → Steps (codes "point ") (frontier_point_at names q) (point_lines names) ArePoints
   unfolding frontier_point_at
   point_steps ok = headed_steps (λ before. head_line q (last_or None (solved_by before))) ArePoints
       (λ before p are. ruled_gives head_from (λ h. is_within q h.candidate && comes_next (last_or None (solved_by before)) h.candidate) (λ h. h) headed (Headed q ArePoints before)

@@ -1,24 +1,23 @@
 -- A text that the checks take is the text of the report that they give, which is valid; where they fail, some valid report has the lines before the one that is blamed.
-use Rattle.std.proofs.Common.{◌≡◌, ℕ, Bool, true, false, not, List, [], ◌∷◌, ◌++◌, map, length, Option, None, Some, Result, Ok, Err, refl, sym, ap, ◌∙◌, subst, arith, codes, flat_map, bytes_eq, if◌then◌else◌, is_some, IfSome}
-use Rattle.std.proofs.lemmas.{Bool.not-false, List.{append-nil, length-map, map-append, Elements.{All-nil, All-cons}}, Slice.Eq.bytes_eq-Decides}
-use Rattle.text_lines.specs.{Text.{Row, Place, words_of, rows_of, start}, Check.{◌>>=◌, refuse, need, at_line, first, line_part}}
-use Rattle.text_lines.proofs.{Checks.{bind_ok, refuse_alone, at_line_ok, line_err, part_err_at, ok_is}, Distinct.AreDistinct, Rows.{row_of, text_back}}
+use Rattle.std.proofs.Common.{◌≡◌, ℕ, Bool, true, false, not, List, [], ◌∷◌, ◌++◌, map, length, Option, None, Some, Result, Ok, Err, refl, sym, ap, ◌∙◌, subst, arith, codes, flat_map, if◌then◌else◌, is_some}
+use Rattle.std.proofs.lemmas.{Bool.not-false, List.{append-nil, map-append, Elements.{All-nil, All-cons}}}
+use Rattle.text_lines.specs.{Text.{Row, Place, rows_of, start}, Check.{◌>>=◌, refuse, need, at_line, first, line_part}}
+use Rattle.text_lines.proofs.{Checks.{bind_ok, refuse_alone, need_is, at_line_ok, line_err, part_err_at, ok_is}, Distinct.AreDistinct, Repeated.place, Rows.{row_of, text_back}}
+use Rattle.text_lines.proofs.Gives.{Gives, gives_done, gives_like, gives_then, Between, then_on, Cut, cut_here, cut_more, cut_on, line_gives, Stops}
 use Rattle.schedule.specs.Links.{GroupValue}
 use Rattle.outer_ports.specs.declared.part.Part.{Part}
-use Rattle.collective_spec.specs.{declared.kind.Kind.Kind, Kinds.{is_custom, takes_root}, Patterns.{PatternValue, IsPattern}, Collectives.fits_kind}
+use Rattle.collective_spec.specs.{declared.kind.Kind.Kind, Kinds.{is_custom, takes_root}, Patterns.PatternValue, Collectives.fits_kind}
 use Rattle.collective_spec.specs.declared.kind.Kind.TheVariants as kind
 use Rattle.candidate_order.specs.{Ranges.{IsLimits, unpruned}, Frontiers.{PointValue, FrontierValue}}
 use Rattle.topology_text.specs.{declared.fault.TopologyCode.TopologyCode, Value.{NamedTopologyValue, IsNamed, named_with}, Names.{is_name, AreNames}}
 use Rattle.topology_text.specs.Spelling.{lines_of, version_word, header_words, nodes_words, group_words, custom_lines}
 use Rattle.topology_text.specs.Reading.{header_line, nodes_line, groups_at, pattern_at}
-use Rattle.topology_text.proofs.{Front.head_is, Links.node_again, Groups.{place, Groups, groups_nil, groups_take}, Patterns.pattern_take}
-use Rattle.topology_text.proofs.{Laws.{header_taken, names_taken, nodes_taken, named_valid, group_lines}, Cuts.{Cut, cut_here, cut_more}}
-use Rattle.topology_text.proofs.Filled.{GroupsFilled, fill_groups, PatternFilled, some_pattern, fill_pattern}
+use Rattle.topology_text.proofs.{Front.{version_words, header_gives, nodes_give}, Links.node_again, Groups.{Groups, groups_nil, groups_give}, Patterns.{IsCustom, some_pattern, pattern_gives}}
+use Rattle.topology_text.proofs.Laws.{named_valid, body_lines, header_on, front_on, cut_behind}
 use Rattle.topology_text.specs.Spelling as spelling
 use Rattle.report_form.specs.{declared.fault.ReportCode.ReportCode, Reports.{WordsValue, ReportValue, IsReport, parts_of}, Lines.{whole_line, no_line, among}}
 use Rattle.report_form.specs.{Spelling.{frontier_lines, joined_lines, report_lines, report_text}, SynthLine.{AskedValue, asked_line, root_of, words_from}}
 use Rattle.report_form.specs.Reading.{body_of, version_of, version_line, is_same, report_of}
-use Rattle.report_form.proofs.Gives.{Gives, gives_done, gives_like, gives_then, Between, then_on, cut_on, line_gives, Stops}
 use Rattle.report_form.proofs.LineTaken.{whole_words, fixed_gives, nothing_take}
 use Rattle.report_form.proofs.SynthLineTaken.{RootFits, asked_words, IsAsked, asked_gives, WordsTaken, words_take}
 use Rattle.report_form.proofs.FrontiersTaken.{AreFrontiers, AreJoined, none_joined, nothings, nothings_are, frontiers_give, joined_gives}
@@ -83,28 +82,13 @@ pub head_spelled : (c : Option PatternValue) → head_words (is_some c) ≡ code
 head_spelled None = refl
 head_spelled (Some p) = refl
 
-version_is : (bytes : List ℕ) (b : Bool) → version_of bytes ≡ Some b → words_of bytes ≡ head_words b
-version_is bytes b e = chosen (bytes_eq bytes (codes "sccl 1")) (bytes_eq bytes (codes "sccl 2")) (bytes_eq-Decides bytes (codes "sccl 1")).0 (bytes_eq-Decides bytes (codes "sccl 2")).0 e
-  where
-    is_version : (c : Bool) → Some c ≡ Some b → c ≡ b
-    is_version c k = cc
-
-    chosen : (x y : Bool) → (x ≡ true → bytes ≡ codes "sccl 1") → (y ≡ true → bytes ≡ codes "sccl 2") → (if x then Some false else (if y then Some true else None)) ≡ Some b → words_of bytes ≡ head_words b
-    chosen true y first second k = ap words_of (first refl) ∙ ap head_words (is_version false k)
-    chosen false true first second k = ap words_of (second refl) ∙ ap head_words (is_version true k)
-    chosen false false first second k = absurd (cc)
-
 version_gives : (p : Place) → Gives (λ (e : ReportCode × ℕ). e.1 ≡ p.number) (λ (x : Bool × Place). Unit {0} × Between (head_words x.0 ∷ []) p x.1) (line_part version_line p)
 version_gives p = line_gives version_line head_words p (λ b e. (there (first p.rows) b e, tt))
   where
-    needed : (o : Option Bool) (b : Bool) → need o code.BadLine ≡ Ok b → o ≡ Some b
-    needed None b k = absurd (cc)
-    needed (Some c) b k = let same : c ≡ b = ok_is {C = ReportCode} c b k in ap (λ v. Some v) same
-
     there : (line : Option Row) (b : Bool) → version_line line ≡ Ok b → line ≡ Some (row_of (head_words b))
     there line b e =
         let (row, found, e1) = bind_ok (whole_line line) (λ r. need (version_of r.bytes) code.BadLine) b e in
-        whole_words line row (head_words b) found (version_is row.bytes b (needed (version_of row.bytes) b e1))
+        whole_words line row (head_words b) found (version_words (codes "sccl 1") (codes "sccl 2") head_words refl refl row.bytes b (need_is (version_of row.bytes) code.BadLine b e1))
 
 same_is : (a b : Bool) → is_same a b ≡ true → a ≡ b
 same_is true true e = refl
@@ -164,14 +148,17 @@ root_found (Some name) = ap (λ o. need o code.Limits) (node_again (name ∷ [])
 
 module _ (b : Bool) (a : AskedValue) (asked : IsAsked b a) where
   -- one node, and a pattern where one is due
-  one_pattern : PatternFilled (name_for a.root ∷ []) b (place 1 []) 1
-  one_pattern = some_pattern b (name_for a.root ∷ []) (place 1 []) 1 refl
+  abbrev one_names : List (List ℕ)
+  one_names = name_for a.root ∷ []
+
+  one_pattern : Stops (custom_lines one_names) (IsCustom one_names b) (place 1 []) 1
+  one_pattern = some_pattern b one_names (place 1 []) 1 refl
 
   abbrev one_node : Rooted
-  one_node = (named_with (name_for a.root ∷ []) [] one_pattern.custom, 0)
+  one_node = (named_with one_names [] one_pattern.value, 0)
 
   one_rooted : IsRooted b a one_node
-  one_rooted = record { named = named_valid (name_for a.root ∷ []) [] one_pattern.custom (one_name (takes_root a.kind) a.root asked.fits) (groups_nil 1) one_pattern.valid; shown = one_pattern.shown; found = root_found a.root }
+  one_rooted = record { named = named_valid one_names [] one_pattern.value (one_name (takes_root a.kind) a.root asked.fits) (groups_nil 1) one_pattern.valid.valid; shown = one_pattern.valid.shown; found = root_found a.root }
 
   module _ (z : Rooted) (is : IsRooted b a z) (w : Behind) (valid : AreBehind (words_from a z.1) z.0 w) where
     abbrev made : ReportValue
@@ -217,27 +204,18 @@ module _ (b : Bool) (a : AskedValue) (asked : IsAsked b a) where
   one_stops q n line = record { value = one_node; valid = one_rooted; cut = cut_here (lines_of one_node.0) q n line }
 
   -- behind the topology's first line
-  header_on : (q d : Place) (c : Option PatternValue) → is_some c ≡ b → Between (spelling.head_words b ∷ []) q d → Between (header_words c ∷ []) q d
-  header_on q d c shown t = subst (λ (ws : List (List ℕ)). Between (ws ∷ []) q d) (ap spelling.head_words (sym shown) ∙ sym (head_is c)) t
-
   node_stops : (q d : Place) (n : ℕ) → Between (spelling.head_words b ∷ []) q d → n ≡ d.number → Stops (λ (z : Rooted). lines_of z.0) (IsRooted b a) q n
   node_stops q d n header line =
-      let c = one_pattern.custom in
-      let names : List (List ℕ) = name_for a.root ∷ [] in
-      record { value = one_node; valid = one_rooted; cut = cut_on (header_words c ∷ []) (nodes_words names ∷ custom_lines names c) q d n (header_on q d c one_pattern.shown header) (cut_here (nodes_words names ∷ custom_lines names c) d n line) }
+      let c = one_pattern.value in
+      let rest : List (List (List ℕ)) = nodes_words one_names ∷ body_lines one_names [] c in
+      record { value = one_node; valid = one_rooted; cut = cut_on (header_words c ∷ []) rest q d n (header_on q d b c one_pattern.valid.shown header) (cut_here rest d n line) }
 
   module _ (q d : Place) (header : Between (spelling.head_words b ∷ []) q d) (names : List (List ℕ)) (named : AreNames names) (m : Place) (nodes : Between (nodes_words names ∷ []) d m) (root : ℕ) (found : root_of names a.root ≡ Ok root) where
-    abbrev groups_of : List GroupValue → List (List (List ℕ))
-    groups_of gs = map (group_words names) gs
+    rooted : (gs : List GroupValue) (c : Option PatternValue) → Groups (length names) gs → IsCustom names b c → IsRooted b a (named_with names gs c, root)
+    rooted gs c groups pattern = record { named = named_valid names gs c named groups pattern.valid; shown = pattern.shown; found = found }
 
-    names_on : (c : Option PatternValue) → is_some c ≡ b → Between (header_words c ∷ nodes_words names ∷ []) q m
-    names_on c shown = then_on (header_words c ∷ []) (nodes_words names ∷ []) q d m (header_on q d c shown header) nodes
-
-    rooted : (gs : List GroupValue) (c : Option PatternValue) → Groups (length names) gs → IfSome c (IsPattern (length names)) → is_some c ≡ b → IsRooted b a (named_with names gs c, root)
-    rooted gs c groups pattern shown = record { named = named_valid names gs c named groups pattern; shown = shown; found = found }
-
-    rooted_stops : (n : ℕ) (gs : List GroupValue) (c : Option PatternValue) → Groups (length names) gs → IfSome c (IsPattern (length names)) → is_some c ≡ b → Cut (groups_of gs ++ custom_lines names c) m n → Stops (λ (z : Rooted). lines_of z.0) (IsRooted b a) q n
-    rooted_stops n gs c groups pattern shown cut = record { value = (named_with names gs c, root); valid = rooted gs c groups pattern shown; cut = cut_on (header_words c ∷ nodes_words names ∷ []) (groups_of gs ++ custom_lines names c) q m n (names_on c shown) cut }
+    rooted_stops : (n : ℕ) (gs : List GroupValue) (c : Option PatternValue) → Groups (length names) gs → IsCustom names b c → Cut (body_lines names gs c) m n → Stops (λ (z : Rooted). lines_of z.0) (IsRooted b a) q n
+    rooted_stops n gs c groups pattern cut = record { value = (named_with names gs c, root); valid = rooted gs c groups pattern; cut = cut_behind q d m n b names gs c header nodes pattern.shown cut }
 
 -- a report of each version
 some_asked : (b : Bool) → (a : AskedValue) × IsAsked b a
@@ -296,22 +274,6 @@ pub record ReportTaken (text : List ℕ) (r : ReportValue) : Type 0 where
   pub valid : IsReport r
   pub spelled : text ≡ report_text r
 
-header_gives : (q : Place) → Gives (λ (e : TopologyCode × ℕ). e.1 ≡ q.number) (λ (x : Bool × Place). Between (spelling.head_words x.0 ∷ []) q x.1) (line_part header_line q)
-header_gives q = record { ok = λ x e. let (rows, number) = header_taken q x e in record { rows = rows; number = number }; err = λ e h. (part_err_at header_line q e h).1 }
-
-nodes_give : (q : Place) → Gives (λ (e : TopologyCode × ℕ). e.1 ≡ q.number) (λ (x : List (List ℕ) × Place). AreNames x.0 × Between (nodes_words x.0 ∷ []) q x.1) (line_part nodes_line q)
-nodes_give q = record { ok = λ x e. let (rows, number) = nodes_taken q x e in (names_taken q x e, record { rows = rows; number = number }); err = λ e h. (part_err_at nodes_line q e h).1 }
-
-groups_give : (names : List (List ℕ)) (q : Place)
-    → Gives (λ (e : TopologyCode × ℕ). GroupsFilled names [] q e.1) (λ (x : List GroupValue × Place). Groups (length names) x.0 × Between (map (group_words names) x.0) q x.1) (groups_at names q)
-groups_give names q = record {
-  ok = λ x e.
-      let t = groups_take names [] q.number q.rows x.0 x.1 e (groups_nil (length names)) in
-      let number = t.number in
-      (t.valid, record { rows = group_lines names x.0 t.more q.rows x.1.rows t.all t.lines; number = omega (arith, number, ap length t.all, length-map x.0 (group_words names)) });
-  err = λ e h. fill_groups names q.rows [] q.number e (groups_nil (length names)) h;
-}
-
 -- the report that was read, or one whose first lines were
 pub report_gives : (rows : List Row) (p : Place) → Gives (λ (e : ReportCode × ℕ). Stops report_lines IsReport p e.1) (λ (r : ReportValue). IsReport r × (p.rows ≡ map row_of (report_lines r))) (report_at rows p)
 report_gives rows p =
@@ -325,22 +287,21 @@ report_gives rows p =
     (λ d rd td. gives_then _ _ (at_line_gives a.1.number (refuse (not (is_same d.0 h.0)) code.BadLine)) (λ e line. stop e.1 (one_stops h.0 a.0 ta.0 a.1 e.1 line))
     (λ u ru kept.
     let same : d.0 ≡ h.0 = same_is d.0 h.0 (not-false (is_same d.0 h.0) (refuse_alone (not (is_same d.0 h.0)) code.BadLine u kept)) in
-    let header : Between (spelling.head_words h.0 ∷ []) a.1 d.1 = subst (λ (b : Bool). Between (spelling.head_words b ∷ []) a.1 d.1) same td in
+    let header : Between (spelling.head_words h.0 ∷ []) a.1 d.1 = subst (λ (b : Bool). Between (spelling.head_words b ∷ []) a.1 d.1) same td.1 in
     gives_then _ _ (among_gives (λ n. n ≡ d.1.number) rows (line_part nodes_line d.1) (nodes_give d.1)) (λ e line. stop e.1 (node_stops h.0 a.0 ta.0 a.1 d.1 e.1 header line))
     (λ n rn tn. gives_then _ _ (at_line_gives d.1.number (root_of n.0 a.0.root)) (λ e line. stop e.1 (node_stops h.0 a.0 ta.0 a.1 d.1 e.1 header line))
     (λ root rr found.
     let groups_of : List GroupValue → List (List (List ℕ)) = map (group_words n.0) in
     let rooted_at = rooted_stops h.0 a.0 ta.0 a.1 d.1 header n.0 tn.0 n.1 tn.1 root found in
-    gives_then _ _ (among_gives (λ k. GroupsFilled n.0 [] n.1 k) rows (groups_at n.0 n.1) (groups_give n.0 n.1))
-    (λ e f. let c = some_pattern h.0 n.0 (place 1 []) 1 refl in stop e.1 (rooted_at e.1 f.more c.custom f.valid c.valid c.shown (cut_more (groups_of f.more) (custom_lines n.0 c.custom) n.1 e.1 f.cut)))
-    (λ g rg tg. gives_then _ _ (among_gives (λ k. PatternFilled n.0 h.0 g.1 k) rows (pattern_at h.0 n.0 g.1) (record { ok = λ x e. pattern_take h.0 n.0 g.1 x e; err = λ e failed. fill_pattern h.0 n.0 g.1 e failed }))
-    (λ e f. stop e.1 (rooted_at e.1 g.0 f.custom tg.0 f.valid f.shown (cut_on (groups_of g.0) (custom_lines n.0 f.custom) n.1 g.1 e.1 tg.1 f.cut)))
+    gives_then _ _ (among_gives (λ k. Stops groups_of (Groups (length n.0)) n.1 k) rows (groups_at n.0 n.1) (groups_give n.0 n.1))
+    (λ e s. let c = some_pattern h.0 n.0 (place 1 []) 1 refl in stop e.1 (rooted_at e.1 s.value c.value s.valid c.valid (cut_more (groups_of s.value) (custom_lines n.0 c.value) n.1 e.1 s.cut)))
+    (λ g rg tg. gives_then _ _ (among_gives (λ k. Stops (custom_lines n.0) (IsCustom n.0 h.0) g.1 k) rows (pattern_at h.0 n.0 g.1) (pattern_gives h.0 n.0 g.1))
+    (λ e s. stop e.1 (rooted_at e.1 g.0 s.value tg.valid s.valid (cut_on (groups_of g.0) (custom_lines n.0 s.value) n.1 g.1 e.1 tg.lines s.cut)))
     (λ c rc tc.
     let z : Rooted = (named_with n.0 g.0 c.0, root) in
-    let is = rooted h.0 a.0 ta.0 a.1 d.1 header n.0 tn.0 n.1 tn.1 root found g.0 c.0 tg.0 tc.valid tc.shown in
+    let is = rooted h.0 a.0 ta.0 a.1 d.1 header n.0 tn.0 n.1 tn.1 root found g.0 c.0 tg.valid tc.valid in
     let topology : Between (lines_of z.0) a.1 c.1 =
-    then_on (header_words c.0 ∷ nodes_words n.0 ∷ []) (groups_of g.0 ++ custom_lines n.0 c.0) a.1 n.1 c.1 (names_on h.0 a.0 ta.0 a.1 d.1 header n.0 tn.0 n.1 tn.1 root found c.0 tc.shown)
-    (then_on (groups_of g.0) (custom_lines n.0 c.0) n.1 g.1 c.1 tg.1 (record { rows = tc.lines; number = tc.number })) in
+    then_on (header_words c.0 ∷ nodes_words n.0 ∷ []) (body_lines n.0 g.0 c.0) a.1 n.1 c.1 (front_on a.1 d.1 n.1 h.0 n.0 c.0 tc.valid.shown header tn.1) (then_on (groups_of g.0) (custom_lines n.0 c.0) n.1 g.1 c.1 tg.lines tc.lines) in
     gives_like
     (λ e s. made_stops h.0 a.0 ta.0 z is s.value s.valid p a.1 e.1 front (cut_on (lines_of z.0) (lines_behind (words_from a.0 root) z.0 s.value) a.1 c.1 e.1 topology s.cut))
     (λ r t.

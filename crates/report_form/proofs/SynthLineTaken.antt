@@ -1,15 +1,15 @@
 -- What the checks of the line that says what was asked took stands there, and is valid.
 use Rattle.std.proofs.Common.{◌≡◌, ℕ, ◌<◌, Bool, true, false, ◌||◌, not, List, [], ◌∷◌, ◌++◌, length, drop, Option, None, Some, Ok, refl, sym, ap, ◌∙◌, arith, codes, decimal, bytes_eq, find, if◌then◌else◌}
-use Rattle.std.{specs.List.list_all, proofs.lemmas.{Bool.{and_parts, not-true}, Slice.Eq.bytes_eq-Decides, List.append-nil, Option.same_Some}}
-use Rattle.text_lines.{specs.{Text.Place, Check.{◌>>=◌, need, line_part}}, proofs.Checks.{ok_is, if_some}}
-use Rattle.collective_spec.specs.{declared.kind.Kind.Kind, Kinds.{word_of, takes_root, is_custom, standard_kinds}}
+use Rattle.std.proofs.lemmas.{Bool.and_parts, Slice.Eq.bytes_eq-Decides, List.append-nil, Option.same_Some}
+use Rattle.text_lines.{specs.{Text.Place, Check.{◌>>=◌, line_part}}, proofs.{Checks.{ok_is, if_some, need_is}, Gives.{Gives, Between}}}
+use Rattle.collective_spec.specs.{declared.kind.Kind.{Kind, TheVariants.Custom}, Kinds.{word_of, takes_root, is_custom}}
 use Rattle.candidate_order.specs.{declared.pruning.Pruning.Pruning, Ranges.{LimitsValue, IsLimits, unpruned}}
 use Rattle.topology_text.{specs.{Names.{is_name, name_of}, Spelling.name_at, Reading.node_of}, proofs.Links.node_is}
 use Rattle.report_form.specs.{declared.fault.ReportCode.ReportCode, Reports.IsWords, Spelling.{word_if, pruning_words, synth_words}, Tests.are_limits}
 use Rattle.report_form.specs.Fields.{any_number, behind_key, next_keyed}
 use Rattle.report_form.specs.SynthLine.{AskedValue, kinds_of, kind_named, limits_from, root_from, said_from, pruning_from, asked_from, may_be_asked, asked_line, root_of, words_from}
 use Rattle.report_form.proofs.{Tested.decides_limits, Tokens.{pass_then, pass_done, word_take, fixed_take, no_more_take, keyed_is, any_number_is}}
-use Rattle.report_form.proofs.{Gives.{Gives, Between}, LineTaken.ruled_gives}
+use Rattle.report_form.proofs.LineTaken.{ruled_gives}
 use Rattle.report_form.specs.declared.fault.ReportCode.TheVariants as code
 
 -- ---- keys
@@ -37,18 +37,13 @@ found_is p (x ∷ xs) k e = chosen (p x) refl e (found_is p xs k)
 kind_is : (patterned : Bool) (w : List ℕ) (k : Kind) → kind_named patterned w ≡ Some k → w ≡ word_of k
 kind_is patterned w k e = sym ((bytes_eq-Decides (word_of k) w).0 (found_is (λ kind. bytes_eq (word_of kind) w) (kinds_of patterned) k e))
 
--- what holds of all kinds of a list holds of the one that is found
-found_among : (p q : Kind → Bool) (kinds : List Kind) (k : Kind) → list_all q kinds ≡ true → find p kinds ≡ Some k → q k ≡ true
-found_among p q [] k all e = absurd (cc)
-found_among p q (x ∷ xs) k all e = let parts = and_parts (q x) (list_all q xs) all in chosen (p x) parts.0 e (found_among p q xs k parts.1)
-  where
-    chosen : (b : Bool) → q x ≡ true → (if b then Some x else find p xs) ≡ Some k → (find p xs ≡ Some k → q k ≡ true) → q k ≡ true
-    chosen true holds h later = ap q (sym (same_Some x k h)) ∙ holds
-    chosen false holds h later = later h
-
 -- in version 1 no pairs are given
 kind_standard : (w : List ℕ) (k : Kind) → kind_named false w ≡ Some k → is_custom k ≡ false
-kind_standard w k e = not-true (is_custom k) (found_among (λ kind. bytes_eq (word_of kind) w) (λ kind. not (is_custom kind)) standard_kinds k refl e)
+kind_standard w k e = standard k (ap (kind_named false) (sym (kind_is false w k e)) ∙ e)
+  where
+    standard : (x : Kind) → kind_named false (word_of x) ≡ Some x → is_custom x ≡ false
+    standard Custom h = absurd (cc)
+    standard x h = refl
 
 name_is : (w name : List ℕ) → name_of w ≡ Some name → (w ≡ name) × (is_name name ≡ true)
 name_is w name e = let (good, found) = if_some (is_name w) (Some w) name e in let same = same_Some w name found in (same, ap is_name (sym same) ∙ good)
@@ -180,17 +175,13 @@ pub record WordsTaken (names : List (List ℕ)) (a : AskedValue) (root : ℕ) : 
 pub words_take : (names : List (List ℕ)) (a : AskedValue) (root : ℕ) → 0 < length names → IsLimits a.limits → RootFits (takes_root a.kind) a.root → root_of names a.root ≡ Ok root → WordsTaken names a root
 words_take names a root some ok fits e = chosen (takes_root a.kind) refl fits
   where
-    needed : (o : Option ℕ) → need o code.Limits ≡ Ok root → o ≡ Some root
-    needed None k = absurd (cc)
-    needed (Some n) k = let same : n ≡ root = ok_is {C = ReportCode} n root k in ap (λ m. Some m) same
-
     -- the line with these tokens of the root
     front : List (List ℕ) → List (List ℕ)
     front ws = codes "synth" ∷ (codes "collective=" ++ word_of a.kind) ∷ limits_words a.limits (ws ++ pruning_words a.limits.pruning)
 
     chosen : (b : Bool) → b ≡ takes_root a.kind → RootFits b a.root → WordsTaken names a root
     chosen true takes (name, is, good) =
-        let found : node_of names name ≡ Some root = needed (node_of names name) (ap (root_of names) (sym is) ∙ e) in
+        let found : node_of names name ≡ Some root = need_is (node_of names name) code.Limits root (ap (root_of names) (sym is) ∙ e) in
         let (below, named) = node_is names name root found in
         record {
           spelled = ap (λ o. front (root_tokens o)) is

@@ -2,8 +2,8 @@
 use Rattle.std.proofs.Common.{◌≡◌, ℕ, ◌<◌, ◌^◌, true, ◌&&◌, not, List, [], ◌∷◌, ◌++◌, length, drop, Option, Some, Result, Ok, refl, sym, ap, ◌∙◌, subst, arith, ◌==◌, bytes_eq, decimal, nat_eq, nat_le}
 use Rattle.std.{specs.{List.{starts_with, list_all}, Str.Parse.{AllDigits, digits_value}}, proofs.lemmas.{Bool.Decides.Decides-eqb, Option.same_Some}}
 use Rattle.std.proofs.lemmas.{Bool.{and_parts, not-true, not-false, leb-true, eqb-false}, Slice.Eq.{bytes_eq-Decides, starts_is}}
-use Rattle.text_lines.{specs.Check.◌>>=◌, proofs.{Checks.{bind_ok, done, need_ok, refuse_ok, ok_is, if_some}, Numbers.{up_to_found, spells, digit_is}}}
-use Rattle.topology_text.{specs.{Spelling.name_at, Reading.{begins, node_of}}, proofs.Links.node_is}
+use Rattle.text_lines.{specs.{Check.◌>>=◌, Repeated.begins}, proofs.{Checks.{bind_ok, done, need_ok, refuse_ok, ok_is, if_some}, Numbers.{up_to_found, spells, digit_is}}}
+use Rattle.topology_text.{specs.{Spelling.name_at, Reading.node_of}, proofs.Links.node_is}
 use Rattle.report_form.specs.declared.fault.ReportCode.{ReportCode, TheVariants.BadLine}
 use Rattle.report_form.specs.Fields.{is_digit, is_number, any_number, small_number, next_word, behind_key, fixed_word, next_number, next_node, no_more}
 

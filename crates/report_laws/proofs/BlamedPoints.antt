@@ -1,21 +1,21 @@
 -- A line of a point or of a list that is blamed has the code of its form.
 use Rattle.std.proofs.Common.{◌≡◌, ℕ, ◌<◌, Bool, true, false, ◌&&◌, ◌||◌, List, [], ◌∷◌, ◌++◌, map, length, Option, None, Some, Result, refl, sym, ap, ◌∙◌, arith, ◌==◌, codes, bytes_eq, slice_index_or, drop, is_some}
 use Rattle.std.specs.List.{list_any, last_or}
-use Rattle.text_lines.{specs.{Text.{Row, Place, words_of}, Check.{◌>>=◌, first, line_part}, Number.number_up_to}, proofs.Words.begins_is}
+use Rattle.text_lines.specs.{Text.{Row, Place, words_of}, Check.{◌>>=◌, first, line_part}, Number.number_up_to, Repeated.{begins, row_begins, parts_at}}
+use Rattle.text_lines.proofs.{Gives.{Gives, gives_done, gives_like}, Steady.piece_shortens, Words.begins_is}
 use Rattle.schedule.specs.declared.hop.Hop.{Hop}
 use Rattle.collective_spec.specs.Collectives.{chunks_in}
 use Rattle.outer_ports.specs.declared.part.Part.{Part}
 use Rattle.candidate_order.specs.declared.mark.Mark.TheVariants as mark
 use Rattle.candidate_order.specs.Frontiers.{QuestionValue, PointValue, FrontierValue}
-use Rattle.topology_text.specs.Reading.{begins}
-use Rattle.report_form.specs.{declared.fault.ReportCode.ReportCode, Tests.{is_within, comes_next}, Lines.{fixed_line, row_begins, parts_at}}
+use Rattle.report_form.specs.{declared.fault.ReportCode.ReportCode, Tests.{is_within, comes_next}, Lines.fixed_line}
 use Rattle.report_form.specs.Points.{HeadValue, head_from, joined_head_from, may_join, rounds_from, are_rounds, rounds_line, send_from, send_line, may_be_sent, follows, schedule_at, frontier_point_at, joined_point_at}
 use Rattle.report_form.specs.Reading.{part_bytes, refuted_from, refuted_line, unknown_from, unknown_line, frontier_at}
-use Rattle.report_form.proofs.{Gives.{Gives, gives_done, gives_like}, LineTaken.{on_words, ruled_by}}
+use Rattle.report_form.proofs.LineTaken.{on_words, ruled_by}
 use Rattle.report_laws.specs.Shapes.{Token, Word, Any, has_shape, small, is_decimal, candidate_shape, send_shape, formed, rounds, unknown, refuted, results, forms_after}
-use Rattle.report_laws.proofs.{LocalParts.steady_schedule, SteadyLists.shorter_part}
+use Rattle.report_laws.proofs.LocalParts.{steady_schedule}
 use Rattle.report_laws.proofs.ShapesTold.{Told, mark_shape, rounds_shape, refuted_told, unknown_told, head_told, joined_head_told, rounds_told, send_told}
-use Rattle.report_laws.proofs.Blaming.{Form, goes_on, or_false, told_code, ruled_goes, fixed_goes, first_of_shape, first_of_front, unbegun, Coded, At, line_goes, lines_go, parts_go, less}
+use Rattle.report_laws.proofs.Blaming.{Form, goes_on, or_false, told_code, ruled_goes, fixed_goes, first_of_shape, first_of_front, unbegun, Coded, At, coded_at, line_goes, lines_go, parts_go, less}
 
 -- ---- the one form that a line with this first word can have
 
@@ -76,9 +76,9 @@ module _ (rows : List Row) (names : List (List ℕ)) where
         (line_goes rows names joined (rounds ∷ []) (codes "rounds") joined (formed (send_shape names) ∷ results joined) (or_false joined) (λ b. refl) (rounds_line head.candidate) p at refl
         (λ row here. gives_like (λ why is. alone_code row why (or_false (rounds row)) is) (λ rs has. first_of_shape (codes "rounds") (map (λ w. small) (drop 1 (words_of row.bytes))) row has) (ruled_goes (λ words. has_shape (rounds_shape words) words) rounds_from (are_rounds head.candidate) (λ rs. rs) (λ ws. (rounds_told ws).told) row)))
         (λ rs read at_rounds. goes_on _ _
-        (lines_go rows names joined (formed (send_shape names) ∷ results joined) (codes "send") refl (or_false joined) (λ b. refl) (send_check head)
-        (λ before row why begun e. alone_code row why (send_alone names joined row (tail_of (codes "send") row) (begins_is (codes "send") row.bytes refl begun))
-        ((ruled_goes (has_shape (send_shape names)) (send_from names) (λ h. may_be_sent (chunks_in q.spec q.topology.nodes head.candidate.c) head.candidate.s h && follows (last_or None before) h) (λ h. h) (λ ws. (send_told names ws).told) row).err why e)) rs.1.rows [] rs.1.number at_rounds)
+        (lines_go rows names joined (formed (send_shape names) ∷ results joined) (Coded rows) (codes "send") refl (or_false joined) (λ b. refl) (send_check head)
+        (λ before p row why at is begun e. coded_at rows names joined (formed (send_shape names) ∷ results joined) p row why at is (alone_code row why (send_alone names joined row (tail_of (codes "send") row) (begins_is (codes "send") row.bytes refl begun))
+        ((ruled_goes (has_shape (send_shape names)) (send_from names) (λ h. may_be_sent (chunks_in q.spec q.topology.nodes head.candidate.c) head.candidate.s h && follows (last_or None before) h) (λ h. h) (λ ws. (send_told names ws).told) row).err why e))) rs.1 at_rounds)
         (λ s sent left. gives_done _ (less rows names joined (formed (send_shape names)) (results joined) s.1 left.0 (λ row h. no_form (codes "send") (drop 2 (send_shape names)) row (left.1 row h)))))
 
     -- a point, whose line a check of its shape and a rule reads
@@ -91,7 +91,7 @@ module _ (rows : List Row) (names : List (List ℕ)) where
           (λ row here. let front = there (codes "point ") (first p.rows) row begun here in
           gives_like (λ why is. alone_code row why (point_alone joined row (tail_of (codes "point") row) (begins_is (codes "point") row.bytes refl front)) is) (λ h is. first_of_front (codes "point") row refl front) (ruled_goes (has_shape (point_shape joined)) shape rule made told row)))
           (λ h read at_head. schedule_goes h.0 h.1 at_head) in
-          record { ok = λ x read. (g.ok x read, shorter_part (codes "point ") (on_words (ruled_by shape rule made)) (λ h. schedule_at names q h.0 h.1) (steady_schedule names q) p x begun read); err = g.err }
+          record { ok = λ x read. (g.ok x read, piece_shortens (codes "point ") (λ before. on_words (ruled_by shape rule made)) (λ h. schedule_at names q h.0 h.1) (steady_schedule names q) [] p x begun read); err = g.err }
 
   frontier_point_goes : (q : QuestionValue) (before : List PointValue) (p : Place) → At rows names false (results false) p → row_begins (codes "point ") (first p.rows) ≡ true
       → Gives (Coded rows) (λ (x : PointValue × Place). At rows names false (results false) x.1 × (length x.1.rows < length p.rows)) (frontier_point_at names q before p)
@@ -109,7 +109,7 @@ module _ (rows : List Row) (names : List (List ℕ)) where
   -- the points that join two others
   pub joined_points_go : (q : QuestionValue) (p : Place) → At rows names true (results true) p → Gives (Coded rows) (Settled {A = List PointValue} true) (parts_at (codes "point ") (joined_point_at names q) p)
   joined_points_go q p at = gives_like (λ e coded. coded) (λ x left. less rows names true (formed (point_shape true)) [] x.1 left.0 (λ row h. no_form (codes "point") (small ∷ small ∷ mark_shape true) row (left.1 row h)))
-      (parts_go rows names true (results true) (codes "point ") (joined_point_at names q) (joined_point_goes q) (length p.rows) [] p (omega arith) at)
+      (parts_go rows names true (results true) (Coded rows) (codes "point ") (joined_point_at names q) (joined_point_goes q) (length p.rows) [] p (omega arith) at)
 
   -- ---- a frontier
 
@@ -123,13 +123,13 @@ module _ (rows : List Row) (names : List (List ℕ)) where
   unfolding frontier_at
   frontier_goes q part titled p at =
       goes_on _ _ (title_goes false false (part_bytes part) (codes "frontier") (results false) titled refl (λ b. refl) p at)
-      (λ h read at_title. goes_on _ _ (parts_go rows names false (results false) (codes "point ") (frontier_point_at names q) (frontier_point_goes q) (length h.1.rows) [] h.1 (omega arith) at_title)
-      (λ x points left. goes_on _ _ (lines_go rows names false (refuted ∷ unknown ∷ []) (codes "refuted") refl refl (λ b. refl) (refuted_line q)
-      (λ before row why begun e. alone_code row why (refuted_alone row (tail_of (codes "refuted") row) (begins_is (codes "refuted") row.bytes refl begun))
-      ((ruled_goes (has_shape refuted_shape) refuted_from (λ y. is_within q y && comes_next (last_or None before) y) (λ y. y) (λ ws. (refuted_told ws).told) row).err why e))
-      x.1.rows [] x.1.number (less rows names false (formed (point_shape false)) (refuted ∷ unknown ∷ []) x.1 left.0 (λ row h. no_form (codes "point") (small ∷ small ∷ mark_shape false) row (left.1 row h))))
-      (λ r refused gone. goes_on _ _ (lines_go rows names false (unknown ∷ []) (codes "unknown") refl refl (λ b. refl) (unknown_line q)
-      (λ before row why begun e. alone_code row why (or_false (unknown row))
-      ((ruled_goes (has_shape unknown_shape) unknown_from (λ u. is_within q u.candidate && comes_next (last_or None (map (λ y. y.candidate) before)) u.candidate && u.conflicts == q.limits.conflicts) (λ u. u) (λ ws. (unknown_told ws).told) row).err why e))
-      r.1.rows [] r.1.number (less rows names false refuted (unknown ∷ []) r.1 gone.0 (λ row h. no_form (codes "refuted") (small ∷ small ∷ []) row (gone.1 row h))))
+      (λ h read at_title. goes_on _ _ (parts_go rows names false (results false) (Coded rows) (codes "point ") (frontier_point_at names q) (frontier_point_goes q) (length h.1.rows) [] h.1 (omega arith) at_title)
+      (λ x points left. goes_on _ _ (lines_go rows names false (refuted ∷ unknown ∷ []) (Coded rows) (codes "refuted") refl refl (λ b. refl) (refuted_line q)
+      (λ before p row why at is begun e. coded_at rows names false (refuted ∷ unknown ∷ []) p row why at is (alone_code row why (refuted_alone row (tail_of (codes "refuted") row) (begins_is (codes "refuted") row.bytes refl begun))
+      ((ruled_goes (has_shape refuted_shape) refuted_from (λ y. is_within q y && comes_next (last_or None before) y) (λ y. y) (λ ws. (refuted_told ws).told) row).err why e)))
+      x.1 (less rows names false (formed (point_shape false)) (refuted ∷ unknown ∷ []) x.1 left.0 (λ row h. no_form (codes "point") (small ∷ small ∷ mark_shape false) row (left.1 row h))))
+      (λ r refused gone. goes_on _ _ (lines_go rows names false (unknown ∷ []) (Coded rows) (codes "unknown") refl refl (λ b. refl) (unknown_line q)
+      (λ before p row why at is begun e. coded_at rows names false (unknown ∷ []) p row why at is (alone_code row why (or_false (unknown row))
+      ((ruled_goes (has_shape unknown_shape) unknown_from (λ u. is_within q u.candidate && comes_next (last_or None (map (λ y. y.candidate) before)) u.candidate && u.conflicts == q.limits.conflicts) (λ u. u) (λ ws. (unknown_told ws).told) row).err why e)))
+      r.1 (less rows names false refuted (unknown ∷ []) r.1 gone.0 (λ row h. no_form (codes "refuted") (small ∷ small ∷ []) row (gone.1 row h))))
       (λ u given last. gives_done _ (less rows names false unknown [] u.1 last.0 (λ row h. no_form (codes "unknown") (small ∷ small ∷ Any is_decimal ∷ []) row (last.1 row h)))))))

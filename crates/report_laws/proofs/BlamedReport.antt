@@ -1,8 +1,8 @@
 -- The line that the checks of a report blame has the code of its form.
 use Rattle.std.proofs.Common.{◌≡◌, ℕ, zero, suc, ◌+◌, Bool, true, false, ◌||◌, not, List, [], ◌∷◌, ◌++◌, map, length, drop, Option, None, Some, Result, Ok, Err, refl, sym, ap, ◌∙◌, arith, ◌==◌, codes, decimal, bytes_eq, if◌then◌else◌, slice_index_or, is_ok}
-use Rattle.std.{specs.List.list_any, proofs.lemmas.{Bool.{and_parts, not-false, or_parts}, Slice.Eq.bytes_eq-Decides}}
-use Rattle.text_lines.specs.{Text.{Row, Place, words_of, rows_of, start, behind}, Check.{◌>>=◌, refuse, need, first, line_part}}
-use Rattle.text_lines.proofs.{Checks.refuse_ok, Rows.{row_of, words_again}, Words.tokens_from}
+use Rattle.std.{specs.List.list_any, proofs.lemmas.{Bool.{and_parts, not-false, or_parts}, Option.same_Some, Slice.Eq.bytes_eq-Decides}}
+use Rattle.text_lines.specs.{Text.{Row, Place, words_of, rows_of, start, behind}, Check.{◌>>=◌, refuse, need, first, line_part}, Repeated.{begins, parts_at}}
+use Rattle.text_lines.proofs.{Checks.refuse_ok, Gives.{Gives, gives_done, gives_fail, gives_like}, Rows.{row_of, words_again}, Words.tokens_from}
 use Rattle.schedule.specs.Links.{GroupValue}
 use Rattle.outer_ports.specs.declared.part.Part.{Part, TheVariants.Joined}
 use Rattle.collective_spec.specs.{declared.kind.Kind.Kind, Patterns.PatternValue}
@@ -10,17 +10,16 @@ use Rattle.collective_spec.specs.declared.kind.Kind.TheVariants as kind
 use Rattle.candidate_order.specs.Frontiers.{PointValue, FrontierValue}
 use Rattle.topology_text.specs.{declared.fault.TopologyCode.{TopologyCode, TheVariants.BadLine}, Value.{NamedTopologyValue, named_with}, Names.AreNames}
 use Rattle.topology_text.specs.Spelling.{nodes_words, head_words}
-use Rattle.topology_text.specs.Reading.{begins, has_empty, has_front, node_of, header_line, nodes_line, groups_at, groups_from, group_row, base_of, custom_line, holders_from, holders_line, holders_at, Pairs, pattern_at}
-use Rattle.topology_text.proofs.{Front.{header_takes, nodes_line_take, nodes_are_words}, Groups.place}
-use Rattle.report_form.specs.{declared.fault.ReportCode.ReportCode, Reports.{WordsValue, ReportValue, parts_of, question_of}, Lines.{no_line, parts_at}}
+use Rattle.topology_text.specs.Reading.{has_empty, has_front, node_of, header_line, nodes_line, groups_at, base_of, custom_line, holders_from, holders_line, holders_at, Pairs, pattern_at}
+use Rattle.topology_text.proofs.{Front.{header_takes, nodes_line_take, nodes_are_words}, Groups.next_group}
+use Rattle.report_form.specs.{declared.fault.ReportCode.ReportCode, Reports.{WordsValue, ReportValue, parts_of, question_of}, Lines.no_line}
 use Rattle.report_form.specs.{Points.joined_point_at, SynthLine.{AskedValue, kinds_of, asked_from, may_be_asked, asked_line, root_of, words_from}}
 use Rattle.report_form.specs.Reading.{part_bytes, frontiers_from, joined_at, body_of, version_of, version_line, is_same, report_of}
-use Rattle.report_form.proofs.{LineTaken.row_is, ReportTaken.{after_root, after_names, after_same, after_asked, after_head, report_at, report_is}}
-use Rattle.report_form.proofs.Gives.{Gives, gives_done, gives_like}
+use Rattle.report_form.proofs.ReportTaken.{after_root, after_names, after_same, after_asked, after_head, report_at, report_is}
 use Rattle.report_form.specs.declared.fault.ReportCode.TheVariants as code
 use Rattle.report_laws.specs.Shapes.{has_shape, asked_shape, formed, results, forms_after, first_word, is_patterned, names_in, forms_behind, code_of}
 use Rattle.report_laws.proofs.{ShapesTold.asked_told, BlamedPoints.{joined_points_go, IsTitle, title_goes, frontier_goes}}
-use Rattle.report_laws.proofs.Blaming.{Form, is_joined, fits, last_is, goes_on, gives_fail, choose_gives, at_line_goes, part_goes, or_false, told_code, ruled_goes, first_of_shape, first_of_front, On, Coded, Unfit, code_on, unfit_on, among_goes, Stands, stands_goes, told_on, At, coded_at, onward}
+use Rattle.report_laws.proofs.Blaming.{Form, is_joined, fits, last_is, goes_on, at_line_goes, part_goes, or_false, told_code, ruled_goes, first_of_shape, first_of_front, On, Coded, Unfit, code_on, unfit_on, among_goes, Stands, stands_goes, told_on, At, coded_at, onward, lines_go}
 
 -- ---- the body
 
@@ -87,14 +86,9 @@ module _ (rows : List Row) (names : List (List ℕ)) where
       by_line None here x e = absurd (lacking x e)
       by_line (Some row) here x e = onward rows names false [] w false [] apart none p row at here (reads row x e)
 
-  groups_go : (rs : List Row) (before : List GroupValue) (n : ℕ) → At rows names false [] (place n rs) → Gives (Unfit rows) (InTopology {A = List GroupValue}) (groups_from names before n rs)
-  groups_go [] before n at = gives_done _ at
-  groups_go (row ∷ rs) before n at =
-      let p : Place = place n (row ∷ rs) in
-      choose_gives (begins (codes "group ") row.bytes) _ (before, p)
-      (λ begun. goes_on _ _ (at_line_goes {N = λ (g : GroupValue). Unit {0}} (Unfit rows) n (group_row names (length before) row) (record { ok = λ g e. tt; err = λ c e. unfit_on rows at.before p (c, n) at.on refl at.awaits }))
-      (λ g read u. groups_go rs (before ++ g ∷ []) (n + 1) (onward rows names false [] (codes "group") false [] refl (λ b. refl) p row at refl (first_of_front (codes "group") row refl begun))))
-      (λ other. at)
+  groups_go : (p : Place) → At rows names false [] p → Gives (Unfit rows) (InTopology {A = List GroupValue}) (groups_at names p)
+  groups_go p at = gives_like (λ e unfit. unfit) (λ x gone. gone.0)
+      (lines_go rows names false [] (Unfit rows) (codes "group") refl refl (λ b. refl) (next_group names) (λ before q row why here is begun e. unfit_on rows here.before q (why, q.number) here.on refl here.awaits) p at)
 
   custom_first : (row : Row) (base : ℕ) → custom_line (Some row) ≡ Ok base → first_word row ≡ codes "custom"
   custom_first row base e =
@@ -175,7 +169,7 @@ module _ (text : List ℕ) where
 
           root_goes : (root : ℕ) → Gives (Coded all) Passed (after_root all head.0 a.0 n root)
           root_goes root =
-              goes_on _ _ (among_goes all (λ (x : List GroupValue × Place). At all n.0 false [] x.1) (groups_at n.0 n.1) (groups_go all n.0 n.1.rows [] n.1.number at_groups))
+              goes_on _ _ (among_goes all (λ (x : List GroupValue × Place). At all n.0 false [] x.1) (groups_at n.0 n.1) (groups_go all n.0 n.1 at_groups))
               (λ g read here. goes_on _ _ (among_goes all (λ (x : Option PatternValue × Place). At all n.0 false [] x.1) (pattern_at head.0 n.0 g.1) (pattern_goes all n.0 head.0 g.1 here))
               (λ c more there. body_goes all (words_from a.0 root) (named_with n.0 g.0 c.0) c.1 there))
 
@@ -193,7 +187,7 @@ module _ (text : List ℕ) where
         behind_names : (n : List (List ℕ) × Place) → Stands all nodes_line (r1 ∷ r2 ∷ r3 ∷ []) d.1 n → Gives (Coded all) Passed (after_names all head.0 a.0 d.1.number n)
         behind_names n i =
             let (spelled, named) = nodes_line_take (Some i.row) n.0 i.read in
-            let is : i.row ≡ row_of (nodes_words n.0) = row_is i.row (nodes_words n.0) spelled in
+            let is : i.row ≡ row_of (nodes_words n.0) = same_Some i.row (row_of (nodes_words n.0)) spelled in
             let coded : (c : ReportCode) → root_of n.0 a.0.root ≡ Err c → Coded all (c, d.1.number) = λ c e. told_on all (r1 ∷ r2 ∷ r3 ∷ []) d.1 i.row c on3 i.here
             (root_told n.0 a.0.root c e ∙ (ap (λ b. if b then code.Limits else code.Truncated) (sym (ap (λ r. r.whole) is)) ∙ ap (λ b. told_code b i.row) (sym (nodes_fit i.row ∙ ap is_ok i.read)))) in
             goes_on _ _ (at_line_goes {N = λ (root : ℕ). Unit {0}} (Coded all) d.1.number (root_of n.0 a.0.root) (record { ok = λ root e. tt; err = coded })) (λ root read u. root_goes n i.row i.on is named root)
@@ -212,7 +206,7 @@ module _ (text : List ℕ) where
           goes_on _ _ (among_goes all (Stands all header_line (r1 ∷ r2 ∷ []) a.1) (line_part header_line a.1) (stands_goes all (Unfit all) header_line (r1 ∷ r2 ∷ []) a.1 on2 (λ x e. absurd (cc))
           (λ c e. unfit_on all (r1 ∷ r2 ∷ []) a.1 (c, a.1.number) on2 refl (λ row h. header_fits row))))
           (λ d read i.
-          let is : i.row ≡ row_of (head_words d.0) = row_is i.row (head_words d.0) (header_takes (Some i.row) d.0 i.read) in
+          let is : i.row ≡ row_of (head_words d.0) = same_Some i.row (row_of (head_words d.0)) (header_takes (Some i.row) d.0 i.read) in
           goes_on _ _ (at_line_goes {N = λ (u : Unit {0}). Unit {0}} (Coded all) a.1.number (refuse (not (is_same d.0 head.0)) code.BadLine) (record {
             ok = λ u e. tt;
             err = λ c e. told_on all (r1 ∷ r2 ∷ []) a.1 i.row c on2 i.here

@@ -2,10 +2,11 @@
 use Rattle.std.proofs.Common.{◌≡◌, ℕ, zero, suc, ◌+◌, ◌-◌, ◌<◌, ◌≤◌, Bool, true, false, ◌&&◌, ◌||◌, not, eqb, List, [], ◌∷◌, ◌++◌, map, length, take, drop, Option, None, Some, Result, Ok, Err, refl, sym, ap, ◌∙◌, subst, append_assoc, arith, codes, bytes_eq, if◌then◌else◌, slice_get, slice_index_or, nat_eq}
 use Rattle.std.{specs.List.{list_any, list_all, last_or, starts_with, join_with_byte}, proofs.{Math.Seq.take-append_seam, lemmas.Bool.and_parts}}
 use Rattle.std.proofs.lemmas.{Bool.Decides.Decides-eqb, List.{length-append, Splits.join_with_byte-slice_split}, Slice.Eq.{bytes_eq-Decides, starts_is}}
-use Rattle.text_lines.{specs.{Text.{Row, Place, words_of, behind}, Check.{◌>>=◌, refuse, at_line, first, line_part}}, proofs.{Checks.first_is, Words.begins_is}}
-use Rattle.topology_text.{specs.{declared.fault.TopologyCode.TopologyCode, Reading.begins}, proofs.Groups.place}
-use Rattle.report_form.specs.{declared.fault.ReportCode.ReportCode, Lines.{whole_line, fixed_line, row_begins, blamed, among, lines_from, parts_from}}
-use Rattle.report_form.proofs.{Gives.{Gives, gives_done, gives_like, gives_then}, LineTaken.{on_words, ruled_by}}
+use Rattle.text_lines.specs.{Text.{Row, Place, words_of, behind}, Check.{◌>>=◌, refuse, at_line, first, line_part}, Repeated.{begins, row_begins, lines_at, parts_from}}
+use Rattle.text_lines.proofs.{Checks.first_is, Gives.{Gives, gives_done, gives_fail, gives_like, gives_then}, Repeated.{line_by, lines_are_parts, one_less}, Words.begins_is}
+use Rattle.topology_text.specs.declared.fault.TopologyCode.{TopologyCode}
+use Rattle.report_form.specs.{declared.fault.ReportCode.ReportCode, Lines.{whole_line, fixed_line, blamed, among}}
+use Rattle.report_form.proofs.LineTaken.{on_words, ruled_by}
 use Rattle.report_form.specs.declared.fault.ReportCode.TheVariants as code
 use Rattle.report_laws.specs.Shapes.{Token, Word, Any, has_shape, forms_after, first_word, is_patterned, names_in, forms_behind, code_of}
 use Rattle.report_laws.proofs.ShapesTold.{Told}
@@ -26,9 +27,6 @@ fits before row = list_any (λ form. form row) (forms_behind before (last_or Non
 -- one step, and then the rest
 pub goes_on : {A B C : Type 0} {E : C → Type 0} {N : A → Type 0} {M : B → Type 0} (r : Result A C) (f : A → Result B C) → Gives E N r → ((x : A) → r ≡ Ok x → N x → Gives E M (f x)) → Gives E M (r >>= f)
 goes_on r f one later = gives_then r f one (λ e holds. holds) later
-
-pub gives_fail : {A C : Type 0} {E : C → Type 0} {N : A → Type 0} (c : C) → E c → Gives {A = A} E N (Err c)
-gives_fail {A} {C} {E} {N} c holds = record { ok = λ x e. absurd (cc); err = λ f e. let same : c ≡ f = cc in subst E same holds }
 
 pub choose_gives : {A C : Type 0} {E : C → Type 0} {N : A → Type 0} (b : Bool) (r : Result A C) (x : A) → (b ≡ true → Gives E N r) → (b ≡ false → N x) → Gives E N (if b then r else Ok x)
 choose_gives true r x goes stays = goes refl
@@ -261,27 +259,37 @@ module _ (rows : List Row) where
     abbrev pub Behind : {A : Type 0} → List ℕ → A × Place → Type 0
     Behind word x = At names joined forms x.1 × ((row : Row) → first x.1.rows ≡ Some row → begins word row.bytes ≡ false)
 
-    module _ {A : Type 0} (word : List ℕ) (free : IsOneWord word) (section : (joined || bytes_eq word (codes "joined")) ≡ joined) (next : (patterned : Bool) → forms_after patterned names joined word ≡ forms) (check : List A → Option Row → Result A ReportCode) (blames : (before : List A) (row : Row) (why : ReportCode) → begins (word ++ 32 ∷ []) row.bytes ≡ true → check before (Some row) ≡ Err why → why ≡ told_code (list_any (λ form. form row) forms) row) where
-      pub lines_go : (rs : List Row) (before : List A) (n : ℕ) → At names joined forms (place n rs) → Gives Coded (Behind (word ++ 32 ∷ [])) (lines_from (word ++ 32 ∷ []) check before n rs)
-      lines_go [] before n at = gives_done (before, place n []) (at, λ row h. absurd (cc))
-      lines_go (row ∷ rs) before n at =
-          let p : Place = place n (row ∷ rs) in
-          choose_gives (begins (word ++ 32 ∷ []) row.bytes) _ (before, p)
-          (λ begun. goes_on _ _ (at_line_goes {N = λ (a : A). Unit {0}} Coded n (check before (Some row)) (record { ok = λ a e. tt; err = λ why e. coded_at p row why at refl (blames before row why begun e) }))
-          (λ a read u. lines_go rs (before ++ a ∷ []) (n + 1) (onward word joined forms section next p row at refl (first_of_front word row free begun))))
-          (λ other. (at, λ r h. let same : row ≡ r = cc in ap (λ q. begins (word ++ 32 ∷ []) q.bytes) (sym same) ∙ other))
-
     none_left : (rs : List Row) (row : Row) → length rs ≤ 0 → first rs ≡ Some row → ⊥
     none_left [] row few h = absurd (cc)
     none_left (r ∷ rs) row few h = absurd (omega (arith, few))
 
-    module _ {A : Type 0} (word : List ℕ) (check : List A → Place → Result (A × Place) (ReportCode × ℕ)) (each : (before : List A) (p : Place) → At names joined forms p → row_begins word (first p.rows) ≡ true → Gives Coded (λ x. At names joined forms x.1 × (length x.1.rows < length p.rows)) (check before p)) where
-      pub parts_go : (fuel : ℕ) (before : List A) (p : Place) → length p.rows ≤ fuel → At names joined forms p → Gives Coded (Behind word) (parts_from word check fuel before p)
+    module _ {A C : Type 0} (E : C × ℕ → Type 0) (word : List ℕ) (check : List A → Place → Result (A × Place) (C × ℕ))
+        (each : (before : List A) (p : Place) → At names joined forms p → row_begins word (first p.rows) ≡ true → Gives E (λ x. At names joined forms x.1 × (length x.1.rows < length p.rows)) (check before p)) where
+      pub parts_go : (fuel : ℕ) (before : List A) (p : Place) → length p.rows ≤ fuel → At names joined forms p → Gives E (Behind word) (parts_from word check fuel before p)
       parts_go zero before p few at = gives_done (before, p) (at, λ row h. absurd (none_left p.rows row few h))
       parts_go (suc fuel) before p few at =
           choose_gives (row_begins word (first p.rows)) _ (before, p)
           (λ begun. goes_on _ _ (each before p at begun) (λ x read gone. let shorter = gone.1 in parts_go fuel (before ++ x.0 ∷ []) x.1 (omega (arith, shorter, few)) gone.0))
           (λ other. (at, λ row h. ap (row_begins word) (sym h) ∙ other))
+
+    begun_row : (word : List ℕ) (o : Option Row) → row_begins word o ≡ true → (row : Row) × (o ≡ Some row)
+    begun_row word None e = absurd (cc)
+    begun_row word (Some row) e = (row, refl)
+
+    module _ {A C : Type 0} (E : C × ℕ → Type 0) (word : List ℕ) (free : IsOneWord word) (section : (joined || bytes_eq word (codes "joined")) ≡ joined) (next : (patterned : Bool) → forms_after patterned names joined word ≡ forms) (check : List A → Option Row → Result A C)
+        (blames : (before : List A) (p : Place) (row : Row) (why : C) → At names joined forms p → first p.rows ≡ Some row → begins (word ++ 32 ∷ []) row.bytes ≡ true → check before (Some row) ≡ Err why → E (why, p.number)) where
+      line_goes_on : (before : List A) (p : Place) → At names joined forms p → row_begins (word ++ 32 ∷ []) (first p.rows) ≡ true → Gives E (λ x. At names joined forms x.1 × (length x.1.rows < length p.rows)) (line_part (check before) p)
+      line_goes_on before p at begun =
+          let (row, is) = begun_row (word ++ 32 ∷ []) (first p.rows) begun in
+          let front : begins (word ++ 32 ∷ []) row.bytes ≡ true = ap (row_begins (word ++ 32 ∷ [])) (sym is) ∙ begun in
+          part_goes E (λ x. At names joined forms x.1 × (length x.1.rows < length p.rows)) (check before) p (record {
+            ok = λ x e. (onward word joined forms section next p row at is (first_of_front word row free front), one_less (word ++ 32 ∷ []) p.rows begun);
+            err = λ why e. blames before p row why at is front (ap (check before) (sym is) ∙ e);
+          })
+
+      pub lines_go : (p : Place) → At names joined forms p → Gives E (Behind (word ++ 32 ∷ [])) (lines_at (word ++ 32 ∷ []) check p)
+      lines_go p at = subst (λ (r : Result (List A × Place) (C × ℕ)). Gives E (Behind (word ++ 32 ∷ [])) r) (sym (lines_are_parts (word ++ 32 ∷ []) check p))
+          (parts_go E (word ++ 32 ∷ []) (line_by check) line_goes_on (length p.rows) [] p (omega arith) at)
 
   -- the line there has not the first of these forms
   pub less : (names : List (List ℕ)) (joined : Bool) (form : Form) (forms : List Form) (p : Place) → At names joined (form ∷ forms) p → ((row : Row) → first p.rows ≡ Some row → form row ≡ false) → At names joined forms p

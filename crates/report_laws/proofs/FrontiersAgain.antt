@@ -1,19 +1,19 @@
 -- The lines of a report's parts that are spelled are read.
 use Rattle.std.proofs.Common.{◌≡◌, ℕ, ◌≤◌, List, [], ◌∷◌, ◌++◌, map, length, Ok, refl, sym, ap, ◌∙◌, subst, arith, ◌≢◌, codes, flat_map, All, IfSome}
 use Rattle.std.proofs.lemmas.List.{length-append, length-map, Elements.{All-head, All-tail, All-map, All-weaker}}
-use Rattle.text_lines.{specs.Text.Row, proofs.Rows.row_of}
+use Rattle.text_lines.{specs.{Text.Row, Repeated.parts_at}, proofs.{Gives.rows_split, ReadBack.{Reads, reads_here, reads_as, reads_then, Ends, lines_again, parts_again}, Repeated.place, Rows.row_of}}
 use Rattle.outer_ports.specs.declared.part.Part.{Part}
 use Rattle.outer_ports.specs.declared.part.Part.TheVariants as part
 use Rattle.collective_spec.{specs.{declared.kind.Kind.Kind, Patterns.IsPattern}, proofs.Chunks.FewBase}
 use Rattle.collective_spec.specs.declared.kind.Kind.TheVariants as kind
 use Rattle.candidate_order.specs.{Ranges.IsLimits, Frontiers.{QuestionValue, PointValue, FrontierValue, IsWithin, IsUnknown}}
-use Rattle.topology_text.{specs.{Value.NamedTopologyValue, Names.AreNames}, proofs.Groups.{place, EndsGroups}}
-use Rattle.report_form.specs.{Reports.{WordsValue, IsPrintedPoint, IsFrontier, IsJoinedPoint, question_of}, Lines.parts_at}
+use Rattle.topology_text.specs.{Value.NamedTopologyValue, Names.AreNames}
+use Rattle.report_form.specs.{declared.fault.ReportCode.ReportCode, Reports.{WordsValue, IsPrintedPoint, IsFrontier, IsJoinedPoint, question_of}}
 use Rattle.report_form.specs.Spelling.{point_lines, refuted_words, unknown_words, part_words, frontier_lines, joined_lines}
 use Rattle.report_form.specs.Points.{frontier_point_at, joined_point_at}
 use Rattle.report_form.specs.Reading.{refuted_line, unknown_line, part_bytes, frontier_at, frontiers_from, joined_at}
-use Rattle.report_form.proofs.{ListsTaken.{AreListed, AreUnknown}, PointsTaken.ArePoints, Gives.rows_split, FrontiersTaken.IsFrontierOf}
-use Rattle.report_laws.proofs.{LinesAgain.{fixed_part_again, Reads, reads_here, reads_as, reads_then, Ends, lines_again, parts_again}, JoinedAgain.joined_reads}
+use Rattle.report_form.proofs.{ListsTaken.{AreListed, AreUnknown}, PointsTaken.ArePoints, FrontiersTaken.IsFrontierOf}
+use Rattle.report_laws.proofs.{LinesAgain.fixed_part_again, JoinedAgain.joined_reads}
 use Rattle.report_laws.proofs.{ListsAgain.{behind_lines, refuted_reads, unknown_reads}, PointsAgain.{base_of, point_reads}}
 
 -- ---- what follows a part
@@ -21,22 +21,17 @@ use Rattle.report_laws.proofs.{ListsAgain.{behind_lines, refuted_reads, unknown_
 -- the next line goes on with nothing that a part or a topology has
 pub record EndsPart (rows : List Row) : Type 0 where
   pub group : Ends (codes "group ") rows
-  pub custom : Ends (codes "custom ") rows
   pub point : Ends (codes "point ") rows
   pub send : Ends (codes "send ") rows
   pub refuted : Ends (codes "refuted ") rows
   pub unknown : Ends (codes "unknown ") rows
 
 pub end_ends : (rows : List Row) → EndsPart (row_of (codes "end" ∷ []) ∷ rows)
-end_ends rows = record { group = refl; custom = refl; point = refl; send = refl; refuted = refl; unknown = refl }
+end_ends rows = record { group = refl; point = refl; send = refl; refuted = refl; unknown = refl }
 
 pub part_ends : (x : Part) (rows : List Row) → EndsPart (row_of (part_words x) ∷ rows)
-part_ends part.Joined rows = record { group = refl; custom = refl; point = refl; send = refl; refuted = refl; unknown = refl }
-part_ends x rows = record { group = refl; custom = refl; point = refl; send = refl; refuted = refl; unknown = refl }
-
-pub groups_end : (rows : List Row) → Ends (codes "group ") rows → EndsGroups rows
-groups_end [] ends = tt
-groups_end (row ∷ rows) ends = ends
+part_ends part.Joined rows = record { group = refl; point = refl; send = refl; refuted = refl; unknown = refl }
+part_ends x rows = record { group = refl; point = refl; send = refl; refuted = refl; unknown = refl }
 
 part_line : (x : Part) → (row_of (part_words x)).bytes ≡ part_bytes x
 part_line part.Joined = refl
@@ -105,7 +100,7 @@ module _ (words : WordsValue) (t : NamedTopologyValue) (as_many : length t.names
   -- ---- joined points
 
   -- a kind that joins no points has no line of them
-  none_again : (js : List PointValue) (n : ℕ) (rest : List Row) → js ≡ [] → Reads (Ok ([], place n rest)) js rest
+  none_again : (js : List PointValue) (n : ℕ) (rest : List Row) → js ≡ [] → Reads {C = ReportCode} (Ok ([], place n rest)) js rest
   none_again js n rest none = reads_as _ (sym none) (reads_here [] n rest)
 
   pub joined_again : (k : Kind) (js : List PointValue) (n : ℕ) (rest : List Row) → All (IsJoinedPoint (question_of words t part.Joined)) js → (k ≢ kind.Allreduce → js ≡ []) → EndsPart rest

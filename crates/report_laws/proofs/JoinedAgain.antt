@@ -1,6 +1,6 @@
 -- The lines of joined points that are spelled are read.
 use Rattle.std.{proofs.Common.{◌≡◌, ℕ, ◌≤◌, true, List, length, Ok, sym, subst, arith, codes, All}, specs.List.AllByRecursion}
-use Rattle.text_lines.proofs.{Distinct.next_has, Rows.AreTokens, Words.tokens_from}
+use Rattle.text_lines.proofs.{Distinct.next_has, ReadBack.{Ends, ReadsPart}, Rows.AreTokens, Words.tokens_from}
 use Rattle.collective_spec.proofs.Chunks.{FewBase}
 use Rattle.candidate_order.specs.{declared.mark.Mark.Mark, Ranges.IsLimits, Frontiers.{QuestionValue, PointValue}}
 use Rattle.candidate_order.specs.declared.mark.Mark.TheVariants as mark
@@ -8,7 +8,7 @@ use Rattle.topology_text.specs.Names.{AreNames}
 use Rattle.report_form.specs.{Reports.IsJoinedPoint, Spelling.{point_words, point_lines}}
 use Rattle.report_form.specs.Points.{may_join, joined_head_from, joined_head_line, joined_point_at}
 use Rattle.report_form.proofs.{LineTaken.ruled_by, JoinedTaken.{joined_of, decides_join}}
-use Rattle.report_laws.proofs.{LinesAgain.{on_words_again, Ends, ReadsPart}, ShapesAgain.{IsSmall, MarkIsSmall, head_words, joined_head_again, head_are_words}}
+use Rattle.report_laws.proofs.{LinesAgain.on_words_again, ShapesAgain.{IsSmall, MarkIsSmall, head_words, joined_head_again, head_are_words}}
 use Rattle.report_laws.proofs.{ListsAgain.ruled_again, PointsAgain.{head_of, headed_reads, schedule_are_tokens}}
 
 -- a joined point passes the eight tests of a join

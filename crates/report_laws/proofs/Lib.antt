@@ -8,7 +8,6 @@ pub mod JoinedAgain
 pub mod FrontiersAgain
 pub mod SynthLineAgain
 pub mod SpelledTokens
-pub mod LocalLines
 pub mod SteadyLists
 pub mod LocalParts
 pub mod ReportAgain

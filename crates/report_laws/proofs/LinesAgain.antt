@@ -1,47 +1,14 @@
--- Lines that are spelled are read, one by one, many of a kind, and many parts of a kind.
-use Rattle.std.proofs.Common.{◌≡◌, ℕ, zero, suc, ◌+◌, ◌≤◌, Bool, true, false, not, List, [], ◌∷◌, ◌++◌, map, length, Option, Some, Result, Ok, refl, sym, ap, ◌∙◌, subst, append_assoc, arith, flat_map, if◌then◌else◌}
-use Rattle.std.proofs.lemmas.{Slice.Eq.bytes_eq-Decides, List.append-nil}
-use Rattle.text_lines.{specs.{Text.{Row, Place}, Check.{◌>>=◌, refuse, at_line, first, line_part}}, proofs.Rows.{AreTokens, row_of, words_again}}
-use Rattle.topology_text.{specs.Reading.begins, proofs.Groups.place}
-use Rattle.report_form.specs.{declared.fault.ReportCode.{ReportCode, TheVariants.BadLine}, Lines.{fixed_line, row_begins, lines_from, parts_from}}
-use Rattle.report_form.proofs.{Gives.rows_split, LineTaken.on_words}
-
--- ---- one line
+-- Lines of a report that are spelled are read.
+use Rattle.std.proofs.{Common.{◌≡◌, ℕ, not, List, ◌∷◌, Some, Result, Ok, ap, ◌∙◌}, lemmas.Slice.Eq.bytes_eq-Decides}
+use Rattle.text_lines.specs.{Text.{Row, Place}, Check.{refuse, line_part}}
+use Rattle.text_lines.proofs.{ReadBack.{Reads, line_again}, Repeated.place, Rows.{AreTokens, row_of, words_again}}
+use Rattle.topology_text.specs.declared.fault.TopologyCode.{TopologyCode}
+use Rattle.report_form.specs.{declared.fault.ReportCode.{ReportCode, TheVariants.BadLine}, Lines.{fixed_line, among}}
+use Rattle.report_form.proofs.LineTaken.{on_words}
 
 -- a line whose tokens pass
 pub on_words_again : {A : Type 0} (check : List (List ℕ) → Result A ReportCode) (words : List (List ℕ)) (x : A) → AreTokens words → check words ≡ Ok x → on_words check (Some (row_of words)) ≡ Ok x
 on_words_again check words x tokens e = ap check (words_again words tokens) ∙ e
-
--- ---- what was read, and the lines that are left, at whatever number they stand
-
-pub record Reads {A : Type 0} (r : Result (A × Place) (ReportCode × ℕ)) (x : A) (rest : List Row) : Type 0 where
-  pub number : ℕ
-  pub is : r ≡ Ok (x, place number rest)
-
-pub reads_here : {A : Type 0} (x : A) (n : ℕ) (rest : List Row) → Reads (Ok (x, place n rest)) x rest
-reads_here x n rest = record { number = n; is = refl }
-
-pub reads_as : {A : Type 0} {x y : A} {rest : List Row} (r : Result (A × Place) (ReportCode × ℕ)) → x ≡ y → Reads r x rest → Reads r y rest
-reads_as {A} {x} {y} {rest} r same one = subst (λ (z : A). Reads r z rest) same one
-
--- one step that passes, and then the rest
-pub reads_on : {A B : Type 0} {x : A} {y : B} {rest : List Row} (r : Result A (ReportCode × ℕ)) (f : A → Result (B × Place) (ReportCode × ℕ)) → r ≡ Ok x → Reads (f x) y rest → Reads (r >>= f) y rest
-reads_on r f one later = record { number = later.number; is = ap (λ z. z >>= f) one ∙ later.is }
-
-pub reads_then : {A B : Type 0} {x : A} {y : B} {rest last : List Row} (r : Result (A × Place) (ReportCode × ℕ)) (f : A × Place → Result (B × Place) (ReportCode × ℕ)) → Reads r x rest → ((n : ℕ) → Reads (f (x, place n rest)) y last) → Reads (r >>= f) y last
-reads_then r f one later = reads_on r f one.is (later one.number)
-
--- where the test holds
-reads_if : {A : Type 0} {x : A} {rest : List Row} (b : Bool) (r s : Result (A × Place) (ReportCode × ℕ)) → b ≡ true → Reads r x rest → Reads (if b then r else s) x rest
-reads_if true r s e one = one
-reads_if false r s e one = absurd (cc)
-
-reads_else : {A : Type 0} {x : A} {rest : List Row} (b : Bool) (r s : Result (A × Place) (ReportCode × ℕ)) → b ≡ false → Reads s x rest → Reads (if b then r else s) x rest
-reads_else true r s e one = absurd (cc)
-reads_else false r s e one = one
-
-pub line_again : {A : Type 0} (check : Option Row → Result A ReportCode) (row : Row) (x : A) (n : ℕ) (rows : List Row) → check (Some row) ≡ Ok x → Reads (line_part check (place n (row ∷ rows))) x rows
-line_again check row x n rows e = reads_on _ _ (ap (at_line n) e) (reads_here x (n + 1) rows)
 
 pub words_part_again : {A : Type 0} (check : List (List ℕ) → Result A ReportCode) (words : List (List ℕ)) (x : A) (n : ℕ) (rows : List Row) → AreTokens words → check words ≡ Ok x → Reads (line_part (on_words check) (place n (row_of words ∷ rows))) x rows
 words_part_again check words x n rows tokens e = line_again (on_words check) (row_of words) x n rows (on_words_again check words x tokens e)
@@ -49,47 +16,6 @@ words_part_again check words x n rows tokens e = line_again (on_words check) (ro
 pub fixed_part_again : (bytes : List ℕ) (words : List (List ℕ)) (n : ℕ) (rows : List Row) → (row_of words).bytes ≡ bytes → Reads (line_part (fixed_line bytes) (place n (row_of words ∷ rows))) tt rows
 fixed_part_again bytes words n rows same = line_again (fixed_line bytes) (row_of words) tt n rows (ap (λ t. refuse (not t) BadLine) ((bytes_eq-Decides (row_of words).bytes bytes).1 same))
 
--- the next line, if there is one, does not begin with the word
-abbrev pub Ends : List ℕ → List Row → Type 0
-Ends word rows = row_begins word (first rows) ≡ false
-
--- ---- lines that repeat
-
--- a check that reads the line of a value, where the value and those around it are valid
-pub record ReadsLine {A : Type 0} (word : List ℕ) (check : List A → Option Row → Result A ReportCode) (spell : A → List (List ℕ)) (Q : List A → Type 0) : Type 0 where
-  pub line : (before : List A) (x : A) (more : List A) → Q (before ++ x ∷ more) → check before (Some (row_of (spell x))) ≡ Ok x
-  pub starts : (x : A) → begins word (row_of (spell x)).bytes ≡ true
-
-pub lines_again : {A : Type 0} (word : List ℕ) (check : List A → Option Row → Result A ReportCode) (spell : A → List (List ℕ)) (Q : List A → Type 0) → ReadsLine word check spell Q
-    → (before more : List A) (n : ℕ) (rest : List Row) → Q (before ++ more) → Ends word rest → Reads (lines_from word check before n (map row_of (map spell more) ++ rest)) (before ++ more) rest
-lines_again word check spell Q reads before [] n [] valid ends = reads_as _ (sym (append-nil before)) (reads_here before n [])
-lines_again word check spell Q reads before [] n (row ∷ rows) valid ends = reads_else _ _ _ ends (reads_as _ (sym (append-nil before)) (reads_here before n (row ∷ rows)))
-lines_again word check spell Q reads before (x ∷ more) n rest valid ends =
-    let moved = append_assoc before (x ∷ []) more in
-    reads_if _ _ _ (reads.starts x) (reads_on _ _ (ap (at_line n) (reads.line before x more valid)) (reads_as _ moved (lines_again word check spell Q reads (before ++ x ∷ []) more (n + 1) rest (subst Q (sym moved) valid) ends)))
-
--- ---- parts of several lines that repeat
-
--- a check that reads the lines of a value, where what follows them ends them
-pub record ReadsPart {A : Type 0} (word : List ℕ) (check : List A → Place → Result (A × Place) (ReportCode × ℕ)) (spell : A → List (List (List ℕ))) (Q : List A → Type 0) (Stops : List Row → Type 0) : Type 0 where
-  pub part : (before : List A) (x : A) (more : List A) (n : ℕ) (rest : List Row) → Q (before ++ x ∷ more) → Stops rest → Reads (check before (place n (map row_of (spell x) ++ rest))) x rest
-  pub starts : (x : A) (rest : List Row) → row_begins word (first (map row_of (spell x) ++ rest)) ≡ true
-  pub stops : (x : A) (rest : List Row) → Stops (map row_of (spell x) ++ rest)
-
--- what follows a part: the next one, or what follows them all
-parts_stop : {A : Type 0} (spell : A → List (List (List ℕ))) (Stops : List Row → Type 0) (more : List A) (rest : List Row) → ((x : A) (rs : List Row) → Stops (map row_of (spell x) ++ rs)) → Stops rest → Stops (map row_of (flat_map spell more) ++ rest)
-parts_stop spell Stops [] rest each last = last
-parts_stop spell Stops (x ∷ more) rest each last = subst Stops (sym (rows_split (spell x) (flat_map spell more) rest)) (each x (map row_of (flat_map spell more) ++ rest))
-
-pub parts_again : {A : Type 0} (word : List ℕ) (check : List A → Place → Result (A × Place) (ReportCode × ℕ)) (spell : A → List (List (List ℕ))) (Q : List A → Type 0) (Stops : List Row → Type 0) → ReadsPart word check spell Q Stops
-    → (fuel : ℕ) (before more : List A) (n : ℕ) (rest : List Row) → length more ≤ fuel → Q (before ++ more) → Ends word rest → Stops rest
-    → Reads (parts_from word check fuel before (place n (map row_of (flat_map spell more) ++ rest))) (before ++ more) rest
-parts_again word check spell Q Stops reads zero before [] n rest enough valid ends stops = reads_as _ (sym (append-nil before)) (reads_here before n rest)
-parts_again word check spell Q Stops reads (suc fuel) before [] n rest enough valid ends stops = reads_else _ _ _ ends (reads_as _ (sym (append-nil before)) (reads_here before n rest))
-parts_again word check spell Q Stops reads zero before (x ∷ more) n rest enough valid ends stops = absurd (omega (arith, enough))
-parts_again word check spell Q Stops reads (suc fuel) before (x ∷ more) n rest enough valid ends stops =
-    let behind : List Row = map row_of (flat_map spell more) ++ rest in
-    let moved = append_assoc before (x ∷ []) more in
-    subst (λ (rs : List Row). Reads (parts_from word check (suc fuel) before (place n rs)) (before ++ x ∷ more) rest) (sym (rows_split (spell x) (flat_map spell more) rest))
-    (reads_if _ _ _ (reads.starts x behind) (reads_then _ _ (reads.part before x more n behind valid (parts_stop spell Stops more rest reads.stops stops))
-    (λ k. reads_as _ moved (parts_again word check spell Q Stops reads fuel (before ++ x ∷ []) more k rest (omega (arith, enough)) (subst Q (sym moved) valid) ends stops))))
+-- a part of the topology that is read, whatever the rows among which a fault would be looked for
+pub reads_among : {A : Type 0} {x : A} {rest : List Row} (rows : List Row) (r : Result (A × Place) (TopologyCode × ℕ)) → Reads r x rest → Reads (among rows r) x rest
+reads_among rows r one = record { number = one.number; is = ap (among rows) one.is }

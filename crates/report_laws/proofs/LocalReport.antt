@@ -6,13 +6,14 @@ use Rattle.outer_ports.specs.declared.part.Part.TheVariants as part
 use Rattle.collective_spec.specs.declared.kind.Kind.{Kind}
 use Rattle.collective_spec.specs.declared.kind.Kind.TheVariants as kind
 use Rattle.topology_text.specs.{Value.{NamedTopologyValue, named_with}, Reading.{header_line, nodes_line, groups_at, pattern_at}}
-use Rattle.topology_text.proofs.{Local.Same, SteadyParts.{steady_groups, steady_pattern}, Steady.{Steady, Settles, steady_line, steady_found, settles_ok}}
+use Rattle.text_lines.proofs.{Repeated.same_then, Steady.{Steady, Settles, steady_line, steady_found, steady_then, settles_then, settles_ok}}
+use Rattle.topology_text.proofs.SteadyParts.{steady_groups, steady_pattern}
 use Rattle.report_form.specs.{declared.fault.ReportCode.ReportCode, Reports.{WordsValue, ReportValue, IsReport, parts_of, question_of}, Spelling.report_text}
 use Rattle.report_form.specs.{Lines.{fixed_line, no_line, among}, SynthLine.{AskedValue, asked_line, root_of, words_from}, First.Agrees}
 use Rattle.report_form.specs.Reading.{part_bytes, frontiers_from, joined_at, body_of, version_line, is_same, report_of}
 use Rattle.report_form.proofs.ReportTaken.{report, after_root, after_same, after_header, after_asked, after_head, report_at, report_is}
 use Rattle.report_form.specs.declared.fault.ReportCode.TheVariants as code
-use Rattle.report_laws.proofs.{Judged.{judged, steady_judged, judged_passed}, LocalLines.same_for_each, SteadyLists.{steady_next, settles_next, steady_among}}
+use Rattle.report_laws.proofs.{Judged.{judged, steady_judged, judged_passed}, SteadyLists.steady_among}
 use Rattle.report_laws.proofs.{ReportAgain.report_again, LocalParts.{steady_joined_points, steady_frontier}}
 
 -- ---- all parts
@@ -20,17 +21,17 @@ use Rattle.report_laws.proofs.{ReportAgain.report_again, LocalParts.{steady_join
 module _ (words : WordsValue) (t : NamedTopologyValue) where
   steady_frontiers : (parts : List Part) → Steady (frontiers_from words t parts) (frontiers_from words t parts)
   steady_frontiers [] = steady_found []
-  steady_frontiers (x ∷ parts) = steady_next _ _ _ _ (steady_frontier t.names (question_of words t x) x) (λ f. steady_next _ _ _ _ (steady_frontiers parts) (λ rest. steady_found ((x, f) ∷ rest)))
+  steady_frontiers (x ∷ parts) = steady_then _ _ _ _ (steady_frontier t.names (question_of words t x) x) (λ f. steady_then _ _ _ _ (steady_frontiers parts) (λ rest. steady_found ((x, f) ∷ rest)))
 
   steady_joined : (k : Kind) → Steady (joined_at k words t) (joined_at k words t)
-  steady_joined kind.Allreduce = steady_next _ _ _ _ (steady_line (fixed_line (part_bytes part.Joined))) (λ u. steady_joined_points t.names (question_of words t part.Joined))
+  steady_joined kind.Allreduce = steady_then _ _ _ _ (steady_line (fixed_line (part_bytes part.Joined))) (λ u. steady_joined_points t.names (question_of words t part.Joined))
   steady_joined k = steady_found []
 
   settles_body : Settles (body_of words t) (body_of words t)
   unfolding body_of
   settles_body =
-      settles_next _ _ _ _ (steady_frontiers (parts_of words.collective.kind)) (λ fs. settles_next _ _ _ _ (steady_joined words.collective.kind)
-      (λ js. settles_next _ _ _ _ (steady_line (fixed_line (codes "end"))) (λ u. settles_next _ _ _ _ (steady_line no_line) (λ v. settles_ok (λ p. report words t fs js) (λ p. report words t fs js)))))
+      settles_then _ _ _ _ (steady_frontiers (parts_of words.collective.kind)) (λ fs. settles_then _ _ _ _ (steady_joined words.collective.kind)
+      (λ js. settles_then _ _ _ _ (steady_line (fixed_line (codes "end"))) (λ u. settles_then _ _ _ _ (steady_line no_line) (λ v. settles_ok (report words t fs js)))))
 
 -- ---- the whole
 
@@ -54,9 +55,9 @@ in_parts rows p = line_part version_line p >>= (λ h. line_part (asked_line h.0)
 
 settles_report : (rows others : List Row) → Settles (in_parts rows) (in_parts others)
 settles_report rows others =
-    settles_next _ _ _ _ (steady_line version_line) (λ b. settles_next _ _ _ _ (steady_line (asked_line b))
-    (λ a. settles_next _ _ _ _ (steady_judged header_line (same_version b) rows others) (λ v. settles_next _ _ _ _ (steady_judged nodes_line (root_among a) rows others)
-    (λ z. settles_next _ _ _ _ (steady_among rows others (groups_at z.0) (groups_at z.0) (steady_groups z.0)) (λ groups. settles_next _ _ _ _ (steady_among rows others (pattern_at b z.0) (pattern_at b z.0) (steady_pattern z.0 b))
+    settles_then _ _ _ _ (steady_line version_line) (λ b. settles_then _ _ _ _ (steady_line (asked_line b))
+    (λ a. settles_then _ _ _ _ (steady_judged header_line (same_version b) rows others) (λ v. settles_then _ _ _ _ (steady_judged nodes_line (root_among a) rows others)
+    (λ z. settles_then _ _ _ _ (steady_among rows others (groups_at z.0) (groups_at z.0) (steady_groups z.0)) (λ groups. settles_then _ _ _ _ (steady_among rows others (pattern_at b z.0) (pattern_at b z.0) (steady_pattern z.0 b))
     (λ c. settles_body (words_from a z.1) (named_with z.0 groups c)))))))
 
 -- ---- as the reader is written
@@ -64,10 +65,10 @@ settles_report rows others =
 header_is : (rows : List Row) (b : Bool) (a : AskedValue) (p : Place) → (among rows (line_part header_line p) >>= after_header rows b a p.number) ≡ behind_asked rows b a p
 header_is rows b a p =
     judged_passed (same_version b) p.number (among rows (line_part header_line p)) (λ h u q. after_same rows b a q tt)
-    ∙ same_for_each (judged header_line (same_version b) rows p) (λ z. after_same rows b a z.1 tt) (λ z. behind_names rows b a z.1) (λ z. judged_passed (root_among a) z.1.number (among rows (line_part nodes_line z.1)) (λ names root q. after_root rows b a (names, q) root))
+    ∙ same_then (judged header_line (same_version b) rows p) (λ z. after_same rows b a z.1 tt) (λ z. behind_names rows b a z.1) (λ z read. judged_passed (root_among a) z.1.number (among rows (line_part nodes_line z.1)) (λ names root q. after_root rows b a (names, q) root))
 
 parts_is : (rows : List Row) (p : Place) → report_at rows p ≡ in_parts rows p
-parts_is rows p = same_for_each (line_part version_line p) (after_head rows) _ (λ h. same_for_each (line_part (asked_line h.0) h.1) (after_asked rows h.0) _ (λ a. header_is rows h.0 a.0 a.1))
+parts_is rows p = same_then (line_part version_line p) (after_head rows) _ (λ h read. same_then (line_part (asked_line h.0) h.1) (after_asked rows h.0) _ (λ a read. header_is rows h.0 a.0 a.1))
 
 in_parts_is : (text : List ℕ) → report_of text ≡ in_parts (rows_of text) (start text)
 in_parts_is text = report_is text ∙ parts_is (rows_of text) (start text)
@@ -76,8 +77,8 @@ in_parts_is text = report_is text ∙ parts_is (rows_of text) (start text)
 pub none_agrees : (text : List ℕ) (why : ReportCode) (n : ℕ) → report_of text ≡ Err (why, n) → (r : ReportValue) → IsReport r → Agrees n text r → ⊥
 none_agrees text why n failed r valid agrees =
     let s = settles_report (rows_of text) (rows_of (report_text r)) in
-    let same : Same n (start text) (start (report_text r)) = record { many = n; number = refl; up_to = omega arith; rows = agrees } in
-    let f = s.fails (start text) (start (report_text r)) (why, n) same (sym (in_parts_is text) ∙ failed) in
+    let fails = (s.at (start text)).err (why, n) (sym (in_parts_is text) ∙ failed) in
+    let f = fails.alike (start (report_text r)) (record { many = n; number = refl; up_to = omega arith; rows = agrees }) in
     clash (report_of (report_text r)) (report_again r valid) (in_parts_is (report_text r) ∙ f.is)
   where
     clash : {c : ReportCode × ℕ} (z : Result ReportValue (ReportCode × ℕ)) → z ≡ Ok r → z ≡ Err c → ⊥

@@ -1,21 +1,20 @@
 -- The text of a valid report is read as that report.
-use Rattle.std.proofs.Common.{◌≡◌, ℕ, ◌+◌, Bool, true, false, not, List, [], ◌∷◌, ◌++◌, map, length, Option, None, Some, Ok, refl, sym, ap, ◌∙◌, subst, codes, flat_map, is_some}
+use Rattle.std.proofs.Common.{◌≡◌, ℕ, Bool, true, false, not, List, [], ◌∷◌, ◌++◌, map, drop, Option, None, Some, Ok, refl, sym, ap, ◌∙◌, subst, codes, flat_map, is_some}
 use Rattle.std.proofs.lemmas.{Bool.not-true, List.map-append}
-use Rattle.text_lines.{specs.{Text.{Row, rows_of}, Check.{refuse, at_line, line_part}}, proofs.{Checks.ok_is, Rows.row_of}}
+use Rattle.text_lines.specs.{Text.{Row, rows_of}, Check.{refuse, at_line, line_part}}
+use Rattle.text_lines.proofs.{Checks.ok_is, Gives.rows_split, ReadBack.{Reads, reads_end, line_again, Ends}, Repeated.place, Rows.row_of}
 use Rattle.outer_ports.specs.declared.part.Part.{Part}
 use Rattle.collective_spec.specs.{declared.kind.Kind.Kind, Kinds.{takes_root, is_custom}, Patterns.PatternValue, Collectives.fits_kind}
-use Rattle.topology_text.specs.{Value.{NamedTopologyValue, named_with}, Spelling.{version_word, header_words, nodes_words, group_words, custom_lines, lines_of}}
-use Rattle.topology_text.specs.Reading.{groups_at}
-use Rattle.topology_text.proofs.{Front.head_is, Groups.{place, EndsGroups, groups_again}, Patterns.{pattern_again, pattern_ends}}
-use Rattle.topology_text.proofs.Laws.{names_are, groups_are, pattern_is, rows_same, header_part_again, nodes_part_again}
+use Rattle.topology_text.specs.{Value.NamedTopologyValue, Spelling.{version_word, nodes_words, group_words, custom_lines, lines_of}}
+use Rattle.topology_text.proofs.{Front.{header_reads, nodes_reads}, Laws.{named_again, groups_of_read, pattern_of_read, rows_parted}}
 use Rattle.topology_text.specs.Spelling as spelling
-use Rattle.report_form.specs.{declared.fault.ReportCode.ReportCode, Reports.{WordsValue, ReportValue, IsReport}, Lines.among, SynthLine.AskedValue}
+use Rattle.report_form.specs.{declared.fault.ReportCode.ReportCode, Reports.{WordsValue, ReportValue, IsReport}}
 use Rattle.report_form.specs.Spelling.{synth_words, frontier_lines, joined_lines, body_lines, report_lines, report_text}
 use Rattle.report_form.specs.Reading.{frontiers_from, body_of, version_line, is_same, report_of}
-use Rattle.report_form.proofs.{ReportTaken.{head_words, head_spelled, report_at, report_is, end_words}, Gives.rows_split}
+use Rattle.report_form.proofs.ReportTaken.{head_words, head_spelled, report_at, report_is, end_words}
 use Rattle.report_form.specs.declared.fault.ReportCode.TheVariants as code
-use Rattle.report_laws.proofs.{TokensAgain.ok_then, LinesAgain.Reads, SynthLineAgain.{asked_of, asked_part_again, root_of_again}, SpelledTokens.rows_of_report}
-use Rattle.report_laws.proofs.FrontiersAgain.{end_ends, groups_end, frontiers_end, frontiers_again, joined_again, joined_end}
+use Rattle.report_laws.proofs.{TokensAgain.ok_then, LinesAgain.reads_among, SynthLineAgain.{asked_part_again, root_of_again}, SpelledTokens.rows_of_report}
+use Rattle.report_laws.proofs.FrontiersAgain.{end_ends, frontiers_end, frontiers_again, joined_again, joined_end}
 
 -- ---- the body
 
@@ -47,18 +46,21 @@ body_again r n is =
     ap (λ rows. body_of words t (place n rows)) (body_rows r) ∙ ok_then _ _ start.is (ok_then _ _ js.is refl)
 
 -- no line behind the topology begins a group
-body_ends : (r : ReportValue) → IsReport r → EndsGroups (map row_of (behind_topology r))
+body_ends : (r : ReportValue) → IsReport r → Ends (codes "group ") (map row_of (behind_topology r))
 body_ends r is =
     let last : List Row = row_of end_words ∷ [] in
     let second : List Row = map row_of (joined_lines r.topology.names r.words.collective.kind r.joined) ++ last in
     let ends = frontiers_end r.topology.names r.frontiers second (joined_end r.words r.topology is.topology.as_many is.topology.names is.words.limits is.topology.custom r.words.collective.kind r.joined last (end_ends [])) in
-    subst EndsGroups (sym (body_rows r)) (groups_end (map row_of (flat_map (frontier_lines r.topology.names) r.frontiers) ++ second) ends.group)
+    subst (Ends (codes "group ")) (sym (body_rows r)) ends.group
 
 -- ---- the whole
 
-version_again : (b : Bool) (n : ℕ) (rows : List Row) → line_part version_line (place n (row_of (head_words b) ∷ rows)) ≡ Ok (b, place (n + 1) rows)
-version_again true n rows = refl
-version_again false n rows = refl
+version_reads : (b : Bool) (n : ℕ) (rows : List Row) → Reads (line_part version_line (place n (row_of (head_words b) ∷ rows))) b rows
+version_reads b n rows = line_again version_line (row_of (head_words b)) b n rows (version_back b)
+  where
+    version_back : (c : Bool) → version_line (Some (row_of (head_words c))) ≡ Ok c
+    version_back true = refl
+    version_back false = refl
 
 same_itself : (b : Bool) → is_same b b ≡ true
 same_itself true = refl
@@ -78,13 +80,9 @@ report_rows r =
 report_rows_are : (r : ReportValue) → map row_of (report_lines r) ≡ report_rows r
 report_rows_are r =
     let t : NamedTopologyValue = r.topology in
-    let groups : List (List (List ℕ)) = map (group_words t.names) t.topology.groups in
-    let custom : List (List (List ℕ)) = custom_lines t.names t.custom in
-    let last : List Row = map row_of (behind_topology r) in
-    ap (λ rows. row_of (codes "sccl" ∷ version_word t.custom ∷ []) ∷ row_of (synth_words t.names r.words) ∷ rows) (map-append row_of (lines_of t) (behind_topology r))
-    ∙ ap (λ ws. row_of ws ∷ row_of (synth_words t.names r.words) ∷ (map row_of (lines_of t) ++ last)) (sym (head_spelled t.custom))
-    ∙ ap (λ rows. row_of (head_words (is_some t.custom)) ∷ row_of (synth_words t.names r.words) ∷ row_of (header_words t.custom) ∷ row_of (nodes_words t.names) ∷ rows) (rows_split groups custom last)
-    ∙ ap (λ ws. row_of (head_words (is_some t.custom)) ∷ row_of (synth_words t.names r.words) ∷ row_of ws ∷ row_of (nodes_words t.names) ∷ (map row_of groups ++ (map row_of custom ++ last))) (head_is t.custom)
+    let asked : Row = row_of (synth_words t.names r.words) in
+    ap (λ rows. row_of (codes "sccl" ∷ version_word t.custom ∷ []) ∷ asked ∷ rows) (map-append row_of (lines_of t) (behind_topology r) ∙ rows_parted t (map row_of (behind_topology r)))
+    ∙ ap (λ ws. row_of ws ∷ drop 1 (report_rows r)) (sym (head_spelled t.custom))
 
 -- whatever the rows among which a fault would be looked for
 rows_read : (rows : List Row) (r : ReportValue) → IsReport r → report_at rows (place 1 (report_rows r)) ≡ Ok r
@@ -94,25 +92,12 @@ rows_read rows r is =
     let b : Bool = is_some t.custom in
     let names = t.names in
     let ok = is.topology.names in
-    let a : AskedValue = asked_of names words in
-    let groups = t.topology.groups in
     let last : List Row = map row_of (behind_topology r) in
-    let fifth : List Row = map row_of (custom_lines names t.custom) ++ last in
-    let fourth : List Row = map row_of (map (group_words names) groups) ++ fifth in
-    let third : List Row = row_of (nodes_words names) ∷ fourth in
-    let second : List Row = row_of (spelling.head_words b) ∷ third in
-    let said = asked_part_again b names words (1 + 1) second (kind_of_pattern words.collective.kind t.custom is.pattern) ok is.words in
-    let front : ℕ = said.number + 1 + 1 in
-    let at : ℕ = front + length groups in
-    let behind : ℕ = at + length (custom_lines names t.custom) in
-    let same : named_with names groups t.custom ≡ t = λ i. record { names = names; topology = record { nodes = is.topology.as_many i; groups = groups }; custom = t.custom } in
-    let read : groups_at names (place front fourth) ≡ Ok (groups, place at fifth) =
-    ap (λ x. groups_at names (place front (x ++ fifth))) (sym (rows_same names groups)) ∙ groups_again names [] groups front fifth (names_are names ok) (groups_are t is.topology) (pattern_ends names t.custom last (body_ends r is)) in
-    ok_then _ _ (version_again b 1 (row_of (synth_words names words) ∷ second)) (ok_then _ _ said.is
-    (ok_then _ _ (ap (among rows) (header_part_again b said.number third)) (ok_then _ _ (ap (λ x. at_line said.number (refuse (not x) code.BadLine)) (same_itself b))
-    (ok_then _ _ (ap (among rows) (nodes_part_again (said.number + 1) names fourth ok)) (ok_then _ _ (ap (at_line (said.number + 1)) (root_of_again (takes_root words.collective.kind) names words.collective.root ok is.words.root is.words.no_root))
-    (ok_then _ _ (ap (among rows) read) (ok_then _ _ (ap (among rows) (pattern_again names t.custom at last (names_are names ok) (pattern_is t is.topology)))
-    (ap (λ x. body_of words x (place behind last)) same ∙ body_again r behind is))))))))
+    reads_end _ _ (version_reads b 1 _) (λ k1. reads_end _ _ (asked_part_again b names words k1 _ (kind_of_pattern words.collective.kind t.custom is.pattern) ok is.words)
+    (λ k2. reads_end _ _ (reads_among rows _ (header_reads b k2 _)) (λ k3. ok_then _ _ (ap (λ x. at_line k2 (refuse (not x) code.BadLine)) (same_itself b))
+    (reads_end _ _ (reads_among rows _ (nodes_reads names k3 _ ok)) (λ k4. ok_then _ _ (ap (at_line k3) (root_of_again (takes_root words.collective.kind) names words.collective.root ok is.words.root is.words.no_root))
+    (reads_end _ _ (reads_among rows _ (groups_of_read t k4 last is.topology (body_ends r is))) (λ k5. reads_end _ _ (reads_among rows _ (pattern_of_read t k5 last is.topology))
+    (λ k6. ap (λ x. body_of words x (place k6 last)) (named_again t is.topology) ∙ body_again r k6 is))))))))
 
 pub report_again : (r : ReportValue) → IsReport r → report_of (report_text r) ≡ Ok r
 report_again r is =

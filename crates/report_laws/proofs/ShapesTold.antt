@@ -2,11 +2,11 @@
 use Rattle.std.proofs.Common.{◌≡◌, ℕ, Bool, true, false, ◌&&◌, ◌||◌, not, List, [], ◌∷◌, ◌++◌, map, length, drop, Option, None, Some, Result, Ok, Err, refl, sym, ap, ◌∙◌, subst, codes, bytes_eq, find, if◌then◌else◌, is_some, nat_eq, nat_lt, nat_le, ◌==◌, ◌≢◌, arith}
 use Rattle.std.{specs.{Str.Parse.digits_value, Cmp.both_ways, List.{list_any, list_all, starts_with}}, proofs.{lemmas.{Bool.{and_parts, ltb-true, lt-ltb, leb-true, le-leb, eqb-true, eqb-false, Decides.Decides-eqb}, Option.same_Some}, Math.Bool.and-true}}
 use Rattle.std.proofs.lemmas.Slice.Eq.{bytes_eq-Decides, starts_is}
-use Rattle.text_lines.specs.Check.{◌>>=◌, refuse, need}
+use Rattle.text_lines.{specs.{Check.{◌>>=◌, refuse, need}, Repeated.begins}, proofs.Gives.{Gives, gives_done, gives_fail, gives_then}}
 use Rattle.collective_spec.specs.{declared.kind.Kind.Kind, Kinds.{word_of, takes_root}}
 use Rattle.candidate_order.specs.{declared.{candidate.Candidate.Candidate, pruning.Pruning.Pruning}, Ranges.LimitsValue}
 use Rattle.candidate_order.specs.declared.mark.Mark.TheVariants as mark
-use Rattle.topology_text.specs.{Names.{is_name, name_of}, Reading.{begins, node_of}}
+use Rattle.topology_text.specs.{Names.{is_name, name_of}, Reading.node_of}
 use Rattle.report_form.specs.{declared.fault.ReportCode.{ReportCode, TheVariants.BadLine}, Reading.{refuted_from, unknown_from}}
 use Rattle.report_form.specs.Fields.{is_digit, is_number, any_number, small_number, next_word, behind_key, next_keyed, fixed_word, next_number, next_node, no_more}
 use Rattle.report_form.specs.Points.{candidate_from, mark_named, head_from, joined_head_from, numbers_from, rounds_from, send_from}
@@ -16,15 +16,11 @@ use Rattle.report_laws.specs.Shapes.{Token, Word, Any, May, has_shape, small, is
 use Rattle.report_laws.proofs.SynthLineAgain.{kind_back, rooted}
 
 -- the check passes where the test holds, and else says that the line is bad
-pub record Told {A : Type 0} (holds : Bool) (r : Result A ReportCode) : Type 0 where
-  pub ok : (x : A) → r ≡ Ok x → holds ≡ true
-  pub err : (code : ReportCode) → r ≡ Err code → (holds ≡ false) × (code ≡ BadLine)
-
-told_ok : {A : Type 0} {holds : Bool} (x : A) → holds ≡ true → Told holds (Ok x)
-told_ok x is = record { ok = λ y e. is; err = λ code e. absurd (cc) }
+abbrev pub Told : {A : Type 0} → Bool → Result A ReportCode → Type 0
+Told {A} holds r = Gives (λ (code : ReportCode). (holds ≡ false) × (code ≡ BadLine)) (λ (x : A). holds ≡ true) r
 
 told_bad : {A : Type 0} {holds : Bool} → holds ≡ false → Told {A = A} holds (Err BadLine)
-told_bad is = record { ok = λ x e. absurd (cc); err = λ code e. let same : BadLine ≡ code = cc in (is, sym same) }
+told_bad is = gives_fail BadLine (is, refl)
 
 -- the same of the test of a shape
 pub record Shaped {A : Type 0} (shape : List Token) (words : List (List ℕ)) (r : Result A ReportCode) : Type 0 where
@@ -38,8 +34,7 @@ assoc_told (Err code) g f told = told
 
 -- a value that is made of what is read
 made_told : {A B : Type 0} {shape : List Token} {words : List (List ℕ)} (r : Result A ReportCode) (g : A → B) → Shaped shape words r → Shaped shape words (r >>= (λ x. Ok (g x)))
-made_told (Ok x) g s = record { told = told_ok (g x) (s.told.ok x refl) }
-made_told (Err code) g s = record { told = record { ok = λ y e. absurd (cc); err = λ c e. let same : code ≡ c = cc in s.told.err c (ap (λ z. Err z) same) } }
+made_told r g s = record { told = gives_then r _ s.told (λ code bad. bad) (λ x read is. gives_done (g x) is) }
 
 word_told : {A B : Type 0} (read : List ℕ → Option A) (passes : List ℕ → Bool) (shape : List Token) (f : A × List (List ℕ) → Result B ReportCode) → ((w : List ℕ) → passes w ≡ is_some (read w)) → ((x : A) (ws : List (List ℕ)) → Shaped shape ws (f (x, ws)))
     → (words : List (List ℕ)) → Shaped (Any passes ∷ shape) words (next_word read words >>= f)
@@ -61,7 +56,7 @@ fixed_told word shape f next (w ∷ ws) = record { told = by_test (bytes_eq w wo
     by_test false = told_bad refl
 
 end_told : {B : Type 0} (y : B) (words : List (List ℕ)) → Shaped [] words (no_more words >>= (λ u. Ok y))
-end_told y [] = record { told = told_ok y refl }
+end_told y [] = record { told = gives_done y refl }
 end_told y (w ∷ ws) = record { told = told_bad refl }
 
 number_told : {B : Type 0} (shape : List Token) (f : ℕ × List (List ℕ) → Result B ReportCode) → ((n : ℕ) (ws : List (List ℕ)) → Shaped shape ws (f (n, ws))) → (words : List (List ℕ)) → Shaped (small ∷ shape) words (next_number words >>= f)
@@ -156,7 +151,7 @@ abbrev pub rounds_shape : List (List ℕ) → List Token
 rounds_shape words = Word (codes "rounds") ∷ map (λ w. small) (drop 1 words)
 
 numbers_told : (ws : List (List ℕ)) → Shaped (map (λ w. small) ws) ws (numbers_from ws)
-numbers_told [] = record { told = told_ok [] refl }
+numbers_told [] = record { told = gives_done [] refl }
 numbers_told (w ∷ ws) = record { told = by_read (small_number w) (numbers_told ws) }
   where
     by_read : (o : Option ℕ) → Shaped (map (λ w. small) ws) ws (numbers_from ws) → Told (is_some o && has_shape (map (λ w. small) ws) ws) (need o BadLine >>= (λ n. numbers_from ws >>= (λ ns. Ok (n ∷ ns))))

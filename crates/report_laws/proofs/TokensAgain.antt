@@ -2,8 +2,8 @@
 use Rattle.std.proofs.Common.{◌≡◌, ◌≢◌, ℕ, suc, ◌<◌, ◌≤◌, ◌^◌, Bool, true, false, ◌&&◌, not, List, [], ◌∷◌, ◌++◌, length, get_or, drop, Option, None, Some, Result, Ok, refl, ap, ◌∙◌, arith, ◌==◌, decimal, nat_eq, nat_le}
 use Rattle.std.{specs.{List.{starts_with, list_all}, Str.Parse.digits_value}, proofs.{Math.Seq.drop-append_seam, lemmas.Bool.Decides.Decides-eqb}}
 use Rattle.std.proofs.lemmas.{Bool.{and_from, cond-true, le-leb, ne_eqb}, Fmt.{decimal_is_IsNumeral, decimal_nonempty}, Slice.Eq.starts_is, Str.Parse.digit_at}
-use Rattle.text_lines.{specs.Check.{◌>>=◌, need}, proofs.{Distinct.AreDistinct, Numbers.{up_to_some, zero_not}}}
-use Rattle.topology_text.{specs.{Spelling.name_at, Reading.{begins, node_of}}, proofs.Links.node_again}
+use Rattle.text_lines.{specs.{Check.{◌>>=◌, need}, Repeated.begins}, proofs.{Distinct.AreDistinct, Numbers.{up_to_some, zero_not}}}
+use Rattle.topology_text.{specs.{Spelling.name_at, Reading.node_of}, proofs.Links.node_again}
 use Rattle.report_form.specs.declared.fault.ReportCode.TheVariants.{BadLine}
 use Rattle.report_form.specs.Fields.{is_digit, is_number, any_number, small_number, next_word, behind_key, next_keyed, next_number, next_node}
 

@@ -3,9 +3,9 @@
 use Rattle.std.specs.Prelude.{◌≡◌, ℕ, ◌-◌, nat_le, nat_lt, Bool, true, false, ◌&&◌, ◌||◌, if◌then◌else◌, Option, None, Some, is_some, Result, Ok, Err, is_ok}
 use Rattle.std.specs.Prelude.{List, [], ◌∷◌, ◌++◌, map, length, take, drop, slice_get, slice_index, slice_index_or, bytes_eq, codes}
 use Rattle.std.specs.List.{list_any, list_all, last_or}
-use Rattle.text_lines.specs.{Text.{Row, rows_of, words_of}, Number.number_up_to}
+use Rattle.text_lines.specs.{Text.{Row, rows_of, words_of}, Number.number_up_to, Repeated.begins}
 use Rattle.collective_spec.specs.{declared.kind.Kind.Kind, Kinds.{word_of, takes_root, standard_kinds, every_kind}}
-use Rattle.topology_text.specs.{Names.is_name, Reading.{begins, node_of, nodes_line}}
+use Rattle.topology_text.specs.{Names.is_name, Reading.{node_of, nodes_line}}
 use Rattle.report_form.specs.{declared.fault.ReportCode.ReportCode, Reports.{ReportValue, IsReport}, Spelling.report_text, First.FailsFirstAt}
 use Rattle.report_form.specs.declared.fault.ReportCode.TheVariants as code
 

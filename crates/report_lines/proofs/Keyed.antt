@@ -1,7 +1,6 @@
 -- A token that is a key and a value, read in two steps.
 use Rattle.std.proofs.Common.{◌≡◌, ℕ, Bool, true, false, List, [], ◌∷◌, length, drop, Option, None, Some, Result, Ok, Err, refl, ap, ◌∙◌, if◌then◌else◌}
-use Rattle.text_lines.{specs.Check.{◌>>=◌, need, Tells}, proofs.Checks.ok_is}
-use Rattle.topology_text.specs.Reading.{begins}
+use Rattle.text_lines.{specs.{Check.{◌>>=◌, need, Tells}, Repeated.begins}, proofs.Checks.ok_is}
 use Rattle.report_form.{specs.{declared.fault.ReportCode.{ReportCode, TheVariants.BadLine}, Fields.next_keyed}, proofs.Tokens.with_rest}
 
 -- the bytes behind the key, as they are

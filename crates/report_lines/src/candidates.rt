@@ -1,6 +1,6 @@
 //! Candidates: their numbers on a line, whether they are within the limits, and their order.
 
-ghost use Rattle.std.specs.Prelude.{◌≡◌, ◌≤◌, ◌<◌, ◌*◌, Some, None, if◌then◌else◌, IfSome};
+ghost use Rattle.std.specs.Prelude.{◌≡◌, ◌≤◌, ◌<◌, ◌*◌, ◌&&◌, Some, None, if◌then◌else◌, IfSome};
 ghost use Rattle.report_form.specs.{Points.{candidate_from, may_join}, Tests.{comes_next, is_within}};
 ghost use Rattle.report_lines.specs.{Asking.asks, Wide.candidate_of};
 ghost use Rattle.text_lines.specs.Check.{Tells};
@@ -32,7 +32,7 @@ pub fn candidate_of(tokens: &mut Tokens<'_>) -> Result<WideCandidate, ReportCode
 }
 
 /// The candidate, where it is within the limits.
-pub fn within(question: &Question<'_>, x: WideCandidate) -> Option<Candidate>
+fn within(question: &Question<'_>, x: WideCandidate) -> Option<Candidate>
     ensures tested { result ≡ (if is_within (asks question.now) (candidate_of x) then Some (candidate_of x) else None) }
     ensures some { IfSome result (λ y. 1 ≤ y.s) }
     ensures few { IfSome result (λ y. y.s ≤ 16) }
@@ -54,6 +54,34 @@ pub fn within(question: &Question<'_>, x: WideCandidate) -> Option<Candidate>
         r: x.r as u8,
         c: x.c as u8,
     })
+}
+
+/// Whether a candidate stands behind the one before it, if there is one.
+fn comes_next(last: Option<Candidate>, x: Candidate) -> bool
+    ensures { result ≡ comes_next last x }
+{
+    match last {
+        None => true,
+        Some(last) => comes_before(last, x),
+    }
+}
+
+/// The candidate, where it is within the limits and stands behind the one before it, if there is
+/// one.
+pub fn candidate_behind(
+    question: &Question<'_>,
+    last: Option<Candidate>,
+    x: WideCandidate,
+) -> Option<Candidate>
+    ensures tested { result ≡ (if is_within (asks question.now) (candidate_of x) && comes_next last (candidate_of x) then Some (candidate_of x) else None) }
+    ensures some { IfSome result (λ y. 1 ≤ y.s) }
+    ensures few { IfSome result (λ y. y.s ≤ 16) }
+{
+    let candidate = within(question, x)?;
+    if !comes_next(last, candidate) {
+        return None;
+    }
+    Some(candidate)
 }
 
 /// The candidate, where it may be that of two points within the limits, and of its steps so many
@@ -81,14 +109,4 @@ pub fn joins(question: &Question<'_>, x: WideCandidate, adding: u16) -> Option<C
         r: x.r as u8,
         c: x.c as u8,
     })
-}
-
-/// Whether a candidate stands behind the one before it, if there is one.
-pub fn comes_next(last: Option<Candidate>, x: Candidate) -> bool
-    ensures { result ≡ comes_next last x }
-{
-    match last {
-        None => true,
-        Some(last) => comes_before(last, x),
-    }
 }

@@ -5,7 +5,7 @@ ghost use Rattle.text_lines.specs.{Line.{IsIn, row_at}, Check.{line_part, Tells}
 ghost use Rattle.report_form.specs.{Fields.next_word, Points.{head_line, joined_head_line, mark_named}};
 ghost use Rattle.report_lines.specs.{Asking.asks, Gives.TellsAt, Heads.head_value, Room.{HasRoom, Onward}};
 
-use crate::candidates::{candidate_of, comes_next, joins, within};
+use crate::candidates::{candidate_behind, candidate_of, joins};
 use crate::fields::{fixed_word, next_number, no_more};
 use crate::lines::{next_line, tokens_on};
 use crate::question::Question;
@@ -48,13 +48,10 @@ fn head_on(
     let x = candidate_of(&mut tokens)?;
     let mark = next_mark(&mut tokens)?;
     no_more(&mut tokens)?;
-    let Some(candidate) = within(question, x) else {
-        return Err(ReportCode::Limits);
-    };
-    if !comes_next(last, candidate) {
-        return Err(ReportCode::Limits);
+    match candidate_behind(question, last, x) {
+        Some(candidate) => Ok(Head { candidate, mark }),
+        None => Err(ReportCode::Limits),
     }
-    Ok(Head { candidate, mark })
 }
 
 /// Takes the line of a point's candidate.

@@ -1,9 +1,8 @@
 //! Single lines: whether they are there, whether a line feed ended them, and what they begin with.
 
 ghost use Rattle.std.specs.Prelude.{◌≡◌, ◌+◌, [], Some, length, IfOk, IfErr, OnOk};
-ghost use Rattle.text_lines.specs.{Text.behind, Line.{IsIn, row_at}, Check.{first, line_part, Tells}};
-ghost use Rattle.topology_text.specs.Reading.{begins};
-ghost use Rattle.report_form.specs.{Lines.{fixed_line, no_line, row_begins, tokens_line}, Reading.version_line};
+ghost use Rattle.text_lines.specs.{Text.behind, Line.{IsIn, row_at}, Check.{first, line_part, Tells}, Repeated.{begins, row_begins}};
+ghost use Rattle.report_form.specs.{Lines.{fixed_line, no_line, tokens_line}, Reading.version_line};
 ghost use Rattle.report_lines.specs.{Gives.TellsAt, Room.{HasRoom, Onward}};
 
 use report_form::{ReportCode, ReportFault};
@@ -108,7 +107,7 @@ pub fn version_part(lines: &mut Lines<'_>) -> Result<bool, ReportFault>
 }
 
 /// Whether the line begins with the word.
-pub fn begins(text: &[u8], line: Line, word: &[u8]) -> bool
+fn begins(text: &[u8], line: Line, word: &[u8]) -> bool
     requires { IsIn text.now line }
     ensures { result ≡ begins word.now (row_at text.now line).bytes }
 {

@@ -34,11 +34,7 @@ part_line Gather = refl
 part_line Joined = refl
 
 pub frontier_is : (names : List (List ℕ)) (part : Part) (f : FrontierValue) → line (part_words part) ++ (flat_map (point_text names) f.points ++ (text_of (map refuted_words f.refuted) ++ text_of (map unknown_words f.unknown))) ≡ frontier_text names (part, f)
-frontier_is names part f =
-    let points : List (List (List ℕ)) = flat_map (point_lines names) f.points in
-    let refuted : List (List (List ℕ)) = map refuted_words f.refuted in
-    let unknown : List (List (List ℕ)) = map unknown_words f.unknown in
-    sym (ap (λ t. line (part_words part) ++ t) (text_append points (refuted ++ unknown) ∙ (ap (λ t. t ++ text_of (refuted ++ unknown)) (text_each (point_lines names) f.points) ∙ ap (λ t. flat_map (point_text names) f.points ++ t) (text_append refuted unknown))))
+frontier_is names part f = simp (text_append, text_each (point_lines names))
 
 pub joined_is : (names : List (List ℕ)) (joined : List PointValue) → codes "joined\n" ++ flat_map (point_text names) joined ≡ text_of (joined_lines names Allreduce joined)
 joined_is names joined = sym (ap (λ t. codes "joined\n" ++ t) (text_each (point_lines names) joined))

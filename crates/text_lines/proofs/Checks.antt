@@ -24,6 +24,10 @@ pub need_ok : {A B C : Type 0} (o : Option A) (code : C) (f : A → Result B C) 
 need_ok None code f y e = absurd (cc)
 need_ok (Some x) code f y e = (x, refl, e)
 
+pub need_is : {A C : Type 0} (o : Option A) (code : C) (x : A) → need o code ≡ Ok x → o ≡ Some x
+need_is None code x e = absurd (cc)
+need_is {A} {C} (Some y) code x e = let same : y ≡ x = cc in ap (λ z. Some z) same
+
 pub at_line_ok : {A C : Type 0} (n : ℕ) (r : Result A C) (x : A) → at_line n r ≡ Ok x → r ≡ Ok x
 at_line_ok n (Ok y) x e = let same : y ≡ x = cc in ap (λ z. Ok z) same
 at_line_ok n (Err c) x e = absurd (cc)

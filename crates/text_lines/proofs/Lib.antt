@@ -2,7 +2,11 @@ pub mod Checks
 pub mod Cut
 pub mod Decimals
 pub mod Distinct
+pub mod Gives
 pub mod Numbers
 pub mod Pairs
+pub mod ReadBack
+pub mod Repeated
 pub mod Rows
+pub mod Steady
 pub mod Words

@@ -2,3 +2,4 @@ pub mod Text
 pub mod Line
 pub mod Number
 pub mod Check
+pub mod Repeated

@@ -1,7 +1,7 @@
 //! The lines of a text, one after the other.
 
-ghost use Rattle.std.specs.Prelude.{◌≡◌, ◌+◌, ◌^◌, ◌<◌, ◌≤◌, [], ◌∷◌, length, drop, Some, IfSome, IfNone};
-ghost use Rattle.text_lines.specs.{Text.{rows_of, start, behind, StartsLine}, Line.{IsIn, row_at, after}, Check.first};
+ghost use Rattle.std.specs.Prelude.{◌≡◌, ◌+◌, ◌^◌, ◌<◌, ◌≤◌, [], ◌∷◌, length, drop, false, true, Some, IfSome, IfNone};
+ghost use Rattle.text_lines.specs.{Text.{rows_of, start, behind, StartsLine}, Line.{IsIn, row_at, after}, Check.first, Repeated.row_begins};
 
 use crate::line::Line;
 use crate::scan::end_of;
@@ -84,6 +84,27 @@ impl<'a> Lines<'a> {
         self.at = line_after(line);
         self.number += 1;
         Some(line)
+    }
+
+    /// Takes the next line, if there is one and it begins with the word; else nothing changes. The
+    /// number of the next line is to be below 2^32 - 1.
+    pub fn next_with(&mut self, word: &[u8]) -> Option<Line>
+        requires { self.old.place.number + 1 < 2 ^ 32 }
+        ensures text { self.new.text ≡ self.old.text }
+        ensures other { IfNone result (row_begins word.now (first self.old.place.rows) ≡ false) }
+        ensures unchanged { IfNone result (self.new ≡ self.old) }
+        ensures span { IfSome result (IsIn self.old.text) }
+        ensures number { IfSome result (λ line. line.number ≡ self.old.place.number) }
+        ensures some { IfSome result (λ line. first self.old.place.rows ≡ Some (row_at self.old.text line)) }
+        ensures begins { IfSome result (λ _. row_begins word.now (first self.old.place.rows) ≡ true) }
+        ensures moves { IfSome result (λ _. self.new.place ≡ behind self.old.place) }
+        ensures fewer { IfSome result (λ _. length self.new.place.rows + 1 ≡ length self.old.place.rows) }
+    {
+        let line = self.peek()?;
+        if !self.text[line.start..line.end].starts_with(word) {
+            return None;
+        }
+        self.next()
     }
 }
 

@@ -1,15 +1,15 @@
 -- The lines of the header and of the nodes: what is read stands there, and what stands there is read.
-use Rattle.std.proofs.Common.{◌≡◌, ℕ, ◌<◌, ◌≤◌, Bool, true, false, ◌&&◌, ◌||◌, not, cond, eqb, leb, ltb, List, [], ◌∷◌, ◌++◌, length, drop, Option, None, Some, Ok, inl, inr, refl, sym, ap, ◌∙◌, subst, append_assoc, arith, bytes_eq, codes, nat_le}
+use Rattle.std.proofs.Common.{◌≡◌, ℕ, ◌<◌, ◌≤◌, Bool, true, false, ◌&&◌, ◌||◌, not, cond, eqb, leb, ltb, List, [], ◌∷◌, ◌++◌, length, drop, Option, None, Some, Ok, inl, inr, refl, sym, ap, ◌∙◌, subst, append_assoc, arith, bytes_eq, codes, nat_le, if◌then◌else◌}
 use Rattle.std.{specs.{Option.is_some, List.{All, list_all, list_any}}, proofs.lemmas.List.{append-nil, length-append, Splits.length-slice_split}}
 use Rattle.std.proofs.lemmas.Bool.{and_parts, or_parts, not-false, leb-true, leb-false, ltb-true, lt-leb, cond-true, or_cases, eqb-true, ne_eqb, false_from_ne_true}
 use Rattle.std.proofs.lemmas.{List.{Elements.{All-nil, All-push, All-weaker, recursion_from_All}, Sums.AllPass-from_list_all}, Slice.Eq.bytes_eq-Decides}
-use Rattle.text_lines.specs.{Text.{Row, words_of}, Check.{need}}
-use Rattle.text_lines.proofs.{Checks.{if_some, refuse_ok, need_ok, ok_is}, Distinct.{AreDistinct, distinct_nil, distinct_push, none_before, next_has}}
-use Rattle.text_lines.proofs.{Rows.{row_of, row_back, words_again}, Words.{IsWord, AreWords, literal, tokens_from, none_empty, begins_is}}
+use Rattle.text_lines.specs.{Text.{Row, Place, words_of}, Check.{first, line_part}, Repeated.begins}
+use Rattle.text_lines.proofs.{Checks.{if_some, refuse_ok, need_ok, need_is, ok_is}, Distinct.{AreDistinct, distinct_nil, distinct_push, none_before, next_has}}
+use Rattle.text_lines.proofs.{Gives.{Gives, Between, line_gives}, ReadBack.{Reads, line_again}, Repeated.place, Rows.{row_of, row_back, words_again}, Words.{IsWord, AreWords, literal, tokens_from, none_empty, begins_is}}
 use Rattle.collective_spec.specs.Patterns.{PatternValue}
 use Rattle.topology_text.specs.declared.fault.TopologyCode.{TopologyCode, TheVariants.{BadHeader, BadLine, BadName, NameTwice, TooManyNodes, NoNodes}}
 use Rattle.topology_text.specs.{Names.{is_name_byte, is_name, name_of, AreNames}, Spelling.{header_words, nodes_words, head_words}}
-use Rattle.topology_text.specs.Reading.{begins, has_empty, version_of, header_line, names_from, nodes_line}
+use Rattle.topology_text.specs.Reading.{has_empty, version_of, header_line, names_from, nodes_line}
 
 -- what a test chose is the one, or the other
 pub chosen : {X G : Type 0} {z : X} (b : Bool) (x y : X) → cond b x y ≡ z → (b ≡ true → x ≡ z → G) → (b ≡ false → y ≡ z → G) → G
@@ -18,27 +18,31 @@ chosen false x y e here there = there refl e
 
 -- ---- line 1
 
-version_is : (bytes : List ℕ) (patterned : Bool) → version_of bytes ≡ Some patterned → words_of bytes ≡ head_words patterned
-version_is bytes patterned e =
-    chosen (bytes_eq bytes (codes "topology 1")) _ _ e (λ one k. found (codes "topology 1") false k one refl)
-    (λ other k. chosen (bytes_eq bytes (codes "topology 2")) _ _ k (λ two l. found (codes "topology 2") true l two refl) (λ neither l. absurd (cc)))
+-- which of two lines it is
+pub version_words : (one two : List ℕ) (head : Bool → List (List ℕ)) → words_of one ≡ head false → words_of two ≡ head true → (bytes : List ℕ) (b : Bool)
+    → (if bytes_eq bytes one then Some false else (if bytes_eq bytes two then Some true else None)) ≡ Some b → words_of bytes ≡ head b
+version_words one two head first second bytes b e =
+    chosen (bytes_eq bytes one) _ _ e (λ t k. found one false k t first) (λ other k. chosen (bytes_eq bytes two) _ _ k (λ t l. found two true l t second) (λ neither l. absurd (cc)))
   where
-    found : (word : List ℕ) (b : Bool) → Some b ≡ Some patterned → bytes_eq bytes word ≡ true → words_of word ≡ head_words b → words_of bytes ≡ head_words patterned
-    found word b is same words = let it : b ≡ patterned = cc in ap words_of ((bytes_eq-Decides bytes word).0 same) ∙ words ∙ ap head_words it
+    found : (word : List ℕ) (c : Bool) → Some c ≡ Some b → bytes_eq bytes word ≡ true → words_of word ≡ head c → words_of bytes ≡ head b
+    found word c is same words = let it : c ≡ b = cc in ap words_of ((bytes_eq-Decides bytes word).0 same) ∙ words ∙ ap head it
 
 pub header_takes : (o : Option Row) (patterned : Bool) → header_line o ≡ Ok patterned → o ≡ Some (row_of (head_words patterned))
 header_takes None patterned e = absurd (cc)
 header_takes (Some r) patterned e =
     let (whole, e1) = refuse_ok (not r.whole) BadHeader _ patterned e in
-    ap (λ row. Some row) (row_back r (head_words patterned) (not-false r.whole whole) (version_is r.bytes patterned (needed (version_of r.bytes) e1)))
-  where
-    needed : (o : Option Bool) → need o BadHeader ≡ Ok patterned → o ≡ Some patterned
-    needed None k = absurd (cc)
-    needed (Some b) k = let it : b ≡ patterned = ok_is {C = TopologyCode} b patterned k in ap (λ x. Some x) it
+    let words = version_words (codes "topology 1") (codes "topology 2") head_words refl refl r.bytes patterned (need_is (version_of r.bytes) BadHeader patterned e1) in
+    ap (λ row. Some row) (row_back r (head_words patterned) (not-false r.whole whole) words)
 
-pub header_again : (patterned : Bool) → header_line (Some (row_of (head_words patterned))) ≡ Ok patterned
+pub header_gives : (p : Place) → Gives (λ (e : TopologyCode × ℕ). e.1 ≡ p.number) (λ (x : Bool × Place). Unit {0} × Between (head_words x.0 ∷ []) p x.1) (line_part header_line p)
+header_gives p = line_gives header_line head_words p (λ b e. (header_takes (first p.rows) b e, tt))
+
+header_again : (patterned : Bool) → header_line (Some (row_of (head_words patterned))) ≡ Ok patterned
 header_again true = refl
 header_again false = refl
+
+pub header_reads : (patterned : Bool) (n : ℕ) (rows : List Row) → Reads (line_part header_line (place n (row_of (head_words patterned) ∷ rows))) patterned rows
+header_reads patterned n rows = line_again header_line (row_of (head_words patterned)) patterned n rows (header_again patterned)
 
 -- the words of the header of a topology
 pub head_is : (custom : Option PatternValue) → header_words custom ≡ head_words (is_some custom)
@@ -150,6 +154,12 @@ nodes_at r names whole front words ok =
     let listed : names_from [] (drop 1 (words_of r.bytes)) ≡ Ok names = ap (λ w. names_from [] (drop 1 w)) words ∙ names_again [] names (record { few = ok.few; each = ok.each; distinct = ok.distinct }) in
     rw (whole, other, front, full) listed
 
-pub nodes_again : (names : List (List ℕ)) → AreNames names → nodes_line (Some (row_of (nodes_words names))) ≡ Ok names
+nodes_again : (names : List (List ℕ)) → AreNames names → nodes_line (Some (row_of (nodes_words names))) ≡ Ok names
 nodes_again [] ok = let some = ok.some in absurd (omega arith)
 nodes_again (name ∷ names) ok = nodes_at (row_of (nodes_words (name ∷ names))) (name ∷ names) refl refl (words_again (nodes_words (name ∷ names)) (tokens_from (nodes_words (name ∷ names)) (omega arith) (nodes_are_words (name ∷ names) ok))) ok
+
+pub nodes_give : (p : Place) → Gives (λ (e : TopologyCode × ℕ). e.1 ≡ p.number) (λ (x : List (List ℕ) × Place). AreNames x.0 × Between (nodes_words x.0 ∷ []) p x.1) (line_part nodes_line p)
+nodes_give p = line_gives nodes_line nodes_words p (λ names e. nodes_line_take (first p.rows) names e)
+
+pub nodes_reads : (names : List (List ℕ)) (n : ℕ) (rows : List Row) → AreNames names → Reads (line_part nodes_line (place n (row_of (nodes_words names) ∷ rows))) names rows
+nodes_reads names n rows ok = line_again nodes_line (row_of (nodes_words names)) names n rows (nodes_again names ok)

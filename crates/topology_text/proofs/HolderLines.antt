@@ -1,11 +1,12 @@
 -- The lines of the chunks of a pattern: what is read stands there, and what stands there is read.
-use Rattle.std.proofs.Common.{◌≡◌, ℕ, zero, suc, ◌+◌, ◌-◌, ◌<◌, ◌≤◌, List, [], ◌∷◌, ◌++◌, map, length, Result, Ok, refl, sym, ap, ◌∙◌, subst, append_assoc, arith, codes}
-use Rattle.std.{specs.List.AllByRecursion, proofs.lemmas.List.append-nil}
-use Rattle.text_lines.specs.{Text.{Row, Place}, Check.{◌>>=◌, first, line_part}}
-use Rattle.text_lines.proofs.{Checks.{bind_ok, part_ok, ok_is}, Rows.{AreTokens, row_of}, Words.{literal, tokens_from}}
+use Rattle.std.proofs.Common.{◌≡◌, ℕ, zero, suc, ◌+◌, ◌-◌, ◌<◌, ◌≤◌, List, [], ◌∷◌, ◌++◌, map, length, replicate, Result, refl, sym, ap, ◌∙◌, append_assoc, arith, codes}
+use Rattle.std.{specs.List.AllByRecursion, proofs.lemmas.List.{append-nil, length-replicate}}
+use Rattle.text_lines.specs.{Text.{Row, Place}, Check.{◌>>=◌, line_part}}
+use Rattle.text_lines.proofs.{Gives.{Gives, gives_done, gives_like, gives_then, Between, here, then_on, Cut, cut_here, cut_on}, ReadBack.{Reads, reads_here, reads_as, reads_then, line_again}}
+use Rattle.text_lines.proofs.{Repeated.place, Rows.{AreTokens, row_of}, Words.{IsWord, literal, tokens_from}}
 use Rattle.topology_text.specs.{declared.fault.TopologyCode.TopologyCode, Reading.{holders_line, Pairs, row_of_pairs, holders_at}}
-use Rattle.topology_text.proofs.{Front.Names, Groups.{place, line_taken, part_again}, Held.{Ascends, EachAscends, pairs_from}}
-use Rattle.topology_text.proofs.PatternLines.{named_words, named_are_words, holders_line_take, holders_line_again}
+use Rattle.topology_text.proofs.{Front.Names, Held.{Ascends, EachAscends, pairs_from}}
+use Rattle.topology_text.proofs.PatternLines.{named_words, named_are_words, holders_line_gives, holders_line_again}
 
 -- ---- the nodes that hold each chunk before, and after
 
@@ -33,10 +34,6 @@ afters_ascend nodes (h ∷ hs) ok = (ok.0.1, afters_ascend nodes hs ok.1)
 abbrev pub holder_lines : List (List ℕ) → ℕ → List Holders → List (List (List ℕ))
 holder_lines names g [] = []
 holder_lines names g (h ∷ hs) = named_words names (codes "before") g h.0 ∷ named_words names (codes "after") g h.1 ∷ holder_lines names (g + 1) hs
-
-pub length-holder_lines : (names : List (List ℕ)) (g : ℕ) (hs : List Holders) → length (holder_lines names g hs) ≡ length hs + length hs
-length-holder_lines names g [] = refl
-length-holder_lines names g (h ∷ hs) = omega (arith, length-holder_lines names (g + 1) hs)
 
 pub holder_lines_are_words : (names : List (List ℕ)) (g : ℕ) (hs : List Holders) → Names names → AreHeld (length names) hs → g + length hs ≤ 16 → AllByRecursion AreTokens (holder_lines names g hs)
 holder_lines_are_words names g [] ok held few = tt
@@ -78,59 +75,75 @@ behind_after names left g found b y = holders_at names left (g + 1) (pushed foun
 abbrev pub behind_before : List (List ℕ) → ℕ → ℕ → Pairs → List ℕ × Place → Result (Pairs × Place) (TopologyCode × ℕ)
 behind_before names left g found x = line_part (holders_line names (codes "after") g) x.1 >>= behind_after names left g found x.0
 
+-- so many chunks that no node holds
+abbrev pub nothing_held : ℕ → List Holders
+nothing_held left = replicate left ([], [])
+
+nothing_many : (left : ℕ) → length (nothing_held left) ≡ left
+nothing_many left = length-replicate {A = Holders} left ([], [])
+
+pub nothing_valid : (nodes left : ℕ) → AreHeld nodes (nothing_held left)
+nothing_valid nodes zero = tt
+nothing_valid nodes (suc left) = ((tt, tt), nothing_valid nodes left)
+
+-- the lines of so many chunks were read
 pub record HoldersTaken (names : List (List ℕ)) (left g : ℕ) (found : Pairs) (p : Place) (x : Pairs × Place) : Type 0 where
   pub held : List Holders
   pub many : length held ≡ left
-  pub pairs : x.0 ≡ with_holders found g held
-  pub lines : p.rows ≡ map row_of (holder_lines names g held) ++ x.1.rows
-  pub number : x.1.number ≡ p.number + (left + left)
   pub valid : AreHeld (length names) held
+  pub pairs : x.0 ≡ with_holders found g held
+  pub lines : Between (holder_lines names g held) p x.1
 
--- one line of holders, and the nodes on it
-pub record LineHeld (names : List (List ℕ)) (word : List ℕ) (g : ℕ) (p : Place) (x : List ℕ × Place) : Type 0 where
-  pub rows : p.rows ≡ row_of (named_words names word g x.0) ∷ x.1.rows
-  pub number : x.1.number ≡ p.number + 1
-  pub valid : Ascends 0 (length names) x.0
+-- the lines before this one are the first of so many chunks
+pub record HoldersCut (names : List (List ℕ)) (left g : ℕ) (p : Place) (n : ℕ) : Type 0 where
+  pub held : List Holders
+  pub many : length held ≡ left
+  pub valid : AreHeld (length names) held
+  pub cut : Cut (holder_lines names g held) p n
 
-pub line_held : (names : List (List ℕ)) (word : List ℕ) (g : ℕ) (p : Place) (x : List ℕ × Place) → line_part (holders_line names word g) p ≡ Ok x → LineHeld names word g p x
-line_held names word g p x e =
-    let here = holders_line_take names word g (first p.rows) x.0 (part_ok (holders_line names word g) p x e).0 in
-    let (rows, number) = line_taken (holders_line names word g) p x (row_of (named_words names word g x.0)) e (λ y read. here.spelled) in
-    record { rows = rows; number = number; valid = here.valid }
+module _ (names : List (List ℕ)) where
+  pub holders_give : (left g : ℕ) (found : Pairs) (p : Place) → Gives (λ (e : TopologyCode × ℕ). HoldersCut names left g p e.1) (λ (x : Pairs × Place). HoldersTaken names left g found p x) (holders_at names left g found p)
+  holders_give zero g found p = gives_done (found, p) (record { held = []; many = refl; valid = tt; pairs = none_more found g; lines = here p })
+  holders_give (suc left) g found p =
+      let nothing : List Holders = nothing_held left in
+      let one : List ℕ → List (List (List ℕ)) = λ b. named_words names (codes "before") g b ∷ [] in
+      let two : List ℕ → List (List (List ℕ)) = λ a. named_words names (codes "after") g a ∷ [] in
+      let rest : List Holders → List (List (List ℕ)) = holder_lines names (g + 1) in
+      gives_then _ _ (holders_line_gives names (codes "before") g p)
+      (λ e line. record { held = ([], []) ∷ nothing; many = ap suc (nothing_many left); valid = ((tt, tt), nothing_valid (length names) left); cut = cut_here (one [] ++ (two [] ++ rest nothing)) p e.1 line })
+      (λ b rb tb. gives_then _ _ (holders_line_gives names (codes "after") g b.1)
+      (λ e line. record {
+        held = (b.0, []) ∷ nothing;
+        many = ap suc (nothing_many left);
+        valid = ((tb.0, tt), nothing_valid (length names) left);
+        cut = cut_on (one b.0) (two [] ++ rest nothing) p b.1 e.1 tb.1 (cut_here (two [] ++ rest nothing) b.1 e.1 line);
+      })
+      (λ a ra ta. gives_like
+      (λ e f. record {
+        held = (b.0, a.0) ∷ f.held;
+        many = ap suc f.many;
+        valid = ((tb.0, ta.0), f.valid);
+        cut = cut_on (one b.0) (two a.0 ++ rest f.held) p b.1 e.1 tb.1 (cut_on (two a.0) (rest f.held) b.1 a.1 e.1 ta.1 f.cut);
+      })
+      (λ x t. record {
+        held = (b.0, a.0) ∷ t.held;
+        many = ap suc t.many;
+        valid = ((tb.0, ta.0), t.valid);
+        pairs = t.pairs ∙ one_more found g (b.0, a.0) t.held;
+        lines = then_on (one b.0) (two a.0 ++ rest t.held) p b.1 x.1 tb.1 (then_on (two a.0) (rest t.held) b.1 a.1 x.1 ta.1 t.lines);
+      })
+      (holders_give left (g + 1) (pushed found g b.0 a.0) a.1)))
 
-pub holders_at_take : (names : List (List ℕ)) (left g : ℕ) (found : Pairs) (p : Place) (x : Pairs × Place) → holders_at names left g found p ≡ Ok x → HoldersTaken names left g found p x
-holders_at_take names zero g found p x e =
-    let same : (found, p) ≡ x = ok_is {C = TopologyCode × ℕ} (found, p) x e in
-    subst (HoldersTaken names zero g found p) same (record { held = []; many = refl; pairs = none_more found g; lines = refl; number = omega arith; valid = tt })
-holders_at_take names (suc left) g found p x e =
-    let (b, e1, k1) = bind_ok (line_part (holders_line names (codes "before") g) p) (behind_before names left g found) x e in
-    let (a, e2, k2) = bind_ok (line_part (holders_line names (codes "after") g) b.1) (behind_after names left g found b.0) x k1 in
-    let one = line_held names (codes "before") g p b e1 in
-    let two = line_held names (codes "after") g b.1 a e2 in
-    let later = holders_at_take names left (g + 1) (pushed found g b.0 a.0) a.1 x k2 in
-    record {
-      held = (b.0, a.0) ∷ later.held;
-      many = ap suc later.many;
-      pairs = later.pairs ∙ one_more found g (b.0, a.0) later.held;
-      lines = one.rows ∙ ap (λ r. row_of (named_words names (codes "before") g b.0) ∷ r) (two.rows ∙ ap (λ r. row_of (named_words names (codes "after") g a.0) ∷ r) later.lines);
-      number = omega (arith, one.number, two.number, later.number);
-      valid = ((one.valid, two.valid), later.valid);
-    }
+  holders_line_reads : (word : List ℕ) (g : ℕ) (nodes : List ℕ) (n : ℕ) (rows : List Row) → IsWord word → g < 16 → Names names → Ascends 0 (length names) nodes → Reads (line_part (holders_line names word g) (place n (row_of (named_words names word g nodes) ∷ rows))) nodes rows
+  holders_line_reads word g nodes n rows is small ok valid = line_again (holders_line names word g) (row_of (named_words names word g nodes)) nodes n rows (holders_line_again names word g nodes is (omega (arith, small)) ok valid)
 
-pub holders_at_again : (names : List (List ℕ)) (g : ℕ) (hs : List Holders) (found : Pairs) (n : ℕ) (rest : List Row) → Names names → AreHeld (length names) hs → g + length hs ≤ 16
-    → holders_at names (length hs) g found (place n (map row_of (holder_lines names g hs) ++ rest)) ≡ Ok (with_holders found g hs, place (n + (length hs + length hs)) rest)
-holders_at_again names g [] found n rest ok held few =
-    ap (λ f. Ok (f, place n rest)) (none_more found g) ∙ ap (λ k. Ok (with_holders found g [], place k rest)) (omega arith)
-holders_at_again names g (h ∷ hs) found n rest ok held few =
-    let (one, two) = held.0 in
-    let rows = map row_of (holder_lines names (g + 1) hs) ++ rest in
-    let second = row_of (named_words names (codes "after") g h.1) ∷ rows in
-    let size : n + 1 + 1 + (length hs + length hs) ≡ n + (length (h ∷ hs) + length (h ∷ hs)) = omega arith in
-    ap (λ r. r >>= behind_before names (length hs) g found) (part_again (holders_line names (codes "before") g) n (row_of (named_words names (codes "before") g h.0)) second h.0 (holders_line_again names (codes "before") g h.0 (literal (codes "before") refl) (omega (arith, few)) ok one))
-    ∙ ap (λ r. r >>= behind_after names (length hs) g found h.0) (part_again (holders_line names (codes "after") g) (n + 1) (row_of (named_words names (codes "after") g h.1)) rows h.1 (holders_line_again names (codes "after") g h.1 (literal (codes "after") refl) (omega (arith, few)) ok two))
-    ∙ holders_at_again names (g + 1) hs (pushed found g h.0 h.1) (n + 1 + 1) rest ok held.1 (omega (arith, few))
-    ∙ ap (λ f. Ok (f, place (n + 1 + 1 + (length hs + length hs)) rest)) (one_more found g h hs)
-    ∙ ap (λ k. Ok (with_holders found g (h ∷ hs), place k rest)) size
+  pub holders_read : (g : ℕ) (hs : List Holders) (found : Pairs) (n : ℕ) (rest : List Row) → Names names → AreHeld (length names) hs → g + length hs ≤ 16
+      → Reads (holders_at names (length hs) g found (place n (map row_of (holder_lines names g hs) ++ rest))) (with_holders found g hs) rest
+  holders_read g [] found n rest ok held few = reads_as _ (none_more found g) (reads_here found n rest)
+  holders_read g (h ∷ hs) found n rest ok held few =
+      reads_then _ _ (holders_line_reads (codes "before") g h.0 n _ (literal (codes "before") refl) (omega (arith, few)) ok held.0.0)
+      (λ k. reads_then _ _ (holders_line_reads (codes "after") g h.1 k _ (literal (codes "after") refl) (omega (arith, few)) ok held.0.1)
+      (λ m. reads_as _ (one_more found g h hs) (holders_read (g + 1) hs (pushed found g h.0 h.1) m rest ok held.1 (omega (arith, few)))))
 
 -- what the loop over the chunks needs
 pub next_chunk : (names : List (List ℕ)) (base g : ℕ) (found : Pairs) (p : Place) → g < base → holders_at names (base - g) g found p ≡ (line_part (holders_line names (codes "before") g) p >>= behind_before names (base - (g + 1)) g found)

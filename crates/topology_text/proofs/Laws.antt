@@ -1,18 +1,17 @@
 -- Whole topologies: what is read stands there, and what stands there is read.
-use Rattle.std.proofs.Common.{◌≡◌, ℕ, ◌+◌, Bool, List, [], ◌∷◌, ◌++◌, get_or, map, length, Option, None, Some, Result, Ok, Err, refl, sym, ap, ◌∙◌, subst, append_assoc, arith, IfOk, IfSome, codes}
-use Rattle.std.{specs.{Option.is_some, List.{All, AllByRecursion}}, proofs.lemmas.List.{append-nil, length-append, length-map, map-append}}
-use Rattle.std.proofs.lemmas.List.Elements.{All-map, recursion_from_All}
+use Rattle.std.proofs.Common.{◌≡◌, ℕ, Bool, true, List, [], ◌∷◌, ◌++◌, get_or, map, length, Option, None, Some, Result, Ok, Err, refl, sym, ap, ◌∙◌, subst, arith, IfOk, IfSome, codes}
+use Rattle.std.{specs.{Option.is_some, List.{All, AllByRecursion}}, proofs.lemmas.List.{append-nil, Elements.{All-nil, All-cons, All-map, recursion_from_All}}}
 use Rattle.text_lines.specs.{Text.{Row, Place, rows_of, start}, Check.{◌>>=◌, refuse, first, line_part}}
-use Rattle.text_lines.proofs.{Checks.{bind_ok, ok_is, part_ok}, Rows.{AreTokens, row_of, rows_again, text_back}, Words.{literal, tokens_from}}
+use Rattle.text_lines.proofs.{Checks.{part_ok, part_err_at}, Gives.{Gives, gives_done, gives_then, rows_split, Between, then_on, Cut, cut_here, cut_more, cut_on, Stops, GivesPart}, ReadBack.{Reads, reads_here, reads_as, reads_then, reads_end, Ends}}
+use Rattle.text_lines.proofs.{Repeated.place, Rows.{AreTokens, row_of, rows_again, text_back}, Words.{literal, tokens_from}}
 use Rattle.schedule.{specs.Links.{GroupValue, IsGroup, IsBelow}, proofs.First.each_append}
 use Rattle.collective_spec.specs.Patterns.{PatternValue, IsPattern}
-use Rattle.topology_text.specs.{declared.fault.{TopologyCode.{TopologyCode, TheVariants.BadLine}, TopologyFault.TopologyFault}, Names.AreNames, Answer.Answers}
+use Rattle.topology_text.specs.{declared.fault.{TopologyCode.{TopologyCode, TheVariants.BadLine}, TopologyFault.TopologyFault}, Names.{is_name, AreNames}, Answer.Answers}
 use Rattle.topology_text.specs.Value.{NamedTopologyValue, IsNamed, named_with}
 use Rattle.topology_text.specs.Spelling.{header_words, nodes_words, group_words, custom_lines, lines_of, spelling, head_words}
-use Rattle.topology_text.specs.Reading.{header_line, nodes_line, groups_at, pattern_at, named_at, topology_at, topology_of}
-use Rattle.topology_text.proofs.Front.{Names, head_is, header_takes, header_again, nodes_line_take, nodes_again, nodes_are_words}
-use Rattle.topology_text.proofs.Groups.{Groups, groups_nil, group_rows, place, line_taken, part_again, EndsGroups, groups_take, groups_again, group_is_words}
-use Rattle.topology_text.proofs.Patterns.{pattern_take, pattern_again, pattern_ends, custom_are_words}
+use Rattle.topology_text.specs.Reading.{nodes_line, groups_at, pattern_at, named_at, topology_at, topology_of}
+use Rattle.topology_text.proofs.{Front.{Names, head_is, header_gives, header_reads, nodes_give, nodes_reads, nodes_are_words}, Groups.{Groups, groups_nil, groups_give, groups_read, group_is_words}}
+use Rattle.topology_text.proofs.Patterns.{IsCustom, some_pattern, pattern_gives, pattern_reads, pattern_ends, custom_are_words}
 
 -- ---- parts
 
@@ -27,89 +26,65 @@ named_valid names groups custom ok valid pattern = record {
   custom = pattern;
 }
 
-pub header_taken : (p : Place) (x : Bool × Place) → line_part header_line p ≡ Ok x → (p.rows ≡ row_of (head_words x.0) ∷ x.1.rows) × (x.1.number ≡ p.number + 1)
-header_taken p x e =
-    line_taken header_line p x (row_of (head_words x.0)) e (λ y read. header_takes (first p.rows) x.0 (part_ok header_line p x e).0)
-
 pub names_taken : (p : Place) (x : List (List ℕ) × Place) → line_part nodes_line p ≡ Ok x → AreNames x.0
-names_taken p x e = (nodes_line_take (first p.rows) x.0 (part_ok nodes_line p x e).0).1
-
-pub nodes_taken : (p : Place) (x : List (List ℕ) × Place) → line_part nodes_line p ≡ Ok x → (p.rows ≡ row_of (nodes_words x.0) ∷ x.1.rows) × (x.1.number ≡ p.number + 1)
-nodes_taken p x e = line_taken nodes_line p x (row_of (nodes_words x.0)) e (λ y read. (nodes_line_take (first p.rows) x.0 (part_ok nodes_line p x e).0).0)
+names_taken p x e = ((nodes_give p).ok x e).0
 
 pub named_are : (q : Place) (names : List (List ℕ)) (groups : List GroupValue) (custom : Option PatternValue) (rest : Place) → AreNames names → groups_at names q ≡ Ok (groups, rest) → IfSome custom (IsPattern (length names)) → IsNamed (named_with names groups custom)
-named_are q names groups custom rest ok e2 pattern =
-    named_valid names groups custom ok (groups_take names [] q.number q.rows groups rest e2 (groups_nil (length names))).valid pattern
+named_are q names groups custom rest ok e2 pattern = named_valid names groups custom ok ((groups_give names q).ok (groups, rest) e2).valid pattern
 
 pub parts_are : (p q : Place) (names : List (List ℕ)) (groups : List GroupValue) (custom : Option PatternValue) (rest : Place) → line_part nodes_line p ≡ Ok (names, q) → groups_at names q ≡ Ok (groups, rest) → IfSome custom (IsPattern (length names)) → IsNamed (named_with names groups custom)
 parts_are p q names groups custom rest e1 e2 pattern = named_are q names groups custom rest (names_taken p (names, q) e1) e2 pattern
 
--- ---- a topology and what follows
+-- ---- what was read of a topology
 
-pub rows_same : (names : List (List ℕ)) (groups : List GroupValue) → group_rows names groups ≡ map row_of (map (group_words names) groups)
-rows_same names [] = refl
-rows_same names (g ∷ groups) = ap (λ rows. row_of (group_words names g) ∷ rows) (rows_same names groups)
+-- the lines of the groups and of the pattern
+abbrev pub body_lines : List (List ℕ) → List GroupValue → Option PatternValue → List (List (List ℕ))
+body_lines names groups custom = map (group_words names) groups ++ custom_lines names custom
 
-abbrev pub topology_rows : NamedTopologyValue → List Row
-topology_rows t = map row_of (lines_of t)
+-- the header is that of a topology of its version
+pub header_on : (p q : Place) (patterned : Bool) (custom : Option PatternValue) → is_some custom ≡ patterned → Between (head_words patterned ∷ []) p q → Between (header_words custom ∷ []) p q
+header_on p q patterned custom shown t = subst (λ (ws : List (List ℕ)). Between (ws ∷ []) p q) (ap head_words (sym shown) ∙ sym (head_is custom)) t
 
-pub record TopologyTaken (p : Place) (t : NamedTopologyValue) (rest : Place) : Type 0 where
-  pub valid : IsNamed t
-  pub lines : p.rows ≡ topology_rows t ++ rest.rows
-  pub number : rest.number ≡ p.number + length (topology_rows t)
+-- its lines up to the names
+pub front_on : (p q r : Place) (patterned : Bool) (names : List (List ℕ)) (custom : Option PatternValue) → is_some custom ≡ patterned → Between (head_words patterned ∷ []) p q → Between (nodes_words names ∷ []) q r → Between (header_words custom ∷ nodes_words names ∷ []) p r
+front_on p q r patterned names custom shown header nodes = then_on (header_words custom ∷ []) (nodes_words names ∷ []) p q r (header_on p q patterned custom shown header) nodes
 
--- what is left of the reading after each part
-abbrev pub after_pattern : List (List ℕ) → List GroupValue → Option PatternValue × Place → Result (NamedTopologyValue × Place) (TopologyCode × ℕ)
-after_pattern names groups pattern = Ok (named_with names groups pattern.0, pattern.1)
+-- its lines behind them
+pub cut_behind : (p q r : Place) (n : ℕ) (patterned : Bool) (names : List (List ℕ)) (groups : List GroupValue) (custom : Option PatternValue) → Between (head_words patterned ∷ []) p q → Between (nodes_words names ∷ []) q r → is_some custom ≡ patterned → Cut (body_lines names groups custom) r n → Cut (lines_of (named_with names groups custom)) p n
+cut_behind p q r n patterned names groups custom header nodes shown cut = cut_on (header_words custom ∷ nodes_words names ∷ []) (body_lines names groups custom) p r n (front_on p q r patterned names custom shown header nodes) cut
 
-abbrev pub after_groups : Bool → List (List ℕ) → List GroupValue × Place → Result (NamedTopologyValue × Place) (TopologyCode × ℕ)
-after_groups patterned names groups = pattern_at patterned names groups.1 >>= after_pattern names groups.0
+one_name : AreNames (codes "n0" ∷ [])
+one_name = record {
+  some = omega arith;
+  few = omega arith;
+  each = All-cons (λ n. is_name n ≡ true) (codes "n0") [] refl (All-nil (λ n. is_name n ≡ true));
+  distinct = λ i j d before h. absurd (omega arith);
+}
 
-abbrev pub after_names : Bool → List (List ℕ) × Place → Result (NamedTopologyValue × Place) (TopologyCode × ℕ)
-after_names patterned names = groups_at names.0 names.1 >>= after_groups patterned names.0
-
-abbrev pub after_header : Bool × Place → Result (NamedTopologyValue × Place) (TopologyCode × ℕ)
-after_header header = line_part nodes_line header.1 >>= after_names header.0
-
-pub group_lines : (names : List (List ℕ)) (groups more : List GroupValue) (rows rest : List Row) → groups ≡ [] ++ more → rows ≡ group_rows names more ++ rest → rows ≡ map row_of (map (group_words names) groups) ++ rest
-group_lines names groups more rows rest all lines = lines ∙ ap (λ x. group_rows names x ++ rest) (sym all) ∙ ap (λ x. x ++ rest) (rows_same names groups)
-
--- the lines of the groups and of the pattern before the rest
-body_join : (groups custom : List (List (List ℕ))) (rows more rest : List Row) → rows ≡ map row_of groups ++ more → more ≡ map row_of custom ++ rest → rows ≡ map row_of (groups ++ custom) ++ rest
-body_join groups custom rows more rest a b =
-    a ∙ ap (λ r. map row_of groups ++ r) b ∙ sym (append_assoc (map row_of groups) (map row_of custom) rest) ∙ ap (λ r. r ++ rest) (sym (map-append row_of groups custom))
-
-pub length-topology_rows : (t : NamedTopologyValue) → length (topology_rows t) ≡ 2 + (length t.topology.groups + length (custom_lines t.names t.custom))
-length-topology_rows t =
-    omega (arith, length-map (lines_of t) row_of, length-append (map (group_words t.names) t.topology.groups) (custom_lines t.names t.custom), length-map t.topology.groups (group_words t.names))
-
-pub topology_take : (p : Place) (t : NamedTopologyValue) (rest : Place) → topology_at p ≡ Ok (t, rest) → TopologyTaken p t rest
+-- the topology that was read, or one whose first lines were
+pub topology_gives : (p : Place) → GivesPart lines_of IsNamed p (topology_at p)
 unfolding topology_at named_at
-topology_take p t rest e =
-    let (h, e1, k1) = bind_ok (line_part header_line p) after_header (t, rest) e in
-    let (n, e2, k2) = bind_ok (line_part nodes_line h.1) (after_names h.0) (t, rest) k1 in
-    let (g, e3, k3) = bind_ok (groups_at n.0 n.1) (after_groups h.0 n.0) (t, rest) k2 in
-    let (c, e4, k4) = bind_ok (pattern_at h.0 n.0 g.1) (after_pattern n.0 g.0) (t, rest) k3 in
-    let made : NamedTopologyValue = named_with n.0 g.0 c.0 in
-    let same : (made, c.1) ≡ (t, rest) = ok_is {C = TopologyCode × ℕ} (made, c.1) (t, rest) k4 in
-    let (head, second) = header_taken p h e1 in
-    let (nodes, third) = nodes_taken h.1 n e2 in
-    let taken = groups_take n.0 [] n.1.number n.1.rows g.0 g.1 e3 (groups_nil (length n.0)) in
-    let pattern = pattern_take h.0 n.0 g.1 c e4 in
-    let first_row : row_of (head_words h.0) ≡ row_of (header_words c.0) = ap (λ b. row_of (head_words b)) (sym pattern.shown) ∙ ap row_of (sym (head_is c.0)) in
-    let groups = group_lines n.0 g.0 taken.more n.1.rows g.1.rows taken.all taken.lines in
-    let body = body_join (map (group_words n.0) g.0) (custom_lines n.0 c.0) n.1.rows g.1.rows c.1.rows groups pattern.lines in
-    subst (λ (x : NamedTopologyValue × Place). TopologyTaken p x.0 x.1) same (record {
-      valid = named_valid n.0 g.0 c.0 (names_taken h.1 n e2) taken.valid pattern.valid;
-      lines = head ∙ ap (λ r. r ∷ h.1.rows) first_row ∙ ap (λ r. row_of (header_words c.0) ∷ r) (nodes ∙ ap (λ r. row_of (nodes_words n.0) ∷ r) body);
-      number = omega (arith, second, third, taken.number, pattern.number, ap length taken.all, length-topology_rows made);
-    })
+topology_gives p =
+    let alone : List (List ℕ) = codes "n0" ∷ [] in
+    gives_then _ _ (header_gives p) (λ e line. record { value = named_with alone [] None; valid = named_valid alone [] None one_name (groups_nil 1) tt; cut = cut_here (lines_of (named_with alone [] None)) p e.1 line })
+    (λ h rh th. gives_then _ _ (nodes_give h.1)
+    (λ e line.
+    let c = some_pattern h.0 alone h.1 e.1 line in
+    let body = nodes_words alone ∷ body_lines alone [] c.value in
+    record { value = named_with alone [] c.value; valid = named_valid alone [] c.value one_name (groups_nil 1) c.valid.valid; cut = cut_on (header_words c.value ∷ []) body p h.1 e.1 (header_on p h.1 h.0 c.value c.valid.shown th.1) (cut_here body h.1 e.1 line) })
+    (λ n rn tn.
+    let behind : (groups : List GroupValue) (c : Option PatternValue) (k : ℕ) → Groups (length n.0) groups → IsCustom n.0 h.0 c → Cut (body_lines n.0 groups c) n.1 k → Stops lines_of IsNamed p k =
+    λ groups c k valid is cut. record { value = named_with n.0 groups c; valid = named_valid n.0 groups c tn.0 valid is.valid; cut = cut_behind p h.1 n.1 k h.0 n.0 groups c th.1 tn.1 is.shown cut } in
+    gives_then _ _ (groups_give n.0 n.1)
+    (λ e s. let c = some_pattern h.0 n.0 (place e.1 []) e.1 refl in behind s.value c.value e.1 s.valid c.valid (cut_more (map (group_words n.0) s.value) (custom_lines n.0 c.value) n.1 e.1 s.cut))
+    (λ g rg tg. gives_then _ _ (pattern_gives h.0 n.0 g.1)
+    (λ e s. behind g.0 s.value e.1 tg.valid s.valid (cut_on (map (group_words n.0) g.0) (custom_lines n.0 s.value) n.1 g.1 e.1 tg.lines s.cut))
+    (λ c rc tc. gives_done _ (record {
+      valid = named_valid n.0 g.0 c.0 tn.0 tg.valid tc.valid.valid;
+      lines = then_on (header_words c.0 ∷ nodes_words n.0 ∷ []) (body_lines n.0 g.0 c.0) p n.1 c.1 (front_on p h.1 n.1 h.0 n.0 c.0 tc.valid.shown th.1 tn.1) (then_on (map (group_words n.0) g.0) (custom_lines n.0 c.0) n.1 g.1 c.1 tg.lines tc.lines);
+    })))))
 
-pub header_part_again : (patterned : Bool) (n : ℕ) (rows : List Row) → line_part header_line (place n (row_of (head_words patterned) ∷ rows)) ≡ Ok (patterned, place (n + 1) rows)
-header_part_again patterned n rows = part_again header_line n (row_of (head_words patterned)) rows patterned (header_again patterned)
-
-pub nodes_part_again : (n : ℕ) (names : List (List ℕ)) (rows : List Row) → AreNames names → line_part nodes_line (place n (row_of (nodes_words names) ∷ rows)) ≡ Ok (names, place (n + 1) rows)
-nodes_part_again n names rows ok = part_again nodes_line n (row_of (nodes_words names)) rows names (nodes_again names ok)
+-- ---- a topology and what follows
 
 pub groups_are : (t : NamedTopologyValue) → IsNamed t → Groups (length t.names) t.topology.groups
 groups_are t ok = record { few = ok.topology.limit; each = ok.topology.groups; below = subst (λ (n : ℕ). All (λ g. All (IsBelow n) g.links) t.topology.groups) (sym ok.as_many) ok.topology.nodes }
@@ -117,28 +92,29 @@ groups_are t ok = record { few = ok.topology.limit; each = ok.topology.groups; b
 pub pattern_is : (t : NamedTopologyValue) → IsNamed t → IfSome t.custom (IsPattern (length t.names))
 pattern_is t ok = subst (λ (n : ℕ). IfSome t.custom (IsPattern n)) (sym ok.as_many) ok.custom
 
-pub topology_again : (n : ℕ) (t : NamedTopologyValue) (rest : List Row) → IsNamed t → EndsGroups rest → topology_at (place n (topology_rows t ++ rest)) ≡ Ok (t, place (n + length (topology_rows t)) rest)
+-- as it was put together
+pub named_again : (t : NamedTopologyValue) → IsNamed t → named_with t.names t.topology.groups t.custom ≡ t
+named_again t ok i = record { names = t.names; topology = record { nodes = ok.as_many i; groups = t.topology.groups }; custom = t.custom }
+
+-- the lines of its groups, before others
+pub groups_of_read : (t : NamedTopologyValue) (n : ℕ) (rest : List Row) → IsNamed t → Ends (codes "group ") rest → Reads (groups_at t.names (place n (map row_of (map (group_words t.names) t.topology.groups) ++ (map row_of (custom_lines t.names t.custom) ++ rest)))) t.topology.groups (map row_of (custom_lines t.names t.custom) ++ rest)
+groups_of_read t n rest ok ends = groups_read t.names t.topology.groups n _ (names_are t.names ok.names) (groups_are t ok) (pattern_ends t.names t.custom rest ends)
+
+pub pattern_of_read : (t : NamedTopologyValue) (n : ℕ) (rest : List Row) → IsNamed t → Reads (pattern_at (is_some t.custom) t.names (place n (map row_of (custom_lines t.names t.custom) ++ rest))) t.custom rest
+pattern_of_read t n rest ok = pattern_reads t.names t.custom n rest (names_are t.names ok.names) (pattern_is t ok)
+
+-- its rows, part by part
+pub rows_parted : (t : NamedTopologyValue) (rest : List Row) → map row_of (lines_of t) ++ rest ≡ row_of (head_words (is_some t.custom)) ∷ row_of (nodes_words t.names) ∷ (map row_of (map (group_words t.names) t.topology.groups) ++ (map row_of (custom_lines t.names t.custom) ++ rest))
+rows_parted t rest =
+    ap (λ rows. row_of (header_words t.custom) ∷ row_of (nodes_words t.names) ∷ rows) (rows_split (map (group_words t.names) t.topology.groups) (custom_lines t.names t.custom) rest)
+    ∙ ap (λ ws. row_of ws ∷ row_of (nodes_words t.names) ∷ (map row_of (map (group_words t.names) t.topology.groups) ++ (map row_of (custom_lines t.names t.custom) ++ rest))) (head_is t.custom)
+
+topology_reads : (n : ℕ) (t : NamedTopologyValue) (rest : List Row) → IsNamed t → Ends (codes "group ") rest → Reads (topology_at (place n (map row_of (lines_of t) ++ rest))) t rest
 unfolding topology_at named_at
-topology_again n t rest ok ends =
-    let groups = t.topology.groups in
-    let names = t.names in
-    let shown = is_some t.custom in
-    let last = map row_of (custom_lines names t.custom) ++ rest in
-    let body = map row_of (map (group_words names) groups ++ custom_lines names t.custom) ++ rest in
-    let cut : body ≡ group_rows names groups ++ last =
-    ap (λ r. r ++ rest) (map-append row_of (map (group_words names) groups) (custom_lines names t.custom)) ∙ append_assoc (map row_of (map (group_words names) groups)) (map row_of (custom_lines names t.custom)) rest ∙ ap (λ r. r ++ last) (sym (rows_same names groups)) in
-    let read : groups_at names (place (n + 1 + 1) body) ≡ Ok (groups, place (n + 1 + 1 + length groups) last) =
-    ap (λ r. groups_at names (place (n + 1 + 1) r)) cut ∙ groups_again names [] groups (n + 1 + 1) last (names_are names ok.names) (groups_are t ok) (pattern_ends names t.custom rest ends) in
-    let pattern = pattern_again names t.custom (n + 1 + 1 + length groups) rest (names_are names ok.names) (pattern_is t ok) in
-    let same : named_with names groups t.custom ≡ t = λ i. record { names = names; topology = record { nodes = ok.as_many i; groups = groups }; custom = t.custom } in
-    let size : n + 1 + 1 + length groups + length (custom_lines names t.custom) ≡ n + length (topology_rows t) = omega (arith, length-topology_rows t) in
-    ap (λ w. topology_at (place n (row_of w ∷ row_of (nodes_words names) ∷ body))) (head_is t.custom)
-    ∙ ap (λ r. r >>= after_header) (header_part_again shown n (row_of (nodes_words names) ∷ body))
-    ∙ ap (λ r. r >>= after_names shown) (nodes_part_again (n + 1) names body ok.names)
-    ∙ ap (λ r. r >>= after_groups shown names) read
-    ∙ ap (λ r. r >>= after_pattern names groups) pattern
-    ∙ ap (λ k. Ok (named_with names groups t.custom, place k rest)) size
-    ∙ ap (λ x. Ok (x, place (n + length (topology_rows t)) rest)) same
+topology_reads n t rest ok ends =
+    subst (λ (rows : List Row). Reads (topology_at (place n rows)) t rest) (sym (rows_parted t rest))
+    (reads_then _ _ (header_reads (is_some t.custom) n _) (λ k1. reads_then _ _ (nodes_reads t.names k1 _ ok.names) (λ k2. reads_then _ _ (groups_of_read t k2 rest ok ends)
+    (λ k3. reads_then _ _ (pattern_of_read t k3 rest ok) (λ k4. reads_as _ (named_again t ok) (reads_here (named_with t.names t.topology.groups t.custom) k4 rest))))))
 
 -- ---- a topology and nothing else
 
@@ -162,7 +138,7 @@ lines_are_words t ok =
       ),
     )
 
-pub rows_of_spelling : (t : NamedTopologyValue) → IsNamed t → rows_of (spelling t) ≡ topology_rows t
+pub rows_of_spelling : (t : NamedTopologyValue) → IsNamed t → rows_of (spelling t) ≡ map row_of (lines_of t)
 unfolding spelling
 rows_of_spelling t ok = rows_again (lines_of t) (lines_are_words t ok)
 
@@ -170,30 +146,32 @@ rows_of_spelling t ok = rows_again (lines_of t) (lines_are_words t ok)
 abbrev pub no_line : Option Row → Result (Unit {0}) TopologyCode
 no_line next = refuse (is_some next) BadLine
 
-unfoldable pub after_topology : NamedTopologyValue × Place → Result NamedTopologyValue (TopologyCode × ℕ)
-after_topology found = line_part no_line found.1 >>= (λ u. Ok found.0)
+-- the checks of a text's rows
+abbrev pub whole_at : Place → Result NamedTopologyValue (TopologyCode × ℕ)
+whole_at p = topology_at p >>= (λ found. line_part no_line found.1 >>= (λ u. Ok found.0))
 
 no_more : (rows : List Row) (u : Unit {0}) → no_line (first rows) ≡ Ok u → rows ≡ []
 no_more [] u e = refl
 no_more (r ∷ rows) u e = absurd (cc)
 
+-- all lines are those of the topology
+pub whole_gives : (p : Place) → Gives (λ (e : TopologyCode × ℕ). Stops lines_of IsNamed p e.1) (λ (t : NamedTopologyValue). IsNamed t × (p.rows ≡ map row_of (lines_of t))) (whole_at p)
+whole_gives p = gives_then _ _ (topology_gives p) (λ e s. s)
+    (λ x rx tx. gives_then {N = λ (u : Unit {0} × Place). x.1.rows ≡ []} _ _ (record { ok = λ u e. no_more x.1.rows u.0 (part_ok no_line x.1 u e).0; err = λ e h. (part_err_at no_line x.1 e h).1 })
+    (λ e line.
+    let all = cut_on (lines_of x.0) [] p x.1 e.1 tx.lines (cut_here [] x.1 e.1 line) in
+    record { value = x.0; valid = tx.valid; cut = subst (λ (ls : List (List (List ℕ))). Cut ls p e.1) (append-nil (lines_of x.0)) all })
+    (λ u ru none. gives_done _ (tx.valid, tx.lines.rows ∙ ap (λ rs. map row_of (lines_of x.0) ++ rs) none ∙ append-nil (map row_of (lines_of x.0)))))
+
 pub all_take : (text : List ℕ) (t : NamedTopologyValue) → topology_of text ≡ Ok t → IsNamed t × (text ≡ spelling t)
-unfolding topology_of after_topology spelling
-all_take text t e =
-    let (found, read, k1) = bind_ok (topology_at (start text)) after_topology t e in
-    let (end, passed, k2) = bind_ok (line_part no_line found.1) (λ u. Ok found.0) t k1 in
-    let same : found.0 ≡ t = ok_is {C = TopologyCode × ℕ} found.0 t k2 in
-    let taken = topology_take (start text) found.0 found.1 read in
-    let nothing = no_more found.1.rows end.0 (part_ok no_line found.1 end passed).0 in
-    let rows : rows_of text ≡ topology_rows found.0 = taken.lines ∙ ap (λ x. topology_rows found.0 ++ x) nothing ∙ append-nil (topology_rows found.0) in
-    subst (λ (x : NamedTopologyValue). IsNamed x × (text ≡ spelling x)) same (taken.valid, text_back text (lines_of found.0) rows)
+unfolding topology_of spelling
+all_take text t e = let (valid, rows) = (whole_gives (start text)).ok t e in (valid, text_back text (lines_of t) rows)
 
 pub all_again : (t : NamedTopologyValue) → IsNamed t → topology_of (spelling t) ≡ Ok t
-unfolding topology_of after_topology
+unfolding topology_of
 all_again t ok =
-    let rows : rows_of (spelling t) ≡ topology_rows t ++ [] = rows_of_spelling t ok ∙ sym (append-nil (topology_rows t)) in
-    let read : topology_at (start (spelling t)) ≡ Ok (t, place (1 + length (topology_rows t)) []) = ap (λ x. topology_at (place 1 x)) rows ∙ topology_again 1 t [] ok tt in
-    ap (λ r. r >>= after_topology) read
+    let read = topology_reads 1 t [] ok refl in
+    ap (λ rows. whole_at (place 1 rows)) (rows_of_spelling t ok ∙ sym (append-nil (map row_of (lines_of t)))) ∙ reads_end _ _ read (λ n. refl)
 
 pub is_found : (text : List ℕ) (r : Result NamedTopologyValue TopologyFault) → Answers r (topology_of text) → IfOk r (λ t. IsNamed t × (text ≡ spelling t))
 is_found text (Ok t) e = all_take text t e

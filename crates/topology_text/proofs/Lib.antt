@@ -12,10 +12,6 @@ pub mod Printed
 pub mod FamilyLinks
 pub mod FamilyGroups
 pub mod FamilyLaws
-pub mod Local
-pub mod Steady
 pub mod SteadyParts
-pub mod Cuts
-pub mod Filled
 pub mod FirstFault
 mod Words

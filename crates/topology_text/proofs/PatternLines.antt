@@ -2,11 +2,11 @@
 use Rattle.std.proofs.Common.{◌≡◌, ℕ, ◌+◌, ◌^◌, ◌<◌, ◌≤◌, Bool, true, false, ◌||◌, not, eqb, List, [], ◌∷◌, ◌++◌, map, length, get_or, drop, Option, None, Some, Ok, Err, refl, sym, ap, ◌∙◌, subst, append_assoc, arith, bytes_eq, codes, decimal, nat_lt, slice_index_or}
 use Rattle.std.{specs.List.list_all, proofs.lemmas.Bool.{and_parts, and_from, eqb-true, eqb-false, false_from_ne_true, not-false, or_parts}}
 use Rattle.std.proofs.lemmas.{Fmt.decimal_injective, List.{append-nil, map_push, Elements.All-get_or}, Slice.Eq.bytes_eq-Decides}
-use Rattle.text_lines.specs.Text.{Row, words_of}
-use Rattle.text_lines.proofs.{Checks.{refuse_ok, need_ok, ok_is}, Rows.{row_of, row_back, words_again}}
+use Rattle.text_lines.specs.{Text.{Row, Place, words_of}, Check.{first, line_part}, Repeated.begins}
+use Rattle.text_lines.proofs.{Checks.{refuse_ok, need_ok, ok_is}, Gives.{Gives, Between, line_gives}, Rows.{row_of, row_back, words_again}}
 use Rattle.text_lines.proofs.Words.{IsWord, AreWords, literal, tokens_from, none_empty, begins_is, decimal_word}
 use Rattle.topology_text.specs.{declared.fault.TopologyCode.{TopologyCode, TheVariants.{BadLine, UnknownNode, BaseRange, NameOrder}}, Names.is_name}
-use Rattle.topology_text.specs.{Spelling.name_at, Reading.{begins, has_empty, node_of, one_to_16, custom_line, holders_from, has_front, holders_line}}
+use Rattle.topology_text.specs.{Spelling.name_at, Reading.{has_empty, node_of, one_to_16, custom_line, holders_from, has_front, holders_line}}
 use Rattle.topology_text.proofs.{Front.{Names, name_word}, Links.{node_is, node_again, small_take, small_again}, Held.{Ascends, ascends_push, ascends_next, ascends_above}}
 
 -- ---- the number of chunks
@@ -17,9 +17,7 @@ base_words base = codes "custom" ∷ decimal base ∷ []
 pub base_are_words : (base : ℕ) → base ≤ 16 → AreWords (base_words base)
 base_are_words base few = (literal (codes "custom") refl, (decimal_word base (omega arith), tt))
 
--- the line of the number of chunks, and its number
-pub record BaseTaken (o : Option Row) (base : ℕ) : Type 0 where
-  pub spelled : o ≡ Some (row_of (base_words base))
+pub record IsBase (base : ℕ) : Type 0 where
   pub some : 0 < base
   pub few : base ≤ 16
 
@@ -29,7 +27,7 @@ two_words (a ∷ []) e = absurd (omega (arith, eqb-true 1 2 e))
 two_words (a ∷ b ∷ []) e = refl
 two_words (a ∷ b ∷ c ∷ words) e = absurd (omega (arith, eqb-true (length (a ∷ b ∷ c ∷ words)) 2 e))
 
-pub custom_take : (o : Option Row) (base : ℕ) → custom_line o ≡ Ok base → BaseTaken o base
+custom_take : (o : Option Row) (base : ℕ) → custom_line o ≡ Ok base → (o ≡ Some (row_of (base_words base))) × IsBase base
 custom_take None base e = absurd (cc)
 custom_take (Some r) base e =
     let words = words_of r.bytes in
@@ -41,7 +39,10 @@ custom_take (Some r) base e =
     let (spelled, some, few) = small_take BaseRange (slice_index_or words 1 []) base e1 in
     let first = begins_is (codes "custom") r.bytes refl (not-false front begun) in
     let line : words ≡ base_words base = two_words words (not-false two pair) ∙ ap (λ w. get_or w 0 [] ∷ get_or words 1 [] ∷ []) first ∙ ap (λ w. codes "custom" ∷ w ∷ []) spelled in
-    record { spelled = ap (λ x. Some x) (row_back r (base_words base) (not-false r.whole whole) line); some = some; few = few }
+    (ap (λ x. Some x) (row_back r (base_words base) (not-false r.whole whole) line), record { some = some; few = few })
+
+pub custom_gives : (p : Place) → Gives (λ (e : TopologyCode × ℕ). e.1 ≡ p.number) (λ (x : ℕ × Place). IsBase x.0 × Between (base_words x.0 ∷ []) p x.1) (line_part custom_line p)
+custom_gives p = line_gives custom_line base_words p (λ base e. custom_take (first p.rows) base e)
 
 custom_at : (r : Row) (base : ℕ) → r.whole ≡ true → begins (codes "custom ") r.bytes ≡ true → words_of r.bytes ≡ base_words base → 0 < base → base ≤ 16 → custom_line (Some r) ≡ Ok base
 custom_at r base whole front words some few =
@@ -113,11 +114,7 @@ front_is word number (a ∷ b ∷ words) e =
     let (first, second) = and_parts (bytes_eq word a) (bytes_eq number b) e in
     ap (λ x. x ∷ b ∷ words) (sym ((bytes_eq-Decides word a).0 first)) ∙ ap (λ y. word ∷ y ∷ words) (sym ((bytes_eq-Decides number b).0 second))
 
-pub record HoldersLineTaken (names : List (List ℕ)) (word : List ℕ) (g : ℕ) (o : Option Row) (nodes : List ℕ) : Type 0 where
-  pub spelled : o ≡ Some (row_of (named_words names word g nodes))
-  pub valid : Ascends 0 (length names) nodes
-
-pub holders_line_take : (names : List (List ℕ)) (word : List ℕ) (g : ℕ) (o : Option Row) (nodes : List ℕ) → holders_line names word g o ≡ Ok nodes → HoldersLineTaken names word g o nodes
+holders_line_take : (names : List (List ℕ)) (word : List ℕ) (g : ℕ) (o : Option Row) (nodes : List ℕ) → holders_line names word g o ≡ Ok nodes → (o ≡ Some (row_of (named_words names word g nodes))) × Ascends 0 (length names) nodes
 holders_line_take names word g None nodes e = absurd (cc)
 holders_line_take names word g (Some r) nodes e =
     let words = words_of r.bytes in
@@ -127,7 +124,11 @@ holders_line_take names word g (Some r) nodes e =
     let (whole, begun) = or_parts (not r.whole) (not front) early in
     let (all, valid) = holders_take names [] (drop 2 words) nodes e1 tt in
     let line : words ≡ named_words names word g nodes = front_is word (decimal g) words (not-false front begun) ∙ ap (λ ws. word ∷ decimal g ∷ ws) (sym all) in
-    record { spelled = ap (λ x. Some x) (row_back r (named_words names word g nodes) (not-false r.whole whole) line); valid = valid }
+    (ap (λ x. Some x) (row_back r (named_words names word g nodes) (not-false r.whole whole) line), valid)
+
+pub holders_line_gives : (names : List (List ℕ)) (word : List ℕ) (g : ℕ) (p : Place)
+    → Gives (λ (e : TopologyCode × ℕ). e.1 ≡ p.number) (λ (x : List ℕ × Place). Ascends 0 (length names) x.0 × Between (named_words names word g x.0 ∷ []) p x.1) (line_part (holders_line names word g) p)
+holders_line_gives names word g p = line_gives (holders_line names word g) (named_words names word g) p (λ nodes e. holders_line_take names word g (first p.rows) nodes e)
 
 holders_at_row : (names : List (List ℕ)) (word : List ℕ) (g : ℕ) (r : Row) (nodes : List ℕ) → r.whole ≡ true → words_of r.bytes ≡ named_words names word g nodes → IsWord word → g < 2 ^ 64 → Names names → Ascends 0 (length names) nodes → holders_line names word g (Some r) ≡ Ok nodes
 holders_at_row names word g r nodes whole words is small ok valid =

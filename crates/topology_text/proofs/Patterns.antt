@@ -1,16 +1,16 @@
 -- Patterns: what is read stands there, and what stands there is read.
-use Rattle.std.proofs.Common.{◌≡◌, ℕ, zero, suc, ◌+◌, ◌≤◌, Bool, true, false, List, [], ◌∷◌, ◌++◌, map, length, get_or, drop, Option, None, Some, Result, Ok, refl, sym, ap, ◌∙◌, subst, arith, codes, IfSome}
+use Rattle.std.proofs.Common.{◌≡◌, ℕ, zero, suc, ◌+◌, ◌≤◌, Bool, true, false, List, [], ◌∷◌, ◌++◌, map, length, get_or, drop, Option, None, Some, Ok, refl, sym, ap, ◌∙◌, subst, arith, codes, IfSome}
 use Rattle.std.{specs.{Option.is_some, List.{AllByRecursion, flat_map, range_with_len}}, proofs.lemmas.List.length-map}
-use Rattle.text_lines.specs.{Text.{Row, Place}, Check.{◌>>=◌, first, line_part}}
-use Rattle.text_lines.proofs.{Checks.{bind_ok, part_ok, ok_is}, Rows.{AreTokens, row_of}, Words.tokens_from}
+use Rattle.text_lines.specs.{Text.{Row, Place}, Check.line_part}
+use Rattle.text_lines.proofs.{Gives.{gives_done, gives_then, Between, here, then_on, Cut, cut_here, cut_on, Took, Stops, GivesPart}, ReadBack.{Reads, reads_here, reads_as, reads_then, line_again, Ends}}
+use Rattle.text_lines.proofs.{Repeated.place, Rows.{AreTokens, row_of}, Words.tokens_from}
 use Rattle.schedule.specs.Placed.{PlacementValue, holds}
 use Rattle.collective_spec.specs.Patterns.{PatternValue, IsPattern}
-use Rattle.topology_text.specs.{declared.fault.TopologyCode.TopologyCode, Spelling.{holder_words, custom_lines}}
+use Rattle.topology_text.specs.Spelling.{holder_words, custom_lines}
 use Rattle.topology_text.specs.Reading.{custom_line, Pairs, holders_at, pattern_of, pattern_at}
-use Rattle.topology_text.proofs.{Front.Names, Groups.{place, EndsGroups, line_taken, part_again}}
+use Rattle.topology_text.proofs.{Front.Names, PatternLines.{base_words, base_are_words, IsBase, custom_gives, custom_again, named_words}}
 use Rattle.topology_text.proofs.Held.{EachAscends, pairs_from, nodes_with, held_by, held_ascends, placement_from, rows_held, rows_placement, placement_rows}
-use Rattle.topology_text.proofs.PatternLines.{base_words, base_are_words, custom_take, custom_again, named_words}
-use Rattle.topology_text.proofs.HolderLines.{Holders, befores, afters, AreHeld, befores_ascend, afters_ascend, holder_lines, length-holder_lines, holder_lines_are_words, with_holders, no_pairs, holders_at_take, holders_at_again}
+use Rattle.topology_text.proofs.HolderLines.{Holders, befores, afters, AreHeld, befores_ascend, afters_ascend, holder_lines, holder_lines_are_words, with_holders, no_pairs, nothing_held, nothing_valid, holders_give, holders_read}
 
 -- ---- the pattern of these chunks
 
@@ -98,8 +98,8 @@ pattern_spelled names base nodes hs many held =
 
 pub lines_valid : (names : List (List ℕ)) (p : Place) (base : ℕ) (q : Place) (found : Pairs) (rest : Place) (count : ℕ) → line_part custom_line p ≡ Ok (base, q) → holders_at names base 0 no_pairs q ≡ Ok (found, rest) → length names ≡ count → IsPattern count (pattern_of base count found)
 lines_valid names p base q found rest count e1 e2 same =
-    let head = custom_take (first p.rows) base (part_ok custom_line p (base, q) e1).0 in
-    let taken = holders_at_take names base 0 no_pairs q (found, rest) e2 in
+    let head = ((custom_gives p).ok (base, q) e1).0 in
+    let taken = (holders_give names base 0 no_pairs q).ok (found, rest) e2 in
     subst (λ (n : ℕ). IsPattern n (pattern_of base n found)) same
     (subst (λ (f : Pairs). IsPattern (length names) (pattern_of base (length names) f)) (sym taken.pairs) (pattern_valid base (length names) taken.held taken.many head.some head.few taken.valid))
 
@@ -108,70 +108,64 @@ pattern_made base count found b a ok one two =
     subst (λ (y : PlacementValue). IsPattern b.nodes (record { base = base; before = b; after = y })) (sym two)
     (subst (λ (x : PlacementValue). IsPattern x.nodes (record { base = base; before = x; after = record { chunks = base; nodes = count; pairs = found.after } })) (sym one) ok)
 
-abbrev pub behind_holders : List (List ℕ) → ℕ → Pairs × Place → Result (Option PatternValue × Place) (TopologyCode × ℕ)
-behind_holders names base found = Ok (Some (pattern_of base (length names) found.0), found.1)
+-- a valid pattern, where one is due, and else none
+pub record IsCustom (names : List (List ℕ)) (patterned : Bool) (custom : Option PatternValue) : Type 0 where
+  pub shown : is_some custom ≡ patterned
+  pub valid : IfSome custom (IsPattern (length names))
 
-abbrev pub behind_base : List (List ℕ) → ℕ × Place → Result (Option PatternValue × Place) (TopologyCode × ℕ)
-behind_base names base = holders_at names base.0 0 no_pairs base.1 >>= behind_holders names base.0
+-- a pattern of so many chunks
+pattern_cut : (names : List (List ℕ)) (base : ℕ) (hs : List Holders) (p : Place) (n : ℕ) → length hs ≡ base → IsBase base → AreHeld (length names) hs → Cut (base_words base ∷ holder_lines names 0 hs) p n → Stops (custom_lines names) (IsCustom names true) p n
+pattern_cut names base hs p n many is held cut = record {
+  value = Some (pattern_from base (length names) hs);
+  valid = record { shown = refl; valid = pattern_valid base (length names) hs many is.some is.few held };
+  cut = subst (λ (lines : List (List (List ℕ))). Cut lines p n) (sym (pattern_spelled names base (length names) hs many held)) cut;
+}
 
-pub record PatternTaken (names : List (List ℕ)) (patterned : Bool) (p : Place) (x : Option PatternValue × Place) : Type 0 where
-  pub valid : IfSome x.0 (IsPattern (length names))
-  pub shown : is_some x.0 ≡ patterned
-  pub lines : p.rows ≡ map row_of (custom_lines names x.0) ++ x.1.rows
-  pub number : x.1.number ≡ p.number + length (custom_lines names x.0)
+-- any pattern, where one is due at this line
+pub some_pattern : (patterned : Bool) (names : List (List ℕ)) (p : Place) (n : ℕ) → n ≡ p.number → Stops (custom_lines names) (IsCustom names patterned) p n
+some_pattern false names p n line = record { value = None; valid = record { shown = refl; valid = tt }; cut = cut_here [] p n line }
+some_pattern true names p n line = pattern_cut names 1 (nothing_held 1) p n refl (record { some = omega arith; few = omega arith }) (nothing_valid (length names) 1) (cut_here (base_words 1 ∷ holder_lines names 0 (nothing_held 1)) p n line)
 
-pub pattern_take : (patterned : Bool) (names : List (List ℕ)) (p : Place) (x : Option PatternValue × Place) → pattern_at patterned names p ≡ Ok x → PatternTaken names patterned p x
+pub pattern_gives : (patterned : Bool) (names : List (List ℕ)) (p : Place) → GivesPart (custom_lines names) (IsCustom names patterned) p (pattern_at patterned names p)
 unfolding pattern_at
-pattern_take false names p x e =
-    subst (PatternTaken names false p) (ok_is {A = Option PatternValue × Place} {C = TopologyCode × ℕ} (None, p) x e) (record { valid = tt; shown = refl; lines = refl; number = omega arith })
-pattern_take true names p x e =
-    let (base, e1, k1) = bind_ok (line_part custom_line p) (behind_base names) x e in
-    let (found, e2, k2) = bind_ok (holders_at names base.0 0 no_pairs base.1) (behind_holders names base.0) x k1 in
-    let head = custom_take (first p.rows) base.0 (part_ok custom_line p base e1).0 in
-    let (rows, number) = line_taken custom_line p base (row_of (base_words base.0)) e1 (λ y read. head.spelled) in
-    let taken = holders_at_take names base.0 0 no_pairs base.1 found e2 in
-    let hs = taken.held in
-    let made : Option PatternValue × Place = (Some (pattern_from base.0 (length names) hs), found.1) in
-    let same : made ≡ x = ap (λ f. (Some (pattern_of base.0 (length names) f), found.1)) (sym taken.pairs) ∙ ok_is {C = TopologyCode × ℕ} (Some (pattern_of base.0 (length names) found.0), found.1) x k2 in
-    let spelled = pattern_spelled names base.0 (length names) hs taken.many taken.valid in
-    subst (PatternTaken names true p) same (record {
-      valid = pattern_valid base.0 (length names) hs taken.many head.some head.few taken.valid;
-      shown = refl;
-      lines = rows ∙ ap (λ r. row_of (base_words base.0) ∷ r) taken.lines ∙ ap (λ l. map row_of l ++ found.1.rows) (sym spelled);
-      number = omega (arith, number, taken.number, taken.many, ap length spelled, length-holder_lines names 0 hs);
-    })
+pattern_gives false names p = gives_done (None, p) (record { valid = record { shown = refl; valid = tt }; lines = here p })
+pattern_gives true names p =
+    gives_then _ _ (custom_gives p) (λ e line. some_pattern true names p e.1 line)
+    (λ base rb tb. gives_then _ _ (holders_give names base.0 0 no_pairs base.1)
+    (λ e f. pattern_cut names base.0 f.held p e.1 f.many tb.0 f.valid (cut_on (base_words base.0 ∷ []) (holder_lines names 0 f.held) p base.1 e.1 tb.1 f.cut))
+    (λ found rf t.
+    let P : Pairs → Type 0 = λ f. Took (custom_lines names) (IsCustom names true) p (Some (pattern_of base.0 (length names) f), found.1) in
+    let lines = then_on (base_words base.0 ∷ []) (holder_lines names 0 t.held) p base.1 found.1 tb.1 t.lines in
+    gives_done _ (subst P (sym t.pairs) (record {
+      valid = record { shown = refl; valid = pattern_valid base.0 (length names) t.held t.many tb.0.some tb.0.few t.valid };
+      lines = subst (λ (ls : List (List (List ℕ))). Between ls p found.1) (sym (pattern_spelled names base.0 (length names) t.held t.many t.valid)) lines;
+    }))))
 
-pub pattern_again : (names : List (List ℕ)) (custom : Option PatternValue) (n : ℕ) (rest : List Row) → Names names → IfSome custom (IsPattern (length names))
-    → pattern_at (is_some custom) names (place n (map row_of (custom_lines names custom) ++ rest)) ≡ Ok (custom, place (n + length (custom_lines names custom)) rest)
+-- its lines are those of its chunks
+pattern_lines : (names : List (List ℕ)) (p : PatternValue) (h : PatternHeld (length names) p) → custom_lines names (Some p) ≡ base_words p.base ∷ holder_lines names 0 h.held
+pattern_lines names p h = ap (λ q. custom_lines names (Some q)) h.is ∙ pattern_spelled names p.base (length names) h.held h.many h.valid
+
+pub pattern_reads : (names : List (List ℕ)) (custom : Option PatternValue) (n : ℕ) (rest : List Row) → Names names → IfSome custom (IsPattern (length names)) → Reads (pattern_at (is_some custom) names (place n (map row_of (custom_lines names custom) ++ rest))) custom rest
 unfolding pattern_at
-pattern_again names None n rest ok valid = ap (λ k. Ok (None, place k rest)) (omega arith)
-pattern_again names (Some p) n rest ok valid =
+pattern_reads names None n rest ok valid = reads_here None n rest
+pattern_reads names (Some p) n rest ok valid =
     let h = pattern_held (length names) p valid in
-    let base = p.base in
-    let hs = h.held in
-    let made = pattern_from base (length names) hs in
-    let spelled : custom_lines names (Some p) ≡ base_words base ∷ holder_lines names 0 hs = ap (λ q. custom_lines names (Some q)) h.is ∙ pattern_spelled names base (length names) hs h.many h.valid in
-    let rows = map row_of (holder_lines names 0 hs) ++ rest in
-    let size : n + 1 + (length hs + length hs) ≡ n + length (custom_lines names (Some p)) = omega (arith, ap length spelled, length-holder_lines names 0 hs) in
-    let P : ℕ → Type 0 = λ m. holders_at names m 0 no_pairs (place (n + 1) rows) ≡ Ok (with_holders no_pairs 0 hs, place (n + 1 + (length hs + length hs)) rest) in
-    let read = subst P h.many (holders_at_again names 0 hs no_pairs (n + 1) rest ok h.valid (omega (arith, h.many, valid.few))) in
-    ap (λ l. pattern_at true names (place n (map row_of l ++ rest))) spelled
-    ∙ ap (λ r. r >>= behind_base names) (part_again custom_line n (row_of (base_words base)) rows base (custom_again base valid.some valid.few))
-    ∙ ap (λ r. r >>= behind_holders names base) read
-    ∙ ap (λ k. Ok (Some made, place k rest)) size
-    ∙ ap (λ q. Ok (Some q, place (n + length (custom_lines names (Some p))) rest)) (sym h.is)
+    let P : ℕ → Type 0 = λ many. (k : ℕ) → Reads (holders_at names many 0 no_pairs (place k (map row_of (holder_lines names 0 h.held) ++ rest))) (with_holders no_pairs 0 h.held) rest in
+    let read = subst P h.many (λ k. holders_read names 0 h.held no_pairs k rest ok h.valid (omega (arith, h.many, valid.few))) in
+    subst (λ (lines : List (List (List ℕ))). Reads (pattern_at true names (place n (map row_of lines ++ rest))) (Some p) rest) (sym (pattern_lines names p h))
+    (reads_then _ _ (line_again custom_line (row_of (base_words p.base)) p.base n _ (custom_again p.base valid.some valid.few))
+    (λ k. reads_then _ _ (read k) (λ m. reads_as _ (ap (λ q. Some q) (sym h.is)) (reads_here (Some (pattern_from p.base (length names) h.held)) m rest))))
 
 pub custom_are_words : (names : List (List ℕ)) (custom : Option PatternValue) → Names names → IfSome custom (IsPattern (length names)) → AllByRecursion AreTokens (custom_lines names custom)
 custom_are_words names None ok valid = tt
 custom_are_words names (Some p) ok valid =
     let h = pattern_held (length names) p valid in
-    let spelled : custom_lines names (Some p) ≡ base_words p.base ∷ holder_lines names 0 h.held = ap (λ q. custom_lines names (Some q)) h.is ∙ pattern_spelled names p.base (length names) h.held h.many h.valid in
-    subst (AllByRecursion AreTokens) (sym spelled) (
+    subst (AllByRecursion AreTokens) (sym (pattern_lines names p h)) (
       tokens_from (base_words p.base) (omega arith) (base_are_words p.base valid.few),
       holder_lines_are_words names 0 h.held ok h.valid (omega (arith, h.many, valid.few)),
     )
 
 -- no line of a pattern begins a group
-pub pattern_ends : (names : List (List ℕ)) (custom : Option PatternValue) (rest : List Row) → EndsGroups rest → EndsGroups (map row_of (custom_lines names custom) ++ rest)
+pub pattern_ends : (names : List (List ℕ)) (custom : Option PatternValue) (rest : List Row) → Ends (codes "group ") rest → Ends (codes "group ") (map row_of (custom_lines names custom) ++ rest)
 pattern_ends names None rest ends = ends
 pattern_ends names (Some p) rest ends = refl

@@ -1,16 +1,12 @@
 -- The checks of a topology text (this project's own), line by line, each line's from left to right. The first that fails
 -- gives the code and the line.
-use Rattle.std.specs.Prelude.{ℕ, ◌+◌, ◌==◌, ◌||◌, ◌&&◌, not, Bool, true, false, if◌then◌else◌, List, [], ◌∷◌, ◌++◌, length, drop, slice_index_or, position, Option, Some, None, Result, Ok, Err, nat_eq, nat_lt, nat_le, bytes_eq, codes, decimal, is_some, map, zero, suc}
-use Rattle.std.specs.List.{list_any, list_all, starts_with, slice_split}
-use Rattle.text_lines.specs.{Text.{Row, Place, words_of, start}, Check.{◌>>=◌, refuse, need, at_line, line_part}, Number.number_up_to}
+use Rattle.std.specs.Prelude.{ℕ, ◌+◌, ◌==◌, ◌||◌, ◌&&◌, not, Bool, true, false, if◌then◌else◌, List, [], ◌∷◌, ◌++◌, length, drop, slice_index_or, position, Option, Some, None, Result, Ok, Err, nat_lt, nat_le, bytes_eq, codes, decimal, is_some, map, zero, suc}
+use Rattle.std.specs.List.{list_any, list_all, slice_split}
+use Rattle.text_lines.specs.{Text.{Row, Place, words_of, start}, Check.{◌>>=◌, refuse, need, line_part}, Number.number_up_to, Repeated.{begins, lines_at}}
 use Rattle.schedule.specs.{Links.GroupValue, Placed.same_pair}
 use Rattle.topology_text.specs.{declared.fault.TopologyCode.TopologyCode, Names.name_of, Value.{NamedTopologyValue, named_with}}
 use Rattle.topology_text.specs.declared.fault.TopologyCode.TheVariants.{BadHeader, BadLine, BadName, NameTwice, UnknownNode, SelfLink, LinkTwice, WidthRange, TooManyNodes, TooManyGroups, NoNodes, BaseRange, NameOrder}
 use Rattle.collective_spec.specs.Patterns.{PatternValue}
-
--- the line begins with the word
-abbrev pub begins : List ℕ → List ℕ → Bool
-begins word bytes = starts_with nat_eq bytes word
 
 -- two spaces in a row, or one at an end
 abbrev pub has_empty : List (List ℕ) → Bool
@@ -84,23 +80,18 @@ one_to_16 code word = do
   Ok number
 
 -- a line that begins `group `, after so many groups
-abbrev pub group_row : List (List ℕ) → ℕ → Row → Result GroupValue TopologyCode
-group_row names before row = do
+abbrev pub group_line : List (List ℕ) → ℕ → Option Row → Result GroupValue TopologyCode
+group_line names before None = Err BadLine
+group_line names before (Some row) = do
   _ ← refuse (not row.whole || has_empty (words_of row.bytes) || nat_lt (length (words_of row.bytes)) 3) BadLine
   _ ← refuse (nat_le 256 before) TooManyGroups
   width ← one_to_16 WidthRange (slice_index_or (words_of row.bytes) 1 [])
   links ← links_from names [] (drop 2 (words_of row.bytes))
   Ok (record { links = links; width = width })
 
--- the groups that were read before, and the place; a line that doesn't begin `group ` ends the groups, and stays to be read
-abbrev pub groups_from : List (List ℕ) → List GroupValue → ℕ → List Row → Result (List GroupValue × Place) (TopologyCode × ℕ)
-groups_from names before n [] = Ok (before, record { number = n; rows = [] })
-groups_from names before n (row ∷ rows) = if begins (codes "group ") row.bytes then (do
-  group ← at_line n (group_row names (length before) row)
-  groups_from names (before ++ group ∷ []) (n + 1) rows) else Ok (before, record { number = n; rows = row ∷ rows })
-
+-- the groups, each after those that were read before; a line that doesn't begin `group ` ends them, and stays to be read
 abbrev pub groups_at : List (List ℕ) → Place → Result (List GroupValue × Place) (TopologyCode × ℕ)
-groups_at names p = groups_from names [] p.number p.rows
+groups_at names p = lines_at (codes "group ") (λ before. group_line names (length before)) p
 
 -- ---- the pattern
 

@@ -1,8 +1,8 @@
 //! The line of one group.
 
-ghost use Rattle.std.specs.Prelude.{◌≡◌, ◌<◌, ◌≤◌, [], length, IfOk, nat_le};
+ghost use Rattle.std.specs.Prelude.{◌≡◌, ◌<◌, ◌≤◌, [], length, Some, IfOk, nat_le};
 ghost use Rattle.text_lines.specs.{Text.words_of, Line.{IsIn, row_at}, Check.Gives};
-ghost use Rattle.topology_text.specs.Reading.{links_from, one_to_16, group_row};
+ghost use Rattle.topology_text.specs.Reading.{links_from, one_to_16, group_line};
 
 use crate::fault::TopologyCode;
 use crate::link_word::link_of;
@@ -65,7 +65,7 @@ pub(crate) fn group_on(
 ) -> Result<Group, Stop<TopologyCode>>
     requires span { IsIn text.now line }
     requires few { length names.now.keys ≤ 16 }
-    ensures read { Gives (λ g. g) result (group_row names.now.keys before (row_at text.now line)) }
+    ensures read { Gives (λ g. g) result (group_line names.now.keys before (Some (row_at text.now line))) }
     ensures room { IfOk result (λ _. before < 256) }
 {
     if !line.whole || has_empty_token(text, line) || !has_three_tokens(text, line) {

@@ -1,8 +1,8 @@
 //! The header, the nodes and the groups of a topology text, each taken off the front of the lines.
 
-ghost use Rattle.std.specs.Prelude.{◌≡◌, ◌+◌, ◌^◌, ◌<◌, ◌≤◌, length, OnOk, IfOk, codes};
-ghost use Rattle.text_lines.specs.{Line.{IsIn, row_at}, Check.{Gives, line_part, Tells}};
-ghost use Rattle.topology_text.specs.Reading.{version_of, header_line, nodes_line, groups_at, begins};
+ghost use Rattle.std.specs.Prelude.{◌≡◌, ◌+◌, ◌^◌, ◌<◌, ◌≤◌, length, OnOk, IfOk};
+ghost use Rattle.text_lines.specs.Check.{Gives, line_part, Tells};
+ghost use Rattle.topology_text.specs.Reading.{version_of, header_line, nodes_line, groups_at};
 
 use crate::fault::TopologyCode;
 use crate::group_line::group_on;
@@ -11,7 +11,7 @@ use crate::nodes_line::nodes_on;
 use indexmap::IndexSet;
 use schedule::Group;
 use std::alloc::Global;
-use text_lines::{Line, Lines, Stop};
+use text_lines::{Lines, Stop};
 
 fn version_of(bytes: &[u8]) -> Option<bool>
     ensures { result ≡ version_of bytes.now }
@@ -68,13 +68,6 @@ pub fn nodes_part(
     }
 }
 
-fn begins_group(text: &[u8], line: Line) -> bool
-    requires { IsIn text.now line }
-    ensures { result ≡ begins (codes "group ") (row_at text.now line).bytes }
-{
-    text[line.start..line.end].starts_with(b"group ")
-}
-
 /// Takes the lines that begin `group `, up to the first that doesn't.
 pub fn groups_part(
     alloc: Global,
@@ -89,17 +82,13 @@ pub fn groups_part(
 {
     let text = lines.text();
     let mut groups = Vec::new(alloc);
-    while let Some(line) = lines.peek() {
-        if !begins_group(text, line) {
-            break;
-        }
+    while let Some(line) = lines.next_with(b"group ") {
         let group = match group_on(alloc, text, line, names, groups.len()) {
             Ok(group) => group,
             Err(Stop::Memory) => return Err(Stop::Memory),
             Err(Stop::Refused(code)) => return Err(Stop::Refused((code, line.number))),
         };
         groups.push(group)?;
-        let _ = lines.next();
     }
     Ok(groups)
 }

@@ -1,5 +1,6 @@
 use Rattle.std.{proofs.Common.{◌≡◌, ◌+◌, ◌≤◌, None, length, codes}, specs.List.last_or}
-use Rattle.report_form.specs.{Lines.{lines_from, lines_at}, Reading.refuted_line}
+use Rattle.text_lines.specs.Repeated.{lines_from, lines_at}
+use Rattle.report_form.specs.Reading.{refuted_line}
 use Rattle.report_lines.specs.Asking.{asks}
 use Rattle.frontier_report.proofs.listed.refuted_part.Given as goal
 

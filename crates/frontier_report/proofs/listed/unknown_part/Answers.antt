@@ -1,38 +1,35 @@
-use Rattle.std.proofs.Common.{◌≡◌, ◌∙◌, sym, ap, None, Some, ◌+◌, length, arith, rules, codes}
-use Rattle.text_lines.specs.{Text.{Place, behind}, Line.row_at}
+use Rattle.std.proofs.Common.{◌≡◌, ◌∙◌, sym, ap, None, Ok, Some, ◌+◌, arith, codes}
+use Rattle.text_lines.{specs.Line.row_at, proofs.Repeated.{line_refused, line_accepted, lines_ended}}
 use Rattle.report_form.specs.Reading.{unknown_line}
 use Rattle.report_lines.specs.Asking.{asks}
-use Rattle.frontier_report.proofs.{Turns.{last_push_map, lines_stop, lines_step, lines_end, lines_other, taken}, After.unknown_read}
+use Rattle.frontier_report.{specs.inner.After.unknown_after, proofs.Turns.last_push_map}
 use Rattle.frontier_report.proofs.listed.unknown_part.Goals as goal
-use Rattle.frontier_report.proofs.listed.unknown_part.Goals.{in-Some+then-not-begins, in_default}
 
 pub returns-in-Err-clause-read : goal.returns-in-Err-clause-read
 returns-in-Err-clause-read c =
+    let before = c.loop-line.unknown.items in
+    let row = row_at c.text-text.result.now c.in-Some.line in
     let here = rw c.loop-line.invariant.text at c.in-Some.ensures.some in
-    lines_stop (codes "unknown ") (unknown_line (asks c.args.question.now)) c.loop-line.unknown.items c.loop-line.lines.place.number c.loop-line.lines.place.rows
-    (row_at c.text-text.result.now c.in-Some.line) c.begins.result c.in-Err.code c.in-Some.line.number _
-    here c.begins.ensures (search rules) c.in-Some.ensures.number (unknown_read (asks c.args.question.now) c.loop-line.unknown.items c.loop-line.last (Some (row_at c.text-text.result.now c.in-Some.line)) _ c.loop-line.invariant.last c.in-Err.ensures) c.loop-line.invariant.read
+    let failed = ap (λ o. unknown_after (asks c.args.question.now) o (Some row)) (sym c.loop-line.invariant.last) ∙ c.in-Err.ensures in
+    rw c.in-Some.ensures.number (sym c.loop-line.invariant.read ∙ line_refused (codes "unknown ") (unknown_line (asks c.args.question.now)) before c.loop-line.lines.place row c.in-Err.code here c.in-Some.ensures.begins failed)
 
 pub loop-line-preserved : goal.loop-line-preserved
 loop-line-preserved c =
+    let before = c.loop-line.unknown.items in
+    let p = c.loop-line.lines.place in
+    let row = row_at c.text-text.result.now c.in-Some.line in
     let here = rw c.loop-line.invariant.text at c.in-Some.ensures.some in
-    let moves : c.next.new.self.place ≡ behind c.loop-line.lines.place = taken c.loop-line.lines.place.rows (row_at c.text-text.result.now c.in-Some.line) c.next.result here c.next.ensures.none c.next.ensures.moves in
-    let fewer : length c.next.new.self.place.rows + 1 ≡ length c.loop-line.lines.place.rows = taken c.loop-line.lines.place.rows (row_at c.text-text.result.now c.in-Some.line) c.next.result here c.next.ensures.none c.next.ensures.fewer in
+    let taken = ap (λ o. unknown_after (asks c.args.question.now) o (Some row)) (sym c.loop-line.invariant.last) ∙ c.in-Ok.ensures in
+    let number : c.next_with.new.self.place.number ≡ p.number + 1 = ap (λ q. q.number) c.in-Some.ensures.moves in
     record {
-      read = lines_step (codes "unknown ") (unknown_line (asks c.args.question.now)) c.loop-line.unknown.items c.push.new.self.items c.loop-line.lines.place.number c.next.new.self.place.number c.loop-line.lines.place.rows c.next.new.self.place.rows
-          (row_at c.text-text.result.now c.in-Some.line) c.begins.result c.in-Ok.candidate _
-          here c.begins.ensures (search rules) (unknown_read (asks c.args.question.now) c.loop-line.unknown.items c.loop-line.last (Some (row_at c.text-text.result.now c.in-Some.line)) _ c.loop-line.invariant.last c.in-Ok.ensures) c.loop-line.invariant.read c.in_ok-push-in-Ok.ensures.items (ap (λ (p : Place). p.number) moves) (ap (λ (p : Place). p.rows) moves);
-      last = ap (λ x. Some x) c.candidate.ensures ∙ rw c.in_ok-push-in-Ok.ensures.items (sym (last_push_map (λ u. u.candidate) c.loop-line.unknown.items None c.in-Ok.candidate));
-      text = c.next.ensures.text ∙ c.loop-line.invariant.text;
-      number = omega (arith, ap (λ (p : Place). p.number) moves, fewer, c.loop-line.invariant.number);
-      fewer = omega (arith, fewer, c.loop-line.invariant.fewer);
+      read = line_accepted (codes "unknown ") (unknown_line (asks c.args.question.now)) before c.push.new.self.items p c.next_with.new.self.place row c.in-Ok.candidate here c.in-Some.ensures.begins taken c.in_ok-push-in-Ok.ensures.items c.in-Some.ensures.moves ∙ c.loop-line.invariant.read;
+      last = ap (λ x. Some x) c.candidate.ensures ∙ rw c.in_ok-push-in-Ok.ensures.items (sym (last_push_map (λ u. u.candidate) before None c.in-Ok.candidate));
+      text = c.in-Some.ensures.text ∙ c.loop-line.invariant.text;
+      number = omega (arith, number, c.in-Some.ensures.fewer, c.loop-line.invariant.number);
+      fewer = omega (arith, c.in-Some.ensures.fewer, c.loop-line.invariant.fewer);
     }
 
 pub returns-clause-read : goal.returns-clause-read
-returns-clause-read c = elim c.match-peek.branch [
-  | in-Some+then-not-begins w ↦
-      let here = rw c.loop-line.invariant.text at w.in-Some.ensures.some in
-      lines_other (codes "unknown ") (unknown_line (asks c.args.question.now)) c.loop-line.unknown.items c.loop-line.lines.place
-      (row_at c.text-text.result.now w.in-Some.line) w.begins.result _ here w.begins.ensures (search rules) c.loop-line.invariant.read
-  | in_default w ↦ lines_end (codes "unknown ") (unknown_line (asks c.args.question.now)) c.loop-line.unknown.items c.loop-line.lines.place _ (search rules) c.loop-line.invariant.read
-]
+returns-clause-read c =
+    let before = c.loop-line.unknown.items in
+    sym c.loop-line.invariant.read ∙ lines_ended (codes "unknown ") (unknown_line (asks c.args.question.now)) before c.loop-line.lines.place c.in_default.ensures.other ∙ ap (λ r. Ok (before, r.place)) (sym c.in_default.ensures.unchanged)

@@ -1,5 +1,6 @@
 use Rattle.std.{proofs.Common.{◌≡◌, ◌+◌, ◌≤◌, None, length, map, codes}, specs.List.last_or}
-use Rattle.report_form.specs.{Lines.{lines_from, lines_at}, Reading.unknown_line}
+use Rattle.text_lines.specs.Repeated.{lines_from, lines_at}
+use Rattle.report_form.specs.Reading.{unknown_line}
 use Rattle.report_lines.specs.Asking.{asks}
 use Rattle.frontier_report.proofs.listed.unknown_part.Given as goal
 

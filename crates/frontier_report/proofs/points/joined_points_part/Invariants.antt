@@ -1,14 +1,14 @@
-use Rattle.std.proofs.Common.{◌≡◌, ◌+◌, ◌-◌, ◌≤◌, length, codes}
-use Rattle.report_form.specs.{Lines.{parts_from, parts_at}, Points.joined_point_at}
+use Rattle.std.proofs.Common.{◌≡◌, ◌+◌, ◌≤◌, length, codes}
+use Rattle.text_lines.{specs.Repeated.parts_at, proofs.Repeated.parts_on}
+use Rattle.report_form.specs.Points.{joined_point_at}
 use Rattle.report_lines.specs.Asking.{asks}
 use Rattle.frontier_report.proofs.points.joined_points_part.Given as goal
 
 abbrev pub invariant-loop-alloc : goal.invariant-loop-alloc
 invariant-loop-alloc l = record {
-  read : parts_from (codes "point ") (joined_point_at l.names.keys (asks l.question)) (length l.initial.lines.place.rows - length l.points.items) l.points.items l.lines.place ≡ parts_at (codes "point ") (joined_point_at l.names.keys (asks l.question)) l.initial.lines.place;
+  read : parts_on (codes "point ") (joined_point_at l.names.keys (asks l.question)) l.points.items l.lines.place ≡ parts_at (codes "point ") (joined_point_at l.names.keys (asks l.question)) l.initial.lines.place;
   text : l.lines.text ≡ l.initial.lines.text;
   number : l.lines.place.number + length l.lines.place.rows ≤ l.initial.lines.place.number + length l.initial.lines.place.rows;
-  fewer : length l.lines.place.rows + length l.points.items ≤ length l.initial.lines.place.rows;
 }
 
 abbrev pub decreases-loop-alloc : goal.decreases-loop-alloc

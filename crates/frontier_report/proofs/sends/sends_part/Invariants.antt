@@ -1,5 +1,6 @@
 use Rattle.std.{proofs.Common.{◌≡◌, ◌+◌, ◌≤◌, None, length, codes}, specs.List.last_or}
-use Rattle.report_form.specs.{Lines.{lines_from, lines_at}, Points.send_line}
+use Rattle.text_lines.specs.Repeated.{lines_from, lines_at}
+use Rattle.report_form.specs.Points.{send_line}
 use Rattle.frontier_report.proofs.sends.sends_part.Given as goal
 
 abbrev pub invariant-loop-line : goal.invariant-loop-line

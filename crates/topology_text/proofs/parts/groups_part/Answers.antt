@@ -1,25 +1,39 @@
-use Rattle.std.proofs.Common.{◌≡◌, length, Some, Err, sym, ap, ◌∙◌, rules, codes}
-use Rattle.text_lines.specs.{Line.row_at, Check.first}
-use Rattle.topology_text.{specs.Reading.{begins, group_row}, proofs.Groups.{groups_refused, groups_end, none_ends, other_ends}}
+use Rattle.std.proofs.Common.{◌≡◌, ◌+◌, ◌∷◌, [], length, length-append, Some, Ok, Err, sym, ap, ◌∙◌, arith, rules, codes}
+use Rattle.text_lines.{specs.{Line.row_at, Check.first}, proofs.Repeated.{line_refused, line_accepted, lines_ended}}
+use Rattle.topology_text.{specs.Reading.group_line, proofs.Groups.next_group}
 use Rattle.topology_text.proofs.parts.groups_part.Goals as goal
-use Rattle.topology_text.proofs.parts.groups_part.Goals.{in-Some+then-not-begins_group, in_default}
 
 pub returns-in-Err-Refused-clause-read : goal.returns-in-Err-Refused-clause-read
 returns-in-Err-Refused-clause-read c =
+    let names = c.args.names.now.keys in
     let before = c.loop-line.groups.items in
+    let p = c.loop-line.lines.place in
     let row = row_at c.text-text.result.now c.in-Some.line in
-    let here : first c.loop-line.lines.place.rows ≡ Some row = c.in-Some.ensures.some ∙ ap (λ t. Some (row_at t c.in-Some.line)) c.loop-line.invariant.text in
+    let here : first p.rows ≡ Some row = c.in-Some.ensures.some ∙ ap (λ t. Some (row_at t c.in-Some.line)) c.loop-line.invariant.text in
     let count : c.len.result ≡ length before = search rules in
-    let failed : group_row c.args.names.now.keys c.len.result row ≡ Err c.in-Err-Refused.code = rw c.in-Err-Refused.field-0-is at c.in-Err-Refused.ensures.read in
+    let failed : group_line names c.len.result (Some row) ≡ Err c.in-Err-Refused.code = rw c.in-Err-Refused.field-0-is at c.in-Err-Refused.ensures.read in
     rw (c.in-Err-Refused.code-is, c.in-Some.ensures.number)
-    (sym c.loop-line.invariant.read
-    ∙ groups_refused c.args.names.now.keys before c.loop-line.lines.place.number c.loop-line.lines.place.rows row c.in-Err-Refused.code here (sym c.begins_group.ensures ∙ c.if-not-begins_group.false)
-    (ap (λ n. group_row c.args.names.now.keys n row) (sym count) ∙ failed))
+    (sym c.loop-line.invariant.read ∙ line_refused (codes "group ") (next_group names) before p row c.in-Err-Refused.code here c.in-Some.ensures.begins (ap (λ n. group_line names n (Some row)) (sym count) ∙ failed))
+
+pub loop-line-preserved : goal.loop-line-preserved
+loop-line-preserved c =
+    let names = c.args.names.now.keys in
+    let before = c.loop-line.groups.items in
+    let p = c.loop-line.lines.place in
+    let row = row_at c.text-text.result.now c.in-Some.line in
+    let here : first p.rows ≡ Some row = c.in-Some.ensures.some ∙ ap (λ t. Some (row_at t c.in-Some.line)) c.loop-line.invariant.text in
+    let count : c.len.result ≡ length before = search rules in
+    let many : length c.push.new.self.items ≡ length before + 1 = ap length c.in_ok-push.ensures.items ∙ length-append before (c.in-Ok.group ∷ []) in
+    let number : c.next_with.new.self.place.number ≡ p.number + 1 = ap (λ q. q.number) c.in-Some.ensures.moves in
+    record {
+      read = line_accepted (codes "group ") (next_group names) before c.push.new.self.items p c.next_with.new.self.place row c.in-Ok.group here c.in-Some.ensures.begins (ap (λ n. group_line names n (Some row)) (sym count) ∙ c.in-Ok.ensures.read) c.in_ok-push.ensures.items c.in-Some.ensures.moves
+          ∙ c.loop-line.invariant.read;
+      text = c.in-Some.ensures.text ∙ c.loop-line.invariant.text;
+      number = omega (arith, number, many, c.loop-line.invariant.number);
+      few = omega (arith, many, count, c.in-Ok.ensures.room);
+    }
 
 pub returns-clause-read : goal.returns-clause-read
 returns-clause-read c =
-    let p = c.loop-line.lines.place in
-    sym c.loop-line.invariant.read ∙ groups_end c.args.names.now.keys c.loop-line.groups.items p.number p.rows (elim c.match-peek.branch [
-      | in-Some+then-not-begins_group w ↦ other_ends p.rows (row_at c.loop-line.lines.text w.in-Some.line) w.in-Some.ensures.some (ap (λ t. begins (codes "group ") (row_at t w.in-Some.line).bytes) c.loop-line.invariant.text ∙ sym w.begins_group.ensures ∙ w.if-not-begins_group.true)
-      | in_default w ↦ none_ends p.rows (search rules)
-    ])
+    let before = c.loop-line.groups.items in
+    sym c.loop-line.invariant.read ∙ lines_ended (codes "group ") (next_group c.args.names.now.keys) before c.loop-line.lines.place c.in_default.ensures.other ∙ ap (λ r. Ok (before, r.place)) (sym c.in_default.ensures.unchanged)
