@@ -6,7 +6,7 @@ use Rattle.report_form.specs.{declared.fault.ReportCode.ReportCode, Answer.repor
 use Rattle.report_form.proofs.ReportTaken.{report_take}
 use Rattle.serde_json.specs.{Data.depth, Read.max_depth, Written.compact_text}
 use Rattle.json_values.{specs.{Json.printed, TopologyJson.topology_json, Answer.topology_of_json}, proofs.Built.{topology_back, topology_flat}}
-use Rattle.json_forms.{proofs.{TopologyTable.topology_printed, ReportTable.report_printed}, specs.ReportForm.report as report_form}
+use Rattle.json_forms.specs.ReportForm.{report as report_form}
 use Rattle.json_rules.specs.{Answer.report_of_json, ReportJson.report_json}
 use Rattle.json_reports.proofs.Built.{report_back, report_flat}
 use Rattle.command_words.specs.{declared.command.{Command.Command, JsonWhat.JsonWhat}, Words.command_of}
@@ -32,7 +32,7 @@ module _ (bytes text : List ℕ) where
       let value = topology_json t in
       let fits : Fits value = topology_fits t taken.0 in
       let shallow : depth value ≤ max_depth = omega (arith, topology_flat t) in
-      let shown : text ≡ printed value = sym (ap written_of due) ∙ ap printed (topology_printed t) in
+      let shown : text ≡ printed value = sym (ap written_of due) in
       let back : topology_of_json text ≡ Ok t = topology_back t text (compact_text value) taken.0 shown (text_utf8 value fits) (read_again value fits shallow) in
       ap topology_read_due (topology_same text ∙ back) ∙ ap (λ s. Ok (Write s)) (sym taken.1)
 
@@ -47,7 +47,7 @@ module _ (bytes text : List ℕ) where
       let value = report_json r in
       let fits : Fits value = report_fits r taken.valid in
       let shallow : depth value ≤ max_depth = omega (arith, report_flat r) in
-      let shown : text ≡ printed value = sym (ap written_of due) ∙ ap printed (report_printed r) in
+      let shown : text ≡ printed value = sym (ap written_of due) in
       let back : report_of_json text ≡ Ok r = report_back r text (compact_text value) taken.valid shown (text_utf8 value fits) (read_again value fits shallow) in
       ap report_read_due (report_same text ∙ back) ∙ ap (λ s. Ok (Write s)) (sym taken.spelled)
 

@@ -8,12 +8,10 @@ use Rattle.topology_text.specs.Spelling.{spelling}
 use Rattle.topology_text.specs.declared.fault.TopologyCode.TheVariants as topology
 use Rattle.report_form.specs.{Reading.report_of, Reports.ReportValue, Numbered.point_at, Spelling.report_text}
 use Rattle.json_values.specs.{declared.fault.JsonCode.JsonCode, Answer.{json_number, topology_of_json}, Json.printed}
-use Rattle.json_values.specs.TopologyJson.{topology_in, topology_json}
+use Rattle.json_values.specs.TopologyJson.{topology_json}
 use Rattle.json_values.specs.declared.fault.JsonCode.TheVariants as json
 use Rattle.json_forms.{specs.{Reading.read_json, TopologyForm.topology as topology_form, ReportForm.report as report_form}, proofs.ReadJson.read_alike}
-use Rattle.json_forms.proofs.TopologyTable as topology_table
-use Rattle.json_rules.specs.{Answer.report_of_json, ReportJson.{report_in, report_json}}
-use Rattle.json_forms.proofs.ReportTable as report_table
+use Rattle.json_rules.specs.{Answer.report_of_json, ReportJson.report_json}
 use Rattle.command_words.specs.declared.command.JsonWhat.TheVariants as what
 use Rattle.command_words.specs.declared.{command.PointWord.PointWord, fault.WordCode.TheVariants.UnknownPoint}
 use Rattle.run_rules.specs.declared.{status.Status.{Status, TheVariants.{BadJson, BadTopology, BadWords, Done}}, answer.Answer.Answer}
@@ -41,7 +39,7 @@ topology_due read = refused_as BadTopology topology_number read >>= (λ t. Ok (W
 
 module _ (bytes : List ℕ) where
   pub topology_written : (t : NamedTopologyValue) (text : List ℕ) → topology_of bytes ≡ Ok t → text ≡ printed (topology_json t) → IsAnswerAlone (json_asked what.Topology None bytes) Done text
-  topology_written t text read shown = written_as (json_asked what.Topology None bytes) (printed ((topology_form t.names).json t)) text (ap topology_due read) (shown ∙ ap printed (sym (topology_table.topology_printed t)))
+  topology_written t text read shown = written_as (json_asked what.Topology None bytes) (printed ((topology_form t.names).json t)) text (ap topology_due read) shown
 
   pub no_topology : {E : Type 0} (code : TopologyCode) (line : ℕ) (result : Result Answer E)
       → ((code ≡ topology.OutOfMemory) × (line ≡ 0)) ⊎ (topology_of bytes ≡ Err (code, line)) → IfOk result (λ _. code ≢ topology.OutOfMemory) → IfOk result (SaysAt BadTopology (topology_number code) line)
@@ -49,7 +47,7 @@ module _ (bytes : List ℕ) where
   no_topology code line result = refused_unless (json_asked what.Topology None bytes) (topology_of bytes) topology.OutOfMemory code line topology_due BadTopology topology_number result refl refl
 
   pub report_written : (r : ReportValue) (text : List ℕ) → read_report bytes ≡ Ok r → text ≡ printed (report_json r) → IsAnswerAlone (json_asked what.Report None bytes) Done text
-  report_written r text read shown = written_as (json_asked what.Report None bytes) (printed ((report_form r.topology.names).json r)) text (ap (λ x. x >>= (λ report. Ok (Write (printed ((report_form report.topology.names).json report))))) read) (shown ∙ ap printed (sym (report_table.report_printed r)))
+  report_written r text read shown = written_as (json_asked what.Report None bytes) (printed ((report_form r.topology.names).json r)) text (ap (λ x. x >>= (λ report. Ok (Write (printed ((report_form report.topology.names).json report))))) read) shown
 
 module _ (r : ReportValue) (asked : PointWord) where
   abbrev programs_from : Option (Part × PointValue) → Result Task Refusal
@@ -72,10 +70,10 @@ topology_read_due read = refused_as BadJson json_number read >>= (λ t. Ok (Writ
 module _ (bytes : List ℕ) where
   -- by the tables
   pub topology_same : read_json (topology_form []) topology_of bytes ≡ topology_of_json bytes
-  topology_same = read_alike (topology_form []) topology_in (topology_table.topology_read []) topology_of bytes
+  topology_same = read_alike (topology_form []) topology_of bytes
 
   pub report_same : read_json (report_form []) report_of bytes ≡ report_of_json bytes
-  report_same = read_alike (report_form []) report_in (report_table.report_read []) report_of bytes
+  report_same = read_alike (report_form []) report_of bytes
 
   pub topology_read : (t : NamedTopologyValue) (text : List ℕ) → topology_of_json bytes ≡ Ok t → text ≡ spelling t → IsAnswerAlone (unjson_asked what.Topology bytes) Done text
   topology_read t text read spelled = written_as (unjson_asked what.Topology bytes) (spelling t) text (ap topology_read_due (topology_same ∙ read)) spelled

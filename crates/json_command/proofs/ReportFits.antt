@@ -1,7 +1,7 @@
 -- The JSON of a report is read back: its numbers are small, and its texts are names and words.
-use Rattle.std.proofs.Common.{◌≡◌, ◌⊎◌, inl, inr, ℕ, ◌<◌, ◌≤◌, Bool, true, false, List, [], ◌∷◌, ◌++◌, length, map, refl, sym, ◌∙◌, ltb-true, arith, IsUtf8, All, codes, if◌then◌else◌}
+use Rattle.std.proofs.Common.{◌≡◌, ◌⊎◌, inl, inr, ℕ, ◌<◌, ◌≤◌, Bool, true, false, List, [], ◌∷◌, ◌++◌, length, map, refl, sym, ◌∙◌, ltb-true, arith, IsUtf8, All, codes, slice_index_or}
 use Rattle.std.proofs.lemmas.{Bool.and_parts, List.Elements.{All-head, All-tail}}
-use Rattle.json.proofs.Printed.Utf8.{IsUtf8-are_ascii}
+use Rattle.json.proofs.Printed.Utf8.{IsUtf8-are_ascii, are_ascii}
 use Rattle.outer_ports.specs.declared.part.Part.{Part}
 use Rattle.outer_ports.specs.declared.part.Part.TheVariants as part
 use Rattle.schedule.specs.{Sends.{IsRound, IsStep, is_hop_below}, declared.hop.Hop.Hop}
@@ -12,17 +12,19 @@ use Rattle.candidate_order.specs.Frontiers.{QuestionValue, PointValue, UnknownVa
 use Rattle.candidate_order.specs.declared.mark.Mark.TheVariants as mark
 use Rattle.topology_text.specs.{Names.is_name, Spelling.name_at}
 use Rattle.report_form.specs.Reports.{HasSchedule, IsFrontier, IsJoinedPoint, IsPrintedPoint, IsReport, ReportValue, WordsValue, question_of}
+use Rattle.report_form.specs.Spelling.{part_words}
 use Rattle.report_laws.proofs.PointsAgain.{base_of}
 use Rattle.serde_json.specs.{Data.{Data, string}, View.items_of}
-use Rattle.json_values.specs.Json.{count_of, members_of, object_of}
-use Rattle.json_rules.specs.ReportJson.{adding_members, candidate_json, frontier_json, part_word, point_json, point_members, report_json, said_members, send_json, unknown_json, words_json}
+use Rattle.json_values.specs.Json.{count_of}
+use Rattle.json_rules.specs.{ReportForm.{frontier, point, send, words}, ReportJson.report_json}
+use Rattle.json_reports.{specs.Candidates.{refuted, unknown}, proofs.Keys.words_with}
 use Rattle.json_command.proofs.{Fitting.{Fits, ItemsFit, MembersFit}, TopologyFits.{name_fits, small, topology_fits}}
 
 module _ (names : List (List ℕ)) (named : All (λ n. is_name n ≡ true) names) where
-  send_fits : (h : Hop) → h.chunk < small → h.step < small → Fits (send_json names h)
+  send_fits : (h : Hop) → h.chunk < small → h.step < small → Fits ((send names).json h)
   send_fits h chunk step = (chunk, (name_fits names named h.from, (name_fits names named h.to, (step, tt))))
 
-  sends_fit : (chunks nodes steps : ℕ) (sends : List Hop) → chunks ≤ 256 → steps ≤ 16 → All (λ h. is_hop_below chunks nodes h ≡ true) sends → All (λ h. IsStep steps h.step) sends → ItemsFit (items_of (map (send_json names) sends))
+  sends_fit : (chunks nodes steps : ℕ) (sends : List Hop) → chunks ≤ 256 → steps ≤ 16 → All (λ h. is_hop_below chunks nodes h ≡ true) sends → All (λ h. IsStep steps h.step) sends → ItemsFit (items_of (map (send names).json sends))
   sends_fit chunks nodes steps [] few short below stepped = tt
   sends_fit chunks nodes steps (h ∷ hs) few short below stepped =
       let chunk : h.chunk < chunks = ltb-true h.chunk chunks (and_parts _ _ (All-head (λ x. is_hop_below chunks nodes x ≡ true) h hs below)).0 in
@@ -42,17 +44,17 @@ module _ (names : List (List ℕ)) (named : All (λ n. is_name n ≡ true) names
     c : p.candidate.c < small
     adding : (n : ℕ) → p.mark ≡ mark.Joined n → n < small
     rounds : ItemsFit (items_of (map count_of p.schedule.rounds))
-    sends : ItemsFit (items_of (map (send_json names) p.schedule.sends))
+    sends : ItemsFit (items_of (map (send names).json p.schedule.sends))
 
-  point_fits : (p : PointValue) → AreSmall p → Fits (point_json names p)
+  point_fits : (p : PointValue) → AreSmall p → Fits ((point names).json p)
   point_fits p h = by_mark p.mark refl
     where
-      by_mark : (m : Mark) → p.mark ≡ m → Fits (object_of (adding_members m ++ point_members names (record p { mark = m })))
+      by_mark : (m : Mark) → p.mark ≡ m → Fits ((point names).json (record p { mark = m }))
       by_mark mark.Optimal e = (refl, IsUtf8-are_ascii (codes "c") refl, h.c, (refl, IsUtf8-are_ascii (codes "mark") refl, IsUtf8-are_ascii (codes "optimal") refl, (refl, IsUtf8-are_ascii (codes "r") refl, h.r, (refl, IsUtf8-are_ascii (codes "rounds") refl, h.rounds, (refl, IsUtf8-are_ascii (codes "s") refl, h.s, (refl, IsUtf8-are_ascii (codes "sends") refl, h.sends, tt))))))
       by_mark mark.Open e = (refl, IsUtf8-are_ascii (codes "c") refl, h.c, (refl, IsUtf8-are_ascii (codes "mark") refl, IsUtf8-are_ascii (codes "open") refl, (refl, IsUtf8-are_ascii (codes "r") refl, h.r, (refl, IsUtf8-are_ascii (codes "rounds") refl, h.rounds, (refl, IsUtf8-are_ascii (codes "s") refl, h.s, (refl, IsUtf8-are_ascii (codes "sends") refl, h.sends, tt))))))
       by_mark (mark.Joined n) e = (refl, IsUtf8-are_ascii (codes "adding") refl, h.adding n e, (refl, IsUtf8-are_ascii (codes "c") refl, h.c, (refl, IsUtf8-are_ascii (codes "mark") refl, IsUtf8-are_ascii (codes "joined") refl, (refl, IsUtf8-are_ascii (codes "r") refl, h.r, (refl, IsUtf8-are_ascii (codes "rounds") refl, h.rounds, (refl, IsUtf8-are_ascii (codes "s") refl, h.s, (refl, IsUtf8-are_ascii (codes "sends") refl, h.sends, tt)))))))
 
-  points_fit : (points : List PointValue) → All AreSmall points → ItemsFit (items_of (map (point_json names) points))
+  points_fit : (points : List PointValue) → All AreSmall points → ItemsFit (items_of (map (point names).json points))
   points_fit [] h = tt
   points_fit (p ∷ ps) h = (point_fits p (All-head AreSmall p ps h), points_fit ps (All-tail AreSmall p ps h))
 
@@ -89,13 +91,13 @@ module _ (names : List (List ℕ)) (named : All (λ n. is_name n ≡ true) names
     all_joined_small : (points : List PointValue) → All (IsJoinedPoint q) points → All AreSmall points
     all_joined_small points h i d below = joined_small _ (h i d below)
 
-    refuted_fit : (xs : List Candidate) → All (IsWithin q) xs → ItemsFit (items_of (map candidate_json xs))
+    refuted_fit : (xs : List Candidate) → All (IsWithin q) xs → ItemsFit (items_of (map refuted.json xs))
     refuted_fit [] h = tt
     refuted_fit (x ∷ xs) h =
         let w = All-head (IsWithin q) x xs h in
         ((omega (arith, w.steps, limits.steps), (omega (arith, w.steps, w.rounds, limits.steps, limits.k), (omega (arith, w.chunks, limits.chunks), tt))), refuted_fit xs (All-tail (IsWithin q) x xs h))
 
-    unknown_fit : (us : List UnknownValue) → All (IsUnknown q) us → ItemsFit (items_of (map unknown_json us))
+    unknown_fit : (us : List UnknownValue) → All (IsUnknown q) us → ItemsFit (items_of (map unknown.json us))
     unknown_fit [] h = tt
     unknown_fit (u ∷ us) h =
         let is = All-head (IsUnknown q) u us h in
@@ -104,10 +106,10 @@ module _ (names : List (List ℕ)) (named : All (λ n. is_name n ≡ true) names
           unknown_fit us (All-tail (IsUnknown q) u us h),
         )
 
-    frontier_fits : (x : Part) (f : FrontierValue) → IsFrontier q f → Fits (frontier_json names (x, f))
+    frontier_fits : (x : Part) (f : FrontierValue) → IsFrontier q f → Fits ((frontier names).json (x, f))
     frontier_fits x f h = (refl, IsUtf8-are_ascii (codes "part") refl, part_utf8 x, (refl, IsUtf8-are_ascii (codes "points") refl, points_fit f.points (all_small f.points h.points), (refl, IsUtf8-are_ascii (codes "refuted") refl, refuted_fit f.refuted h.refuted, (refl, IsUtf8-are_ascii (codes "unknown") refl, unknown_fit f.unknown h.unknown, tt))))
       where
-        part_utf8 : (y : Part) → IsUtf8 (part_word y)
+        part_utf8 : (y : Part) → IsUtf8 (slice_index_or (part_words y) 1 (codes "joined"))
         part_utf8 part.Whole = IsUtf8-are_ascii _ refl
         part_utf8 part.Reduce = IsUtf8-are_ascii _ refl
         part_utf8 part.Gather = IsUtf8-are_ascii _ refl
@@ -125,39 +127,26 @@ module _ (names : List (List ℕ)) (named : All (λ n. is_name n ≡ true) names
     word_utf8 kind.Allreduce = IsUtf8-are_ascii _ refl
     word_utf8 kind.Custom = IsUtf8-are_ascii _ refl
 
-    -- the members that always come first
-    abbrev front : List (List ℕ × Data)
-    front = (codes "chunks", count_of w.limits.max_c) ∷ (codes "collective", string (word_of w.collective.kind)) ∷ (codes "conflicts", count_of w.limits.conflicts) ∷ []
+    words_fit : Fits ((words names).json w)
+    words_fit = by_keys (takes_root w.collective.kind) w.limits.pruning.cuts w.limits.pruning.ordered
+      where
+        u : (key : List ℕ) → are_ascii key ≡ true → IsUtf8 key
+        u = IsUtf8-are_ascii
 
-    abbrev with_k : Bool → List (List ℕ × Data)
-    with_k cuts = front ++ said_members (codes "cuts") cuts ++ (codes "k", count_of w.limits.k) ∷ []
-
-    -- the last members, behind others
-    abbrev EndFits : List (List ℕ × Data) → Bool → Bool → Type 0
-    EndFits old ordered rooted =
-        MembersFit (members_of old) (members_of (said_members (codes "ordered") ordered ++ (if rooted then (codes "root", string (name_at names w.collective.root)) ∷ [] else []) ++ (codes "steps", count_of w.limits.max_s) ∷ []))
-
-    end_fits : (cuts ordered rooted : Bool) → EndFits (with_k cuts) ordered rooted
-    end_fits true true true = (refl, IsUtf8-are_ascii (codes "ordered") refl, IsUtf8-are_ascii (codes "yes") refl, (refl, IsUtf8-are_ascii (codes "root") refl, name_fits names named w.collective.root, (refl, IsUtf8-are_ascii (codes "steps") refl, omega (arith, limits.steps), tt)))
-    end_fits true true false = (refl, IsUtf8-are_ascii (codes "ordered") refl, IsUtf8-are_ascii (codes "yes") refl, (refl, IsUtf8-are_ascii (codes "steps") refl, omega (arith, limits.steps), tt))
-    end_fits true false true = (refl, IsUtf8-are_ascii (codes "root") refl, name_fits names named w.collective.root, (refl, IsUtf8-are_ascii (codes "steps") refl, omega (arith, limits.steps), tt))
-    end_fits true false false = (refl, IsUtf8-are_ascii (codes "steps") refl, omega (arith, limits.steps), tt)
-    end_fits false true true = (refl, IsUtf8-are_ascii (codes "ordered") refl, IsUtf8-are_ascii (codes "yes") refl, (refl, IsUtf8-are_ascii (codes "root") refl, name_fits names named w.collective.root, (refl, IsUtf8-are_ascii (codes "steps") refl, omega (arith, limits.steps), tt)))
-    end_fits false true false = (refl, IsUtf8-are_ascii (codes "ordered") refl, IsUtf8-are_ascii (codes "yes") refl, (refl, IsUtf8-are_ascii (codes "steps") refl, omega (arith, limits.steps), tt))
-    end_fits false false true = (refl, IsUtf8-are_ascii (codes "root") refl, name_fits names named w.collective.root, (refl, IsUtf8-are_ascii (codes "steps") refl, omega (arith, limits.steps), tt))
-    end_fits false false false = (refl, IsUtf8-are_ascii (codes "steps") refl, omega (arith, limits.steps), tt)
-
-    middle_fits : (cuts ordered rooted : Bool) → MembersFit (members_of front) (members_of (said_members (codes "cuts") cuts ++ (codes "k", count_of w.limits.k) ∷ said_members (codes "ordered") ordered ++ (if rooted then (codes "root", string (name_at names w.collective.root)) ∷ [] else []) ++ (codes "steps", count_of w.limits.max_s) ∷ []))
-    middle_fits true ordered rooted = (refl, IsUtf8-are_ascii (codes "cuts") refl, IsUtf8-are_ascii (codes "yes") refl, (refl, IsUtf8-are_ascii (codes "k") refl, omega (arith, limits.k), end_fits true ordered rooted))
-    middle_fits false ordered rooted = (refl, IsUtf8-are_ascii (codes "k") refl, omega (arith, limits.k), end_fits false ordered rooted)
-
-    words_fit : Fits (words_json names w)
-    words_fit = (refl, IsUtf8-are_ascii (codes "chunks") refl, omega (arith, limits.chunks), (refl, IsUtf8-are_ascii (codes "collective") refl, word_utf8 w.collective.kind, (refl, IsUtf8-are_ascii (codes "conflicts") refl, omega (arith, limits.conflicts), middle_fits w.limits.pruning.cuts w.limits.pruning.ordered (takes_root w.collective.kind))))
+        by_keys : (rooted cuts ordered : Bool) → Fits (words_with w.limits.k w.limits.max_s w.limits.max_c w.limits.conflicts (word_of w.collective.kind) (name_at names w.collective.root) rooted cuts ordered)
+        by_keys true true true = (refl, u (codes "chunks") refl, omega (arith, limits.chunks), (refl, u (codes "collective") refl, word_utf8 w.collective.kind, (refl, u (codes "conflicts") refl, omega (arith, limits.conflicts), (refl, u (codes "cuts") refl, u (codes "yes") refl, (refl, u (codes "k") refl, omega (arith, limits.k), (refl, u (codes "ordered") refl, u (codes "yes") refl, (refl, u (codes "root") refl, name_fits names named w.collective.root, (refl, u (codes "steps") refl, omega (arith, limits.steps), tt))))))))
+        by_keys true true false = (refl, u (codes "chunks") refl, omega (arith, limits.chunks), (refl, u (codes "collective") refl, word_utf8 w.collective.kind, (refl, u (codes "conflicts") refl, omega (arith, limits.conflicts), (refl, u (codes "cuts") refl, u (codes "yes") refl, (refl, u (codes "k") refl, omega (arith, limits.k), (refl, u (codes "root") refl, name_fits names named w.collective.root, (refl, u (codes "steps") refl, omega (arith, limits.steps), tt)))))))
+        by_keys true false true = (refl, u (codes "chunks") refl, omega (arith, limits.chunks), (refl, u (codes "collective") refl, word_utf8 w.collective.kind, (refl, u (codes "conflicts") refl, omega (arith, limits.conflicts), (refl, u (codes "k") refl, omega (arith, limits.k), (refl, u (codes "ordered") refl, u (codes "yes") refl, (refl, u (codes "root") refl, name_fits names named w.collective.root, (refl, u (codes "steps") refl, omega (arith, limits.steps), tt)))))))
+        by_keys true false false = (refl, u (codes "chunks") refl, omega (arith, limits.chunks), (refl, u (codes "collective") refl, word_utf8 w.collective.kind, (refl, u (codes "conflicts") refl, omega (arith, limits.conflicts), (refl, u (codes "k") refl, omega (arith, limits.k), (refl, u (codes "root") refl, name_fits names named w.collective.root, (refl, u (codes "steps") refl, omega (arith, limits.steps), tt))))))
+        by_keys false true true = (refl, u (codes "chunks") refl, omega (arith, limits.chunks), (refl, u (codes "collective") refl, word_utf8 w.collective.kind, (refl, u (codes "conflicts") refl, omega (arith, limits.conflicts), (refl, u (codes "cuts") refl, u (codes "yes") refl, (refl, u (codes "k") refl, omega (arith, limits.k), (refl, u (codes "ordered") refl, u (codes "yes") refl, (refl, u (codes "steps") refl, omega (arith, limits.steps), tt)))))))
+        by_keys false true false = (refl, u (codes "chunks") refl, omega (arith, limits.chunks), (refl, u (codes "collective") refl, word_utf8 w.collective.kind, (refl, u (codes "conflicts") refl, omega (arith, limits.conflicts), (refl, u (codes "cuts") refl, u (codes "yes") refl, (refl, u (codes "k") refl, omega (arith, limits.k), (refl, u (codes "steps") refl, omega (arith, limits.steps), tt))))))
+        by_keys false false true = (refl, u (codes "chunks") refl, omega (arith, limits.chunks), (refl, u (codes "collective") refl, word_utf8 w.collective.kind, (refl, u (codes "conflicts") refl, omega (arith, limits.conflicts), (refl, u (codes "k") refl, omega (arith, limits.k), (refl, u (codes "ordered") refl, u (codes "yes") refl, (refl, u (codes "steps") refl, omega (arith, limits.steps), tt))))))
+        by_keys false false false = (refl, u (codes "chunks") refl, omega (arith, limits.chunks), (refl, u (codes "collective") refl, word_utf8 w.collective.kind, (refl, u (codes "conflicts") refl, omega (arith, limits.conflicts), (refl, u (codes "k") refl, omega (arith, limits.k), (refl, u (codes "steps") refl, omega (arith, limits.steps), tt)))))
 
 -- ---- the whole
 
 frontiers_fit : (names : List (List ℕ)) (named : All (λ n. is_name n ≡ true) names) (w : WordsValue) (ask : Part → QuestionValue) (limits : (x : Part) → IsLimits (ask x).limits) (nodes : (x : Part) → (ask x).topology.nodes ≤ 16) (base : (x : Part) → FewBase (ask x).spec)
-    (xs : List (Part × FrontierValue)) → All (λ x. IsFrontier (ask x.0) x.1) xs → ItemsFit (items_of (map (frontier_json names) xs))
+    (xs : List (Part × FrontierValue)) → All (λ x. IsFrontier (ask x.0) x.1) xs → ItemsFit (items_of (map (frontier names).json xs))
 frontiers_fit names named w ask limits nodes base [] h = tt
 frontiers_fit names named w ask limits nodes base (x ∷ xs) h =
     (frontier_fits names named (ask x.0) (limits x.0) (nodes x.0) (base x.0) x.0 x.1 (All-head (λ y. IsFrontier (ask y.0) y.1) x xs h), frontiers_fit names named w ask limits nodes base xs (All-tail (λ y. IsFrontier (ask y.0) y.1) x xs h))

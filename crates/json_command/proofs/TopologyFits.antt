@@ -1,12 +1,12 @@
 -- The JSON of a topology is read back: its numbers are small, and its texts are names.
 use Rattle.std.proofs.Common.{◌≡◌, ℕ, zero, suc, ◌^◌, ◌<◌, true, List, [], ◌∷◌, map, Option, None, Some, refl, arith, IsUtf8, All, codes, slice_index_or}
-use Rattle.std.{specs.List.{filter, range_with_len}, proofs.lemmas.List.Elements.{All-head, All-tail}}
+use Rattle.std.proofs.lemmas.List.Elements.{All-head, All-tail}
 use Rattle.json.proofs.Printed.Utf8.{IsUtf8-are_ascii}
-use Rattle.schedule.specs.{Links.{GroupValue, IsGroup}, Placed.{PlacementValue, holds}}
+use Rattle.schedule.specs.Links.{GroupValue, IsGroup}
 use Rattle.collective_spec.specs.Patterns.{PatternValue}
 use Rattle.topology_text.specs.{Names.is_name, Spelling.name_at, Value.{NamedTopologyValue, IsNamed}}
 use Rattle.serde_json.specs.{Data.string, View.items_of}
-use Rattle.json_values.{specs.TopologyJson.{custom_json, group_json, holders_json, link_json, placement_json, topology_json}, proofs.Printing.name_utf8}
+use Rattle.json_values.{specs.{Forms.{each, name, via}, TopologyForm.{custom, group, link}, TopologyJson.topology_json}, proofs.Printing.name_utf8}
 use Rattle.json_command.proofs.Fitting.{Fits, ItemsFit, all_fit}
 
 -- every number of these values is below this
@@ -28,24 +28,22 @@ module _ (names : List (List ℕ)) (named : All (λ n. is_name n ≡ true) names
 
   -- ---- topologies
 
-  link_fits : (link : ℕ × ℕ) → Fits (link_json names link)
-  link_fits link = (name_fits link.0, (name_fits link.1, tt))
+  link_fits : (l : ℕ × ℕ) → Fits ((link names).json l)
+  link_fits l = (name_fits l.0, (name_fits l.1, tt))
 
-  group_fits : (group : GroupValue) → group.width < small → Fits (group_json names group)
-  group_fits group narrow = (refl, IsUtf8-are_ascii (codes "links") refl, all_fit (link_json names) group.links link_fits, (refl, IsUtf8-are_ascii (codes "width") refl, narrow, tt))
+  group_fits : (g : GroupValue) → g.width < small → Fits ((group names).json g)
+  group_fits g narrow = (refl, IsUtf8-are_ascii (codes "links") refl, all_fit (link names).json g.links link_fits, (refl, IsUtf8-are_ascii (codes "width") refl, narrow, tt))
 
-  groups_fit : (groups : List GroupValue) → All IsGroup groups → ItemsFit (items_of (map (group_json names) groups))
+  groups_fit : (groups : List GroupValue) → All IsGroup groups → ItemsFit (items_of (map (group names).json groups))
   groups_fit [] h = tt
-  groups_fit (group ∷ groups) h = let valid = All-head IsGroup group groups h in (group_fits group (omega (arith, valid.narrow)), groups_fit groups (All-tail IsGroup group groups h))
+  groups_fit (g ∷ groups) h = let valid = All-head IsGroup g groups h in (group_fits g (omega (arith, valid.narrow)), groups_fit groups (All-tail IsGroup g groups h))
 
-  holders_fit : (p : PlacementValue) (g : ℕ) → Fits (holders_json names p g)
-  holders_fit p g = all_fit (λ node. string (name_at names node)) (filter (λ node. holds p (g, node)) (range_with_len 0 p.nodes)) name_fits
+  -- who holds each of some chunks
+  held_fit : (chunks : List (List ℕ)) → Fits ((each (each (via (name_at names) name))).json chunks)
+  held_fit chunks = all_fit (each (via (name_at names) name)).json chunks (λ nodes. all_fit (via (name_at names) name).json nodes name_fits)
 
-  placement_fits : (base : ℕ) (p : PlacementValue) → Fits (placement_json names base p)
-  placement_fits base p = all_fit (holders_json names p) (range_with_len 0 base) (holders_fit p)
-
-  custom_fits : (p : PatternValue) → Fits (custom_json names p)
-  custom_fits p = (refl, IsUtf8-are_ascii (codes "after") refl, placement_fits p.base p.after, (refl, IsUtf8-are_ascii (codes "before") refl, placement_fits p.base p.before, tt))
+  custom_fits : (p : PatternValue) → Fits ((custom names).json p)
+  custom_fits p = (refl, IsUtf8-are_ascii (codes "after") refl, held_fit _, (refl, IsUtf8-are_ascii (codes "before") refl, held_fit _, tt))
 
   parts_fit : (nodes : ℕ) (groups : List GroupValue) (custom : Option PatternValue) → All IsGroup groups → Fits (topology_json (record { names = names; topology = record { nodes = nodes; groups = groups }; custom = custom }))
   parts_fit nodes groups None h =

@@ -22,7 +22,7 @@ pub fn report_from_json(alloc: Global, bytes: &[u8]) -> Result<Report, JsonFault
     // Which check fails first, and on which line of the text.
     ensures exact { Answers result (report_of_json bytes.now) }
 {
-    let text = match text_in::<ReportLines>(alloc, bytes) {
+    let text = match text_in(alloc, &ReportLines, bytes) {
         Ok(text) => text,
         Err(code) => return Err(JsonFault { code, place: 0 }),
     };

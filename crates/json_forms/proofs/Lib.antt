@@ -1,4 +1,1 @@
-pub mod Alike
 pub mod ReadJson
-pub mod TopologyTable
-pub mod ReportTable

@@ -1,5 +1,4 @@
-pub mod Built
-pub mod Compose
 pub mod ReportForm
-pub mod Sends
+pub mod Built
 pub mod Short
+pub mod Keys

@@ -1,6 +1,6 @@
 -- The JSON of a report has the form, and stands for the report's text.
-use Rattle.std.proofs.Common.{◌≡◌, ◌≢◌, ℕ, ◌<◌, Bool, true, false, List, [], ◌∷◌, ◌++◌, map, length, Option, Some, None, refl, sym, ap, ap₂, ◌∙◌, subst, arith, append_assoc, codes, decimal, bytes_eq, nat_lt, if◌then◌else◌, ◌&&◌}
-use Rattle.std.{specs.List.{All, AllByRecursion, flat_map}, proofs.lemmas.{List.Elements.recursion_from_All, Bool.{and_parts, ltb-true}}}
+use Rattle.std.proofs.Common.{◌≡◌, ◌≢◌, ℕ, ◌<◌, Bool, true, false, List, [], ◌∷◌, ◌++◌, map, length, Option, Some, None, refl, sym, ap, ap₂, ◌∙◌, subst, arith, append_assoc, codes, decimal, bytes_eq, nat_lt, if◌then◌else◌, option_map, slice_index_or, ◌&&◌}
+use Rattle.std.{specs.{Prelude.unwrap_or, List.{All, AllByRecursion, flat_map}}, proofs.lemmas.{List.Elements.recursion_from_All, Bool.{and_parts, ltb-true}}}
 use Rattle.outer_ports.specs.declared.part.Part.{Part}
 use Rattle.outer_ports.specs.declared.part.Part.TheVariants as part
 use Rattle.schedule.{specs.{declared.hop.Hop.Hop, Links.GroupValue, Sends.is_hop_below}, proofs.First.each_weaker}
@@ -13,73 +13,53 @@ use Rattle.topology_text.specs.{Names.AreNames, Spelling.{name_at, version_word}
 use Rattle.report_form.specs.Reports.{WordsValue, ReportValue, IsReport, IsFrontier, IsPrintedPoint, IsJoinedPoint, HasSchedule, parts_of, question_of}
 use Rattle.report_form.specs.Spelling.{pruning_words, synth_words, point_lines, rounds_words, send_words, refuted_words, unknown_words, frontier_lines, joined_lines, report_lines}
 use Rattle.list_laws.proofs.Each.{each_always}
-use Rattle.serde_json.specs.Data.{Data, string}
-use Rattle.json_values.specs.{Json.{array_of, object_of, count_of}, Shape.{◌>>=◌, ◌⊕◌, one, headed, list_in, lines_in, name_in}, TopologyJson.topology_json}
-use Rattle.json_values.proofs.TopologyForm.{each_made, name_there, topology_form}
-use Rattle.json_rules.specs.ReportJson.{send_json, point_json, points_json, candidate_json, unknown_json, frontier_json, said_members, words_json, report_json, word_in, number_in, rounds_in, send_in, refuted_in, unknown_in, point_in, frontier_in, words_in, joins_in, joined_in, title_in, report_in}
-
--- what holds of each is what the list has
-list_made : {X A : Type 0} (shape : Data → Option A) (make : X → Data) (shown : X → A) (xs : List X) → AllByRecursion (λ x. shape (make x) ≡ Some (shown x)) xs → list_in shape (array_of (map make xs)) ≡ Some (map shown xs)
-list_made = each_made
-
-joined_lists : {X : Type 0} (shown : X → List (List (List ℕ))) (xs : List X) → flat_map (λ lines. lines) (map shown xs) ≡ flat_map shown xs
-joined_lists shown [] = refl
-joined_lists shown (x ∷ xs) = ap (λ l. shown x ++ l) (joined_lists shown xs)
-
-lines_made : {X : Type 0} (shape : Data → Option (List (List (List ℕ)))) (make : X → Data) (shown : X → List (List (List ℕ))) (xs : List X) → AllByRecursion (λ x. shape (make x) ≡ Some (shown x)) xs → lines_in shape (array_of (map make xs)) ≡ Some (flat_map shown xs)
-lines_made shape make shown xs h = ap (λ o. o >>= λ items. Some (flat_map (λ lines. lines) items)) (each_made shape make shown xs h) ∙ ap Some (joined_lists shown xs)
-
-rounds_found : (rounds : List ℕ) → rounds_in (array_of (map count_of rounds)) ≡ Some (rounds_words rounds)
-rounds_found rounds = ap (headed (codes "rounds")) (list_made number_in count_of decimal rounds (each_always _ (λ n. refl) rounds))
+use Rattle.serde_json.specs.{Data.{Data, object, string, Members, no_members, put}, Find.{as_array, get}}
+use Rattle.json_values.specs.{Json.count_of, Shape.{◌>>=◌, ◌⊕◌, one, headed}, Forms.{count, each, name, row_read}, TopologyForm.version, TopologyJson.{topology_in, topology_json}}
+use Rattle.json_values.proofs.TopologyForm.{each_one, each_some, name_there, topology_form}
+use Rattle.json_reports.{specs.Candidates.{refuted, unknown}, proofs.Keys.words_with}
+use Rattle.json_rules.specs.{ReportForm.{send, point, frontier, kinds, words, report}, ReportJson.{report_json, report_in}}
 
 -- the sends are of nodes that have a name
 abbrev SendsBelow : List (List ℕ) → PointValue → Type 0
 SendsBelow names p = AllByRecursion (λ h. (h.from < length names) × (h.to < length names)) p.schedule.sends
 
 module _ (names : List (List ℕ)) (named : AreNames names) where
-  send_found : (h : Hop) → (h.from < length names) × (h.to < length names) → send_in (send_json names h) ≡ Some (send_words names h)
+  send_found : (h : Hop) → (h.from < length names) × (h.to < length names) → (send names).read ((send names).json h) ≡ Some (send_words names h ∷ [])
   send_found h below =
-      ap₂ (λ from to. headed (codes "send") (one (Some (decimal h.chunk)) ⊕ one from ⊕ one to ⊕ Some (decimal h.step ∷ []))) (name_there names named h.from below.0) (name_there names named h.to below.1)
-
-  sends_found : (sends : List Hop) → AllByRecursion (λ h. (h.from < length names) × (h.to < length names)) sends → list_in send_in (array_of (map (send_json names) sends)) ≡ Some (map (send_words names) sends)
-  sends_found sends below = list_made send_in (send_json names) (send_words names) sends (each_weaker _ _ send_found sends below)
-
-  point_rest : (head : List (List ℕ)) (rounds : List ℕ) (sends : List Hop) → AllByRecursion (λ h. (h.from < length names) × (h.to < length names)) sends
-      → (Some (head ∷ []) ⊕ one (rounds_in (array_of (map count_of rounds))) ⊕ list_in send_in (array_of (map (send_json names) sends))) ≡ Some (head ∷ rounds_words rounds ∷ map (send_words names) sends)
-  point_rest head rounds sends below = ap₂ (λ x y. Some (head ∷ []) ⊕ one x ⊕ y) (rounds_found rounds) (sends_found sends below)
+      ap₂ (λ from to. one (headed (codes "send") (Some (decimal h.chunk ∷ []) ⊕ from ⊕ to ⊕ Some (decimal h.step ∷ [])))) (name_there names named h.from below.0) (name_there names named h.to below.1)
 
   point_of : (s r c : ℕ) (rounds : List ℕ) (sends : List Hop) (m : Mark) → AllByRecursion (λ h. (h.from < length names) × (h.to < length names)) sends
-      → point_in (point_json names (record { candidate = record { s = s; r = r; c = c }; schedule = record { rounds = rounds; sends = sends }; mark = m })) ≡ Some (point_lines names (record { candidate = record { s = s; r = r; c = c }; schedule = record { rounds = rounds; sends = sends }; mark = m }))
-  point_of s r c rounds sends mark.Optimal below = point_rest (codes "point" ∷ decimal s ∷ decimal r ∷ decimal c ∷ codes "optimal" ∷ []) rounds sends below
-  point_of s r c rounds sends mark.Open below = point_rest (codes "point" ∷ decimal s ∷ decimal r ∷ decimal c ∷ codes "open" ∷ []) rounds sends below
-  point_of s r c rounds sends (mark.Joined adding) below = point_rest (codes "point" ∷ decimal s ∷ decimal r ∷ decimal c ∷ codes "joined" ∷ decimal adding ∷ []) rounds sends below
+      → (point names).read ((point names).json (record { candidate = record { s = s; r = r; c = c }; schedule = record { rounds = rounds; sends = sends }; mark = m })) ≡ Some (point_lines names (record { candidate = record { s = s; r = r; c = c }; schedule = record { rounds = rounds; sends = sends }; mark = m }))
+  point_of s r c rounds sends m below = by_mark m
+    where
+      rest : (head : List (List ℕ)) → (Some (head ∷ []) ⊕ one (headed (codes "rounds") ((each count).read ((each count).json rounds))) ⊕ (each (send names)).read ((each (send names)).json sends)) ≡ Some (head ∷ rounds_words rounds ∷ map (send_words names) sends)
+      rest head = ap₂ (λ x y. Some (head ∷ []) ⊕ one (headed (codes "rounds") x) ⊕ y) (each_one count decimal rounds (each_always _ (λ n. refl) rounds)) (each_one (send names) (send_words names) sends (each_weaker _ _ send_found sends below))
 
-  point_found : (p : PointValue) → SendsBelow names p → point_in (point_json names p) ≡ Some (point_lines names p)
-  point_found p below = point_of p.candidate.s p.candidate.r p.candidate.c p.schedule.rounds p.schedule.sends p.mark below
+      by_mark : (m : Mark) → (point names).read ((point names).json (record { candidate = record { s = s; r = r; c = c }; schedule = record { rounds = rounds; sends = sends }; mark = m })) ≡ Some (point_lines names (record { candidate = record { s = s; r = r; c = c }; schedule = record { rounds = rounds; sends = sends }; mark = m }))
+      by_mark mark.Optimal = rest (codes "point" ∷ decimal s ∷ decimal r ∷ decimal c ∷ codes "optimal" ∷ [])
+      by_mark mark.Open = rest (codes "point" ∷ decimal s ∷ decimal r ∷ decimal c ∷ codes "open" ∷ [])
+      by_mark (mark.Joined adding) = rest (codes "point" ∷ decimal s ∷ decimal r ∷ decimal c ∷ codes "joined" ∷ decimal adding ∷ [])
 
-  points_found : (points : List PointValue) → AllByRecursion (SendsBelow names) points → lines_in point_in (points_json names points) ≡ Some (flat_map (point_lines names) points)
-  points_found points below = lines_made point_in (point_json names) (point_lines names) points (each_weaker _ _ point_found points below)
+  points_found : (points : List PointValue) → AllByRecursion (SendsBelow names) points → (each (point names)).read ((each (point names)).json points) ≡ Some (flat_map (point_lines names) points)
+  points_found points below = each_some (point names) (point_lines names) points (each_weaker _ _ (λ (p : PointValue). point_of p.candidate.s p.candidate.r p.candidate.c p.schedule.rounds p.schedule.sends p.mark) points below)
 
-  refuted_found : (list : List Candidate) → list_in refuted_in (array_of (map candidate_json list)) ≡ Some (map refuted_words list)
-  refuted_found list = list_made refuted_in candidate_json refuted_words list (each_always _ (λ x. refl) list)
+  frontier_found : (p : Part) (f : FrontierValue) → p ≢ part.Joined → AllByRecursion (SendsBelow names) f.points → (frontier names).read ((frontier names).json (p, f)) ≡ Some (frontier_lines names (p, f))
+  frontier_found p f h below = by_part p h
+    where
+      rest : (head : List (List ℕ)) → (Some (head ∷ []) ⊕ (each (point names)).read ((each (point names)).json f.points) ⊕ (each refuted).read ((each refuted).json f.refuted) ⊕ (each unknown).read ((each unknown).json f.unknown)) ≡ Some (head ∷ (flat_map (point_lines names) f.points ++ (map refuted_words f.refuted ++ map unknown_words f.unknown)))
+      rest head =
+          ap (λ x. Some (head ∷ []) ⊕ x ⊕ (each refuted).read ((each refuted).json f.refuted) ⊕ (each unknown).read ((each unknown).json f.unknown)) (points_found f.points below)
+          ∙ ap₂ (λ x y. Some (head ∷ []) ⊕ Some (flat_map (point_lines names) f.points) ⊕ x ⊕ y) (each_one refuted refuted_words f.refuted (each_always _ (λ x. refl) f.refuted)) (each_one unknown unknown_words f.unknown (each_always _ (λ x. refl) f.unknown))
 
-  unknown_found : (list : List UnknownValue) → list_in unknown_in (array_of (map unknown_json list)) ≡ Some (map unknown_words list)
-  unknown_found list = list_made unknown_in unknown_json unknown_words list (each_always _ (λ x. refl) list)
-
-  frontier_parts : (part : Option (List (List ℕ))) (points refuted unknown : Option (List (List (List ℕ)))) (a : List (List ℕ)) (b c d : List (List (List ℕ))) → part ≡ Some a → points ≡ Some b → refuted ≡ Some c → unknown ≡ Some d
-      → (one part ⊕ points ⊕ refuted ⊕ unknown) ≡ Some (a ∷ (b ++ (c ++ d)))
-  frontier_parts part points refuted unknown a b c d p q r s =
-      ap (λ x. one x ⊕ points ⊕ refuted ⊕ unknown) p ∙ ap (λ x. Some (a ∷ []) ⊕ x ⊕ refuted ⊕ unknown) q ∙ ap₂ (λ x y. Some (a ∷ []) ⊕ Some b ⊕ x ⊕ y) r s
-
-  frontier_found : (p : Part) (f : FrontierValue) → p ≢ part.Joined → AllByRecursion (SendsBelow names) f.points → frontier_in (frontier_json names (p, f)) ≡ Some (frontier_lines names (p, f))
-  frontier_found part.Whole f h below = frontier_parts _ _ _ _ _ _ _ _ refl (points_found f.points below) (refuted_found f.refuted) (unknown_found f.unknown)
-  frontier_found part.Reduce f h below = frontier_parts _ _ _ _ _ _ _ _ refl (points_found f.points below) (refuted_found f.refuted) (unknown_found f.unknown)
-  frontier_found part.Gather f h below = frontier_parts _ _ _ _ _ _ _ _ refl (points_found f.points below) (refuted_found f.refuted) (unknown_found f.unknown)
-  frontier_found part.Joined f h below = absurd (h refl)
+      by_part : (p : Part) → p ≢ part.Joined → (frontier names).read ((frontier names).json (p, f)) ≡ Some (frontier_lines names (p, f))
+      by_part part.Whole h = rest (codes "frontier" ∷ codes "whole" ∷ [])
+      by_part part.Reduce h = rest (codes "frontier" ∷ codes "reduce" ∷ [])
+      by_part part.Gather h = rest (codes "frontier" ∷ codes "gather" ∷ [])
+      by_part part.Joined h = absurd (h refl)
 
 -- ---- the words
 
-kind_found : (k : Kind) → word_in (map word_of every_kind) (string (word_of k)) ≡ Some (word_of k)
+kind_found : (k : Kind) → kinds.read (string (word_of k)) ≡ Some (word_of k ∷ [])
 kind_found kind.Broadcast = refl
 kind_found kind.Gather = refl
 kind_found kind.Allgather = refl
@@ -90,44 +70,54 @@ kind_found kind.Reducescatter = refl
 kind_found kind.Allreduce = refl
 kind_found kind.Custom = refl
 
-joins_found : (names : List (List ℕ)) (w : WordsValue) (k : Kind) → w.collective.kind ≡ k → joins_in (words_json names w) ≡ Some (bytes_eq (word_of k) (codes "allreduce"))
-joins_found names w k e = ap (λ k. word_in (map word_of every_kind) (string (word_of k)) >>= λ kind. Some (bytes_eq kind (codes "allreduce"))) e ∙ ap (λ o. o >>= λ kind. Some (bytes_eq kind (codes "allreduce"))) (kind_found k)
-
 -- the words of a search, with a root or without, where these are the word of its kind and the name of its root
-module _ (k s c n : ℕ) (kind root : List ℕ) (is_kind : word_in (map word_of every_kind) (string kind) ≡ Some kind) (is_name : name_in (string root) ≡ Some root) where
-  abbrev keyed : List ℕ → List (List ℕ) → List (List ℕ)
-  keyed kind behind =
-      codes "synth" ∷ (codes "collective=" ++ kind) ∷ (codes "k=" ++ decimal k) ∷ (codes "steps=" ++ decimal s) ∷ (codes "chunks=" ++ decimal c) ∷ (codes "conflicts=" ++ decimal n) ∷ behind
+module _ (names : List (List ℕ)) (k s c n : ℕ) (kind root : List ℕ) (is_kind : kinds.read (string kind) ≡ Some (kind ∷ [])) (is_name : name.read (string root) ≡ Some (root ∷ [])) where
+  abbrev line_of : Option (List (List ℕ)) → Option (List (List ℕ)) → List (List ℕ) → Option (List (List (List ℕ)))
+  line_of collective at_root said =
+      one (headed (codes "synth") (option_map (map (λ w. codes "collective" ++ 61 ∷ w)) collective ⊕ Some ((codes "k=" ++ decimal k) ∷ []) ⊕ Some ((codes "steps=" ++ decimal s) ∷ []) ⊕ Some ((codes "chunks=" ++ decimal c) ∷ []) ⊕ Some ((codes "conflicts=" ++ decimal n) ∷ []) ⊕ at_root ⊕ Some said))
 
-  abbrev members : Bool → Bool → Bool → List (List ℕ × Data)
-  members rooted cuts ordered =
-      (codes "chunks", count_of c) ∷ (codes "collective", string kind) ∷ (codes "conflicts", count_of n) ∷ said_members (codes "cuts") cuts
-      ++ (codes "k", count_of k) ∷ said_members (codes "ordered") ordered ++ (if rooted then (codes "root", string root) ∷ [] else []) ++ (codes "steps", count_of s) ∷ []
+  rooted_found : (said : List (List ℕ)) → line_of (kinds.read (string kind)) (option_map (map (λ w. codes "root" ++ 61 ∷ w)) (name.read (string root))) said ≡ line_of (Some (kind ∷ [])) (Some ((codes "root=" ++ root) ∷ [])) said
+  rooted_found said = ap₂ (λ x y. line_of x (option_map (map (λ w. codes "root" ++ 61 ∷ w)) y) said) is_kind is_name
 
-  unrooted_found : (p : Pruning) → (word_in (map word_of every_kind) (string kind) >>= λ w. Some (keyed w (pruning_words p))) ≡ Some (keyed kind (pruning_words p))
-  unrooted_found p = ap (λ o. o >>= λ w. Some (keyed w (pruning_words p))) is_kind
+  unrooted_found : (said : List (List ℕ)) → line_of (kinds.read (string kind)) (Some []) said ≡ line_of (Some (kind ∷ [])) (Some []) said
+  unrooted_found said = ap (λ x. line_of x (Some []) said) is_kind
 
-  rooted_found : (p : Pruning) → (word_in (map word_of every_kind) (string kind) >>= λ w. (name_in (string root) >>= λ r. Some ((codes "root=" ++ r) ∷ [])) >>= λ r. Some (keyed w (r ++ pruning_words p))) ≡ Some (keyed kind ((codes "root=" ++ root) ∷ pruning_words p))
-  rooted_found p = ap₂ (λ o q. o >>= λ w. (q >>= λ r. Some ((codes "root=" ++ r) ∷ [])) >>= λ r. Some (keyed w (r ++ pruning_words p))) is_kind is_name
+  members_found : (rooted cuts ordered : Bool) → (words names).read (words_with k s c n kind root rooted cuts ordered) ≡ line_of (Some (kind ∷ [])) (Some (if rooted then (codes "root=" ++ root) ∷ [] else [])) (pruning_words (record { cuts = cuts; ordered = ordered }))
+  members_found true true true = rooted_found (codes "cuts=yes" ∷ codes "ordered=yes" ∷ [])
+  members_found true true false = rooted_found (codes "cuts=yes" ∷ [])
+  members_found true false true = rooted_found (codes "ordered=yes" ∷ [])
+  members_found true false false = rooted_found []
+  members_found false true true = unrooted_found (codes "cuts=yes" ∷ codes "ordered=yes" ∷ [])
+  members_found false true false = unrooted_found (codes "cuts=yes" ∷ [])
+  members_found false false true = unrooted_found (codes "ordered=yes" ∷ [])
+  members_found false false false = unrooted_found []
 
-  members_found : (rooted cuts ordered : Bool) → words_in (object_of (members rooted cuts ordered)) ≡ Some (keyed kind ((if rooted then (codes "root=" ++ root) ∷ [] else []) ++ pruning_words (record { cuts = cuts; ordered = ordered })))
-  members_found true true true = rooted_found (record { cuts = true; ordered = true })
-  members_found true true false = rooted_found (record { cuts = true; ordered = false })
-  members_found true false true = rooted_found (record { cuts = false; ordered = true })
-  members_found true false false = rooted_found (record { cuts = false; ordered = false })
-  members_found false true true = unrooted_found (record { cuts = true; ordered = true })
-  members_found false true false = unrooted_found (record { cuts = true; ordered = false })
-  members_found false false true = unrooted_found (record { cuts = false; ordered = true })
-  members_found false false false = unrooted_found (record { cuts = false; ordered = false })
+  kind_at : (rooted cuts ordered : Bool) → get (codes "collective") (words_with k s c n kind root rooted cuts ordered) ≡ Some (string kind)
+  kind_at true true true = refl
+  kind_at true true false = refl
+  kind_at true false true = refl
+  kind_at true false false = refl
+  kind_at false true true = refl
+  kind_at false true false = refl
+  kind_at false false true = refl
+  kind_at false false false = refl
 
-words_found : (names : List (List ℕ)) → AreNames names → (w : WordsValue) → w.collective.root < length names → words_in (words_json names w) ≡ Some (synth_words names w)
-words_found names named w below =
-    let l = w.limits in
-    members_found l.k l.max_s l.max_c l.conflicts (word_of w.collective.kind) (name_at names w.collective.root) (kind_found w.collective.kind) (name_there names named w.collective.root below) (takes_root w.collective.kind) l.pruning.cuts l.pruning.ordered
+module _ (names : List (List ℕ)) (named : AreNames names) (w : WordsValue) (below : w.collective.root < length names) where
+  words_found : (words names).read ((words names).json w) ≡ Some (synth_words names w ∷ [])
+  words_found =
+      members_found names w.limits.k w.limits.max_s w.limits.max_c w.limits.conflicts (word_of w.collective.kind) (name_at names w.collective.root) (kind_found w.collective.kind) (name_there names named w.collective.root below)
+      (takes_root w.collective.kind) w.limits.pruning.cuts w.limits.pruning.ordered
+
+  joins_found : (get (codes "collective") ((words names).json w) >>= kinds.read) ≡ Some (word_of w.collective.kind ∷ [])
+  joins_found =
+      ap (λ o. o >>= kinds.read)
+      (kind_at names w.limits.k w.limits.max_s w.limits.max_c w.limits.conflicts (word_of w.collective.kind) (name_at names w.collective.root) (kind_found w.collective.kind) (name_there names named w.collective.root below)
+      (takes_root w.collective.kind) w.limits.pruning.cuts w.limits.pruning.ordered)
+      ∙ kind_found w.collective.kind
 
 -- ---- the whole
 
-title_of : (names : List (List ℕ)) (nodes : ℕ) (groups : List GroupValue) (custom : Option PatternValue) → title_in (topology_json (record { names = names; topology = record { nodes = nodes; groups = groups }; custom = custom })) ≡ Some (codes "sccl" ∷ version_word custom ∷ [])
+title_of : (names : List (List ℕ)) (nodes : ℕ) (groups : List GroupValue) (custom : Option PatternValue) → (get (codes "version") (topology_json (record { names = names; topology = record { nodes = nodes; groups = groups }; custom = custom })) >>= version.read) ≡ Some (version_word custom ∷ [])
 title_of names nodes groups None = refl
 title_of names nodes groups (Some p) = refl
 
@@ -146,29 +136,30 @@ parts_have kind.Reducescatter = ((λ e. cc), tt)
 parts_have kind.Allreduce = ((λ e. cc), ((λ e. cc), tt))
 parts_have kind.Custom = ((λ e. cc), tt)
 
+abbrev joined_read : List (List ℕ) → Bool → Data → Option (List (List (List ℕ)))
+joined_read names joins d = if joins then headed (codes "joined" ∷ []) ((each (point names)).read d) else as_array d >>= row_read []
+
 joined_found : (names : List (List ℕ)) → AreNames names → (k : Kind) (joined : List PointValue) → AllByRecursion (SendsBelow names) joined → (k ≢ kind.Allreduce → joined ≡ [])
-    → joined_in (bytes_eq (word_of k) (codes "allreduce")) (points_json names joined) ≡ Some (joined_lines names k joined)
-joined_found names named kind.Allreduce joined below only = ap (λ o. Some ((codes "joined" ∷ []) ∷ []) ⊕ o) (points_found names named joined below)
-joined_found names named kind.Broadcast joined below only = ap (λ j. joined_in false (points_json names j)) (only (λ e. cc))
-joined_found names named kind.Gather joined below only = ap (λ j. joined_in false (points_json names j)) (only (λ e. cc))
-joined_found names named kind.Allgather joined below only = ap (λ j. joined_in false (points_json names j)) (only (λ e. cc))
-joined_found names named kind.Scatter joined below only = ap (λ j. joined_in false (points_json names j)) (only (λ e. cc))
-joined_found names named kind.Alltoall joined below only = ap (λ j. joined_in false (points_json names j)) (only (λ e. cc))
-joined_found names named kind.Reduce joined below only = ap (λ j. joined_in false (points_json names j)) (only (λ e. cc))
-joined_found names named kind.Reducescatter joined below only = ap (λ j. joined_in false (points_json names j)) (only (λ e. cc))
-joined_found names named kind.Custom joined below only = ap (λ j. joined_in false (points_json names j)) (only (λ e. cc))
+    → joined_read names (bytes_eq (word_of k) (codes "allreduce")) ((each (point names)).json joined) ≡ Some (joined_lines names k joined)
+joined_found names named kind.Allreduce joined below only = ap (headed (codes "joined" ∷ [])) (points_found names named joined below)
+joined_found names named kind.Broadcast joined below only = ap (λ j. joined_read names false ((each (point names)).json j)) (only (λ e. cc))
+joined_found names named kind.Gather joined below only = ap (λ j. joined_read names false ((each (point names)).json j)) (only (λ e. cc))
+joined_found names named kind.Allgather joined below only = ap (λ j. joined_read names false ((each (point names)).json j)) (only (λ e. cc))
+joined_found names named kind.Scatter joined below only = ap (λ j. joined_read names false ((each (point names)).json j)) (only (λ e. cc))
+joined_found names named kind.Alltoall joined below only = ap (λ j. joined_read names false ((each (point names)).json j)) (only (λ e. cc))
+joined_found names named kind.Reduce joined below only = ap (λ j. joined_read names false ((each (point names)).json j)) (only (λ e. cc))
+joined_found names named kind.Reducescatter joined below only = ap (λ j. joined_read names false ((each (point names)).json j)) (only (λ e. cc))
+joined_found names named kind.Custom joined below only = ap (λ j. joined_read names false ((each (point names)).json j)) (only (λ e. cc))
 
 -- the parts of the text, one after the other
-in_parts : (joins : Option Bool) (j : Bool) (title words : Option (List (List ℕ))) (t w : List (List ℕ)) (topology frontiers : Option (List (List (List ℕ)))) (joined : Bool → Option (List (List (List ℕ)))) (a b c : List (List (List ℕ)))
-    → joins ≡ Some j → title ≡ Some t → words ≡ Some w → topology ≡ Some a → frontiers ≡ Some b → joined j ≡ Some c
-    → (one title ⊕ (joins >>= λ j. one words ⊕ (topology ⊕ frontiers ⊕ joined j ⊕ Some ((codes "end" ∷ []) ∷ [])))) ≡ Some (t ∷ w ∷ (a ++ ((b ++ c) ++ (codes "end" ∷ []) ∷ [])))
-in_parts joins j title words t w topology frontiers joined a b c e f g h k l =
-    let end : Option (List (List (List ℕ))) = Some ((codes "end" ∷ []) ∷ []) in
-    ap (λ o. one title ⊕ (o >>= λ j. one words ⊕ (topology ⊕ frontiers ⊕ joined j ⊕ end))) e
-    ∙ ap₂ (λ x y. one x ⊕ (one y ⊕ (topology ⊕ frontiers ⊕ joined j ⊕ end))) f g
-    ∙ ap₂ (λ x y. one (Some t) ⊕ one (Some w) ⊕ (x ⊕ y ⊕ joined j ⊕ end)) h k
-    ∙ ap (λ x. one (Some t) ⊕ one (Some w) ⊕ (Some a ⊕ Some b ⊕ x ⊕ end)) l
-    ∙ ap (λ ls. Some (t ∷ w ∷ (a ++ ls))) (sym (append_assoc b c ((codes "end" ∷ []) ∷ [])))
+abbrev parts : Option (List (List ℕ)) → Option (List (List (List ℕ))) → Option (List (List (List ℕ))) → Option (List (List (List ℕ))) → Option (List (List (List ℕ))) → Option (List (List (List ℕ)))
+parts title asked topology frontiers joined = one (headed (codes "sccl") title) ⊕ asked ⊕ topology ⊕ frontiers ⊕ joined ⊕ Some ((codes "end" ∷ []) ∷ [])
+
+in_parts : (title : Option (List (List ℕ))) (asked topology frontiers joined : Option (List (List (List ℕ)))) (t : List (List ℕ)) (a b c e : List (List (List ℕ))) → title ≡ Some t → asked ≡ Some a → topology ≡ Some b → frontiers ≡ Some c → joined ≡ Some e
+    → parts title asked topology frontiers joined ≡ Some ((codes "sccl" ∷ t) ∷ (a ++ (b ++ ((c ++ e) ++ (codes "end" ∷ []) ∷ []))))
+in_parts title asked topology frontiers joined t a b c e p q r s u =
+    ap₂ (λ x y. parts x y topology frontiers joined) p q ∙ ap₂ (λ x y. parts (Some t) (Some a) x y joined) r s
+    ∙ ap (λ x. parts (Some t) (Some a) (Some b) (Some c) x) u ∙ ap (λ ls. Some ((codes "sccl" ∷ t) ∷ (a ++ (b ++ ls)))) (sym (append_assoc c e ((codes "end" ∷ []) ∷ [])))
 
 hop_within : (size chunks nodes : ℕ) → size ≡ nodes → (h : Hop) → is_hop_below chunks nodes h ≡ true → (h.from < size) × (h.to < size)
 hop_within size chunks nodes many h is =
@@ -179,7 +170,7 @@ sends_within : (names : List (List ℕ)) (chunks nodes : ℕ) (sends : List Hop)
 sends_within names chunks nodes sends many each = each_weaker _ _ (hop_within (length names) chunks nodes many) sends (recursion_from_All _ sends each)
 
 frontier_each : (names : List (List ℕ)) → AreNames names → (xs : List (Part × FrontierValue)) → AllByRecursion (λ x. x.0 ≢ part.Joined) xs → AllByRecursion (λ x. AllByRecursion (SendsBelow names) x.1.points) xs
-    → AllByRecursion (λ x. frontier_in (frontier_json names x) ≡ Some (frontier_lines names x)) xs
+    → AllByRecursion (λ x. (frontier names).read ((frontier names).json x) ≡ Some (frontier_lines names x)) xs
 frontier_each names named [] h k = tt
 frontier_each names named (x ∷ xs) h k = (frontier_found names named x.0 x.1 h.0 k.0, frontier_each names named xs h.1 k.1)
 
@@ -190,9 +181,9 @@ report_form r valid =
     let w = r.words in
     let k = w.collective.kind in
     let below = λ (q : QuestionValue) (same : length names ≡ q.topology.nodes) (p : PointValue) (has : HasSchedule q p). sends_within names (chunks_in q.spec q.topology.nodes p.candidate.c) q.topology.nodes p.schedule.sends same has.in_range in
-    let parts = mapped (λ p. p ≢ part.Joined) (λ x. x.0) r.frontiers (subst (AllByRecursion (λ p. p ≢ part.Joined)) (sym valid.parts) (parts_have k)) in
+    let each_part = mapped (λ p. p ≢ part.Joined) (λ x. x.0) r.frontiers (subst (AllByRecursion (λ p. p ≢ part.Joined)) (sym valid.parts) (parts_have k)) in
     let points = each_weaker _ _ (λ (x : Part × FrontierValue) (ok : IsFrontier (question_of w r.topology x.0) x.1). each_weaker _ _ (λ (p : PointValue) (h : IsPrintedPoint (question_of w r.topology x.0) p). below (question_of w r.topology x.0) valid.topology.as_many p h.has) x.1.points (recursion_from_All _ x.1.points ok.points)) r.frontiers (recursion_from_All _ r.frontiers valid.frontiers) in
     let joined = each_weaker _ _ (λ (p : PointValue) (h : IsJoinedPoint (question_of w r.topology part.Joined) p). below (question_of w r.topology part.Joined) valid.topology.as_many p h.has) r.joined (recursion_from_All _ r.joined valid.joined) in
-    in_parts _ (bytes_eq (word_of k) (codes "allreduce")) _ _ _ _ _ _ (λ j. joined_in j (points_json names r.joined)) _ _ _ (joins_found names w k refl) (title_of names r.topology.topology.nodes r.topology.topology.groups r.topology.custom)
-    (words_found names named w valid.words.root) (topology_form r.topology valid.topology)
-    (lines_made frontier_in (frontier_json names) (frontier_lines names) r.frontiers (frontier_each names named r.frontiers parts points)) (joined_found names named k r.joined joined valid.only_allreduce)
+    in_parts _ _ _ _ _ _ _ _ _ _ (title_of names r.topology.topology.nodes r.topology.topology.groups r.topology.custom) (words_found names named w valid.words.root) (topology_form r.topology valid.topology)
+    (each_some (frontier names) (frontier_lines names) r.frontiers (frontier_each names named r.frontiers each_part points))
+    (ap (λ o. joined_read names (unwrap_or (option_map (λ ts. bytes_eq (slice_index_or ts 0 []) (codes "allreduce")) o) false) ((each (point names)).json r.joined)) (joins_found names named w valid.words.root) ∙ joined_found names named k r.joined joined valid.only_allreduce)

@@ -1,4 +1,2 @@
 -- What no contract of a public call says: contracts and proofs inside this crate alone cite it.
-pub mod Tokens
 pub mod Members
-pub mod Pieces

@@ -1,12 +1,13 @@
 //! A report as JSON.
 
-ghost use Rattle.std.specs.Prelude.{◌≡◌, Ok, map, IfOk, OnOk};
+ghost use Rattle.std.specs.Prelude.{◌≡◌, [], ◌∷◌, Ok, codes, map, slice_index_or, IfOk, OnOk};
 ghost use Rattle.report_form.specs.Reports.{IsReport};
 ghost use Rattle.serde_json.specs.View.{view, members_view};
-ghost use Rattle.json_values.specs.Json.{printed, array_of, count_of, members_of};
-ghost use Rattle.json_rules.specs.ReportJson.{candidate_json, unknown_json, send_json, mark_word, point_members, point_json, points_json, part_word, frontier_json, words_json, report_json};
+ghost use Rattle.json_values.specs.Json.{printed, array_of, count_of, members_of, object_of};
+ghost use Rattle.report_form.specs.Spelling.{mark_words, part_words};
+ghost use Rattle.json_rules.specs.{ReportForm.{send as send_form, point as point_form, frontier as frontier_form, words as words_form}, ReportJson.report_json};
 ghost use Rattle.json_rules.specs.Answer.{report_of_json};
-ghost use Rattle.json_reports.specs.inner.Members.{plain_members, with_said};
+ghost use Rattle.json_reports.specs.{Candidates.{refuted as refuted_form, unknown as unknown_form}, inner.Members.{point_members, plain_members, with_said}};
 
 use candidate_order::{Candidate, Frontier, Mark, Point, Unknown};
 use collective_spec::takes_root;
@@ -19,13 +20,13 @@ use std::alloc::{AllocError, Global};
 use topology_text::Name;
 
 fn candidate_json(alloc: Global, x: Candidate) -> Result<Value, AllocError>
-    ensures { IfOk result (λ v. view v ≡ candidate_json x) }
+    ensures { IfOk result (λ v. view v ≡ refuted_form.json x) }
 {
     json!(in alloc; [x.s, x.r, x.c])
 }
 
 fn candidates_json(alloc: Global, list: &[Candidate]) -> Result<Value, AllocError>
-    ensures { IfOk result (λ v. view v ≡ array_of (map candidate_json list.now)) }
+    ensures { IfOk result (λ v. view v ≡ array_of (map refuted_form.json list.now)) }
 {
     let mut values = Vec::new(alloc);
     for x in list {
@@ -35,7 +36,7 @@ fn candidates_json(alloc: Global, list: &[Candidate]) -> Result<Value, AllocErro
 }
 
 fn unknown_json(alloc: Global, unknown: &Unknown) -> Result<Value, AllocError>
-    ensures { IfOk result (λ v. view v ≡ unknown_json unknown.now) }
+    ensures { IfOk result (λ v. view v ≡ unknown_form.json unknown.now) }
 {
     let x = unknown.candidate();
     let conflicts = unknown.conflicts();
@@ -43,7 +44,7 @@ fn unknown_json(alloc: Global, unknown: &Unknown) -> Result<Value, AllocError>
 }
 
 fn unknowns_json(alloc: Global, list: &[Unknown]) -> Result<Value, AllocError>
-    ensures { IfOk result (λ v. view v ≡ array_of (map unknown_json list.now)) }
+    ensures { IfOk result (λ v. view v ≡ array_of (map unknown_form.json list.now)) }
 {
     let mut values = Vec::new(alloc);
     for unknown in list {
@@ -53,7 +54,7 @@ fn unknowns_json(alloc: Global, list: &[Unknown]) -> Result<Value, AllocError>
 }
 
 fn send_json(alloc: Global, names: &[Name], hop: Hop) -> Result<Value, AllocError>
-    ensures { IfOk result (λ v. view v ≡ send_json names.now hop) }
+    ensures { IfOk result (λ v. view v ≡ (send_form names.now).json hop) }
 {
     let from = node_text(names, hop.from);
     let to = node_text(names, hop.to);
@@ -61,7 +62,7 @@ fn send_json(alloc: Global, names: &[Name], hop: Hop) -> Result<Value, AllocErro
 }
 
 fn sends_json(alloc: Global, names: &[Name], sends: &[Hop]) -> Result<Value, AllocError>
-    ensures { IfOk result (λ v. view v ≡ array_of (map (send_json names.now) sends.now)) }
+    ensures { IfOk result (λ v. view v ≡ array_of (map (send_form names.now).json sends.now)) }
 {
     let mut values = Vec::new(alloc);
     for hop in sends {
@@ -81,7 +82,7 @@ fn rounds_json(alloc: Global, rounds: &[u8]) -> Result<Value, AllocError>
 }
 
 fn mark_text(mark: Mark) -> &'static str
-    ensures { result.now ≡ mark_word mark }
+    ensures { result.now ≡ slice_index_or (mark_words mark) 0 [] }
 {
     match mark {
         Mark::Optimal => "optimal",
@@ -117,7 +118,7 @@ fn point_members(
 }
 
 fn point_json(alloc: Global, names: &[Name], point: &Point) -> Result<Value, AllocError>
-    ensures { IfOk result (λ v. view v ≡ point_json names.now point.now) }
+    ensures { IfOk result (λ v. view v ≡ (point_form names.now).json point.now) }
 {
     let mut members = point_members(alloc, names, point)?;
     if let Mark::Joined { adding } = point.mark() {
@@ -127,7 +128,7 @@ fn point_json(alloc: Global, names: &[Name], point: &Point) -> Result<Value, All
 }
 
 fn points_json(alloc: Global, names: &[Name], points: &[Point]) -> Result<Value, AllocError>
-    ensures { IfOk result (λ v. view v ≡ points_json names.now points.now) }
+    ensures { IfOk result (λ v. view v ≡ array_of (map (point_form names.now).json points.now)) }
 {
     let mut values = Vec::new(alloc);
     for point in points {
@@ -137,7 +138,7 @@ fn points_json(alloc: Global, names: &[Name], points: &[Point]) -> Result<Value,
 }
 
 fn part_text(part: Part) -> &'static str
-    ensures { result.now ≡ part_word part }
+    ensures { result.now ≡ slice_index_or (part_words part) 1 (codes "joined") }
 {
     match part {
         Part::Whole => "whole",
@@ -153,7 +154,7 @@ fn frontier_json(
     part: Part,
     frontier: &Frontier,
 ) -> Result<Value, AllocError>
-    ensures { IfOk result (λ v. view v ≡ frontier_json names.now (part, frontier.now)) }
+    ensures { IfOk result (λ v. view v ≡ (frontier_form names.now).json (part, frontier.now)) }
 {
     let part = part_text(part);
     let points = points_json(alloc, names, frontier.points())?;
@@ -167,7 +168,7 @@ fn frontiers_json(
     names: &[Name],
     frontiers: &[(Part, Frontier)],
 ) -> Result<Value, AllocError>
-    ensures { IfOk result (λ v. view v ≡ array_of (map (frontier_json names.now) frontiers.now)) }
+    ensures { IfOk result (λ v. view v ≡ array_of (map (frontier_form names.now).json frontiers.now)) }
 {
     let mut values = Vec::new(alloc);
     for (part, frontier) in frontiers {
@@ -228,13 +229,25 @@ fn put_said(
 }
 
 fn words_json(alloc: Global, names: &[Name], words: Words) -> Result<Value, AllocError>
-    ensures { IfOk result (λ v. view v ≡ words_json names.now words) }
+    ensures { IfOk result (λ v. view v ≡ (words_form names.now).json words) }
 {
     let pruning = words.limits().pruning();
     let mut members = plain_members(alloc, names, words)?;
     put_said(&mut members, alloc, "cuts", pruning.cuts)?;
     put_said(&mut members, alloc, "ordered", pruning.ordered)?;
     Ok(Value::Object(members))
+}
+
+fn whole_value(
+    alloc: Global,
+    frontiers: Value,
+    joined: Value,
+    topology: Value,
+    words: Value,
+) -> Result<Value, AllocError>
+    ensures { IfOk result (λ v. view v ≡ object_of ((codes "frontiers", view frontiers) ∷ (codes "joined", view joined) ∷ (codes "topology", view topology) ∷ (codes "words", view words) ∷ [])) }
+{
+    json!(in alloc; {"frontiers": frontiers, "joined": joined, "topology": topology, "words": words})
 }
 
 /// The report as a value of JSON.
@@ -247,7 +260,7 @@ fn report_value(alloc: Global, report: &Report) -> Result<Value, AllocError>
     let joined = points_json(alloc, names, report.joined())?;
     let topology = topology_value(alloc, report.topology())?;
     let words = words_json(alloc, names, report.words())?;
-    json!(in alloc; {"frontiers": frontiers, "joined": joined, "topology": topology, "words": words})
+    whole_value(alloc, frontiers, joined, topology, words)
 }
 
 /// The report as JSON without spaces, the keys of each object ascending, with a line feed behind.

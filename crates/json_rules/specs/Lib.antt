@@ -1,3 +1,4 @@
+pub mod ReportForm
 pub mod ReportJson
 pub mod ProgramsJson
 pub mod Answer

@@ -7,7 +7,7 @@ use Rattle.collective_spec.specs.Patterns.{PatternValue}
 use Rattle.topology_text.{specs.{Value.{NamedTopologyValue, IsNamed}, Spelling.{name_at, lines_of, spelling}, Reading.topology_of}, proofs.Laws.all_again}
 use Rattle.serde_json.specs.{Data.{Data, string, depth, items_depth}, Read.read, View.items_of, Written.{has_float, items_have_float}}
 use Rattle.json_values.specs.{declared.fault.JsonCode.TheVariants.{NotJson, BadShape}, Json.array_of, Answer.{text_of_json, of_json, of_text, topology_of_json}}
-use Rattle.json_values.specs.TopologyJson.{link_json, group_json, holders_json, placement_json, custom_json, topology_json, topology_text_in}
+use Rattle.json_values.specs.{Forms.{Form, each, name, via}, TopologyForm.{link, group, custom}, TopologyJson.{topology_json, topology_text_in}}
 use Rattle.json_values.proofs.{Blank.same_value, Values.value_is, TopologyForm.topology_form}
 
 -- ---- what holds of each item holds of the list
@@ -21,35 +21,35 @@ flat_items n make [] h = omega arith
 flat_items n make (x ∷ xs) h = omega (arith, h x, flat_items n make xs h)
 
 module _ (names : List (List ℕ)) where
-  group_whole : (group : GroupValue) → has_float (group_json names group) ≡ false
-  group_whole group = ap (λ b. b || false) (whole_items (link_json names) group.links (λ link. refl))
+  group_whole : (g : GroupValue) → has_float ((group names).json g) ≡ false
+  group_whole group = ap (λ b. b || false) (whole_items ((link names).json) group.links (λ link. refl))
 
-  group_flat : (group : GroupValue) → depth (group_json names group) ≤ 3
-  group_flat group = let links = flat_items 1 (link_json names) group.links (λ link. omega arith) in omega arith
+  group_flat : (g : GroupValue) → depth ((group names).json g) ≤ 3
+  group_flat group = let links = flat_items 1 ((link names).json) group.links (λ link. omega arith) in omega arith
 
-  holders_whole : (p : PlacementValue) (g : ℕ) → has_float (holders_json names p g) ≡ false
-  holders_whole p g = whole_items (λ node. string (name_at names node)) (filter (λ node. holds p (g, node)) (range_with_len 0 p.nodes)) (λ node. refl)
+  -- who holds each of some chunks
+  held_whole : (chunks : List (List ℕ)) → has_float ((each (each (via (name_at names) name))).json chunks) ≡ false
+  held_whole chunks = whole_items (each (via (name_at names) name)).json chunks (λ nodes. whole_items (via (name_at names) name).json nodes (λ node. refl))
 
-  holders_flat : (p : PlacementValue) (g : ℕ) → depth (holders_json names p g) ≤ 1
-  holders_flat p g = let held = flat_items 0 (λ node. string (name_at names node)) (filter (λ node. holds p (g, node)) (range_with_len 0 p.nodes)) (λ node. omega arith) in omega arith
+  held_flat : (chunks : List (List ℕ)) → depth ((each (each (via (name_at names) name))).json chunks) ≤ 2
+  held_flat chunks =
+      let held = flat_items 1 (each (via (name_at names) name)).json chunks (λ nodes. let each_node = flat_items 0 (via (name_at names) name).json nodes (λ node. omega arith) in omega arith) in
+      omega arith
 
-  placement_whole : (base : ℕ) (p : PlacementValue) → has_float (placement_json names base p) ≡ false
-  placement_whole base p = whole_items (holders_json names p) (range_with_len 0 base) (holders_whole p)
+  abbrev holders : PatternValue → PlacementValue → List (List ℕ)
+  holders p held = map (λ g. filter (λ node. holds held (g, node)) (range_with_len 0 held.nodes)) (range_with_len 0 p.base)
 
-  placement_flat : (base : ℕ) (p : PlacementValue) → depth (placement_json names base p) ≤ 2
-  placement_flat base p = let held = flat_items 1 (holders_json names p) (range_with_len 0 base) (holders_flat p) in omega arith
+  custom_whole : (p : PatternValue) → has_float ((custom names).json p) ≡ false
+  custom_whole p = ap₂ (λ a b. a || (b || false)) (held_whole (holders p p.after)) (held_whole (holders p p.before))
 
-  custom_whole : (p : PatternValue) → has_float (custom_json names p) ≡ false
-  custom_whole p = ap₂ (λ a b. a || (b || false)) (placement_whole p.base p.after) (placement_whole p.base p.before)
+  custom_flat : (p : PatternValue) → depth ((custom names).json p) ≤ 3
+  custom_flat p = omega (arith, held_flat (holders p p.after), held_flat (holders p p.before))
 
-  custom_flat : (p : PatternValue) → depth (custom_json names p) ≤ 3
-  custom_flat p = omega (arith, placement_flat p.base p.after, placement_flat p.base p.before)
+  pub groups_whole : (groups : List GroupValue) → has_float (array_of (map ((group names).json) groups)) ≡ false
+  groups_whole groups = whole_items ((group names).json) groups group_whole
 
-  pub groups_whole : (groups : List GroupValue) → has_float (array_of (map (group_json names) groups)) ≡ false
-  groups_whole groups = whole_items (group_json names) groups group_whole
-
-  pub groups_flat : (groups : List GroupValue) → depth (array_of (map (group_json names) groups)) ≤ 4
-  groups_flat groups = let each = flat_items 3 (group_json names) groups group_flat in omega arith
+  pub groups_flat : (groups : List GroupValue) → depth (array_of (map ((group names).json) groups)) ≤ 4
+  groups_flat groups = let each = flat_items 3 ((group names).json) groups group_flat in omega arith
 
   pub names_whole : has_float (array_of (map string names)) ≡ false
   names_whole = whole_items string names (λ name. refl)

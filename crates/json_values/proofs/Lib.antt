@@ -1,12 +1,8 @@
+pub mod Appended
 pub mod Blank
 pub mod Size
 pub mod TopologyForm
-pub mod Pieces
-pub mod Lines
 pub mod Values
-pub mod Groups
-pub mod Chunks
-pub mod Parts
 pub mod Standing
 pub mod Short
 pub mod TopologyShort

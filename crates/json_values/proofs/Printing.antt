@@ -1,9 +1,12 @@
 -- Values of JSON that are built, and what a name is as a text.
-use Rattle.std.proofs.Common.{◌≡◌, ◌⊎◌, inl, inr, ℕ, zero, suc, ◌+◌, ◌<◌, ◌&&◌, ◌||◌, ◌==◌, Bool, true, cond, List, [], ◌∷◌, ◌++◌, map, refl, ap, ◌∙◌, arith, IsUtf8, nat_le, Result, Ok, Err}
+use Rattle.std.proofs.Common.{◌≡◌, ◌⊎◌, inl, inr, ℕ, zero, suc, ◌+◌, ◌<◌, ◌&&◌, ◌||◌, ◌==◌, Bool, true, cond, List, [], ◌∷◌, ◌++◌, map, Option, refl, ap, ◌∙◌, arith, IsUtf8, nat_le, Result, Ok, Err}
 use Rattle.std.{specs.{List.{list_all, filter, range_with_len}, Str.IsAscii}, proofs.lemmas.{Bool.{and_parts, or_cases, leb-true, eqb-true}, List.map-append}}
 use Rattle.std.{proofs.lemmas.{List.FromFn.map-range_with_len_more, Str.IsUtf8-from_ascii}, specs.Result.{IsOk, MatchResult}}
 use Rattle.topology_text.{specs.Names.{is_name_byte, is_name}, proofs.Printed.passing_more}
+use Rattle.collective_spec.specs.Patterns.{PatternValue}
+use Rattle.topology_text.specs.Value.{NamedTopologyValue}
 use Rattle.serde_json.specs.{Data.Data, View.view, declared.value.Value.Value}
+use Rattle.json_values.specs.{TopologyForm.topology, TopologyJson.topology_json}
 
 -- ---- names
 
@@ -41,5 +44,9 @@ pushed old new v ds d a b c = ap (map view) a ∙ map-append view old (v ∷ [])
 pub passed_more : (f : ℕ → Data) (p : ℕ → Bool) (n : ℕ) → p n ≡ true → map f (filter p (range_with_len 0 (n + 1))) ≡ map f (filter p (range_with_len 0 n)) ++ f n ∷ []
 passed_more f p n h = ap (map f) (passing_more p n ∙ ap (λ b. filter p (range_with_len 0 n) ++ cond b (n ∷ []) []) h) ∙ map-append f (filter p (range_with_len 0 n)) (n ∷ [])
 
-pub numbered_more : (f : ℕ → Data) (n : ℕ) → map f (range_with_len 0 (n + 1)) ≡ map f (range_with_len 0 n) ++ f n ∷ []
+pub numbered_more : {A : Type 0} (f : ℕ → A) (n : ℕ) → map f (range_with_len 0 (n + 1)) ≡ map f (range_with_len 0 n) ++ f n ∷ []
 numbered_more f n = map-range_with_len_more f 0 n n (omega arith)
+
+-- what is built where there is a pattern, and where there is none
+pub value_with : (t : NamedTopologyValue) (p : Option PatternValue) → p ≡ t.custom → (topology t.names).json (record t { custom = p }) ≡ topology_json t
+value_with t p h = ap (λ c. (topology t.names).json (record t { custom = c })) h

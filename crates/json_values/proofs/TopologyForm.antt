@@ -1,5 +1,5 @@
 -- The JSON of a topology has the form, and stands for the topology's text.
-use Rattle.std.proofs.Common.{◌≡◌, ℕ, zero, suc, ◌+◌, ◌<◌, ◌≤◌, Bool, true, false, cond, List, [], ◌∷◌, ◌++◌, map, length, Option, Some, None, option_map, refl, sym, ap, ap₂, ◌∙◌, subst, arith, codes, decimal, if◌then◌else◌, IfSome}
+use Rattle.std.proofs.Common.{◌≡◌, ℕ, zero, suc, ◌+◌, ◌<◌, ◌≤◌, Bool, true, false, cond, List, [], ◌∷◌, ◌++◌, map, length, Option, Some, None, refl, sym, ap, ap₂, ◌∙◌, subst, arith, codes, decimal, if◌then◌else◌, IfSome, option_map}
 use Rattle.std.{specs.List.{All, AllByRecursion, filter, flat_map, join_with_byte, range_with_len}, proofs.lemmas.List.map-id}
 use Rattle.std.proofs.lemmas.List.Elements.{recursion_from_All, All-get_or}
 use Rattle.schedule.{specs.{Links.{GroupValue, IsBelow}, Placed.{PlacementValue, holds}}, proofs.First.each_weaker}
@@ -7,38 +7,40 @@ use Rattle.collective_spec.specs.Patterns.{PatternValue, IsPattern}
 use Rattle.topology_text.specs.{Names.{is_name, AreNames}, Value.{NamedTopologyValue, IsNamed}}
 use Rattle.topology_text.specs.Spelling.{name_at, link_word, header_words, nodes_words, group_words, holder_words, custom_lines, lines_of, head_words}
 use Rattle.serde_json.specs.{Data.{Data, string, Items}, Events.items_len, View.items_of}
-use Rattle.json_values.specs.{Json.array_of, Shape.{◌>>=◌, ◌⊕◌, one, headed, each_in, list_in, name_in}}
-use Rattle.json_values.specs.TopologyJson.{link_json, group_json, holders_json, custom_json, topology_json, link_in, group_in, chunk_lines, custom_in, topology_in}
+use Rattle.json_values.specs.{Shape.{◌⊕◌, one, headed}, Forms.{Form, each, name, via}}
+use Rattle.json_values.specs.{TopologyForm.{link, group, custom, chunks_read}, TopologyJson.{topology_json, topology_in}}
 
--- where each item that is made has the shape, so has the list
-pub each_made : {X A : Type 0} (shape : Data → Option A) (make : X → Data) (shown : X → A) (xs : List X) → AllByRecursion (λ x. shape (make x) ≡ Some (shown x)) xs → each_in shape (items_of (map make xs)) ≡ Some (map shown xs)
-each_made shape make shown [] h = refl
-each_made shape make shown (x ∷ xs) h =
-    ap (λ o. o >>= λ y. each_in shape (items_of (map make xs)) >>= λ ys. Some (y ∷ ys)) h.0
-    ∙ ap (λ o. o >>= λ ys. Some (shown x ∷ ys)) (each_made shape make shown xs h.1)
+-- where the JSON of each stands for one token or line, that of the list stands for them all
+pub each_one : {X A : Type 0} (form : Form A X) (shown : X → A) (xs : List X) → AllByRecursion (λ x. form.read (form.json x) ≡ Some (shown x ∷ [])) xs → (each form).read ((each form).json xs) ≡ Some (map shown xs)
+each_one form shown [] h = refl
+each_one form shown (x ∷ xs) h = ap₂ (λ a b. a ⊕ b) h.0 (each_one form shown xs h.1)
 
-pub name_found : (name : List ℕ) → is_name name ≡ true → name_in (string name) ≡ Some name
-name_found name h = ap (λ b. if b then Some name else None) h
+-- the same of some
+pub each_some : {X A : Type 0} (form : Form A X) (shown : X → List A) (xs : List X) → AllByRecursion (λ x. form.read (form.json x) ≡ Some (shown x)) xs → (each form).read ((each form).json xs) ≡ Some (flat_map shown xs)
+each_some form shown [] h = refl
+each_some form shown (x ∷ xs) h = ap₂ (λ a b. a ⊕ b) h.0 (each_some form shown xs h.1)
+
+name_found : (text : List ℕ) → is_name text ≡ true → name.read (string text) ≡ Some (text ∷ [])
+name_found text h = ap (λ b. one (if b then Some text else None)) h
 
 -- ---- links and groups
 
 module _ (names : List (List ℕ)) (named : AreNames names) where
-  pub name_there : (node : ℕ) → node < length names → name_in (string (name_at names node)) ≡ Some (name_at names node)
+  pub name_there : (node : ℕ) → node < length names → name.read (string (name_at names node)) ≡ Some (name_at names node ∷ [])
   name_there node below = name_found (name_at names node) (All-get_or (λ n. is_name n ≡ true) names node [] below named.each)
 
-  link_found : (link : ℕ × ℕ) → IsBelow (length names) link → link_in (link_json names link) ≡ Some (link_word names link)
-  link_found link below =
-      ap₂ (λ from to. option_map (join_with_byte 62) (one from ⊕ one to ⊕ Some [])) (name_there link.0 below.from) (name_there link.1 below.to)
+  link_found : (l : ℕ × ℕ) → IsBelow (length names) l → (link names).read ((link names).json l) ≡ Some (link_word names l ∷ [])
+  link_found l below = ap₂ (λ from to. one (option_map (join_with_byte 62) (from ⊕ to ⊕ Some []))) (name_there l.0 below.from) (name_there l.1 below.to)
 
-  group_found : (group : GroupValue) → All (IsBelow (length names)) group.links → group_in (group_json names group) ≡ Some (group_words names group)
-  group_found group below =
-      let each = each_weaker (IsBelow (length names)) _ link_found group.links (recursion_from_All (IsBelow (length names)) group.links below) in
-      ap (λ links. headed (codes "group") (one (Some (decimal group.width)) ⊕ links)) (each_made link_in (link_json names) (link_word names) group.links each)
+  group_found : (g : GroupValue) → All (IsBelow (length names)) g.links → (group names).read ((group names).json g) ≡ Some (group_words names g ∷ [])
+  group_found g below =
+      let links = each_weaker (IsBelow (length names)) _ link_found g.links (recursion_from_All (IsBelow (length names)) g.links below) in
+      ap (λ words. one (headed (codes "group") (Some (decimal g.width ∷ []) ⊕ words))) (each_one (link names) (link_word names) g.links links)
 
   -- ---- the pattern
 
   abbrev Found : ℕ → Type 0
-  Found node = name_in (string (name_at names node)) ≡ Some (name_at names node)
+  Found node = name.read (string (name_at names node)) ≡ Some (name_at names node ∷ [])
 
   one_or : (b : Bool) (node : ℕ) (rest : List ℕ) → Found node → AllByRecursion Found rest → AllByRecursion Found (cond b (node ∷ rest) rest)
   one_or true node rest h k = (h, k)
@@ -48,68 +50,54 @@ module _ (names : List (List ℕ)) (named : AreNames names) where
   passing_below test a zero h = tt
   passing_below test a (suc n) h = one_or (test a) a (filter test (range_with_len (a + 1) n)) (name_there a (omega arith)) (passing_below test (a + 1) n (omega arith))
 
-  abbrev held : PlacementValue → ℕ → List (List ℕ)
-  held p g = map (name_at names) (filter (λ node. holds p (g, node)) (range_with_len 0 p.nodes))
+  abbrev held : PlacementValue → ℕ → List ℕ
+  held p g = filter (λ node. holds p (g, node)) (range_with_len 0 p.nodes)
 
-  holders_found : (p : PlacementValue) → p.nodes ≤ length names → (g : ℕ) → list_in name_in (holders_json names p g) ≡ Some (held p g)
-  holders_found p fits g =
-      let nodes = filter (λ node. holds p (g, node)) (range_with_len 0 p.nodes) in
-      each_made name_in (λ node. string (name_at names node)) (name_at names) nodes (passing_below (λ node. holds p (g, node)) 0 p.nodes (omega arith))
+  holders_found : (p : PlacementValue) → p.nodes ≤ length names → (g : ℕ) → (each name).read ((each (via (name_at names) name)).json (held p g)) ≡ Some (map (name_at names) (held p g))
+  holders_found p fits g = each_one (via (name_at names) name) (name_at names) (held p g) (passing_below (λ node. holds p (g, node)) 0 p.nodes (omega arith))
 
   abbrev lines_of_chunk : PatternValue → ℕ → List (List (List ℕ))
   lines_of_chunk p g = holder_words names (codes "before") p.before g ∷ holder_words names (codes "after") p.after g ∷ []
 
   -- who holds the chunks from g on
   abbrev listed : PlacementValue → ℕ → ℕ → Items
-  listed p g n = items_of (map (holders_json names p) (range_with_len g n))
+  listed p g n = items_of (map (each (via (name_at names) name)).json (map (held p) (range_with_len g n)))
 
   abbrev holding : ℕ → Option (List (List ℕ)) → Option (List (List ℕ)) → Option (List (List (List ℕ))) → Option (List (List (List ℕ)))
   holding g before after rest = one (headed (codes "before") (headed (decimal g) before)) ⊕ one (headed (codes "after") (headed (decimal g) after)) ⊕ rest
 
-  chunks_found : (p : PatternValue) → p.before.nodes ≤ length names → p.after.nodes ≤ length names → (g n : ℕ) → chunk_lines g (listed p.before g n) (listed p.after g n) ≡ Some (flat_map (lines_of_chunk p) (range_with_len g n))
+  chunks_found : (p : PatternValue) → p.before.nodes ≤ length names → p.after.nodes ≤ length names → (g n : ℕ) → chunks_read g (listed p.before g n) (listed p.after g n) ≡ Some (flat_map (lines_of_chunk p) (range_with_len g n))
   chunks_found p before_fits after_fits g zero = refl
   chunks_found p before_fits after_fits g (suc n) =
-      let rest = chunk_lines (g + 1) (listed p.before (g + 1) n) (listed p.after (g + 1) n) in
+      let rest = chunks_read (g + 1) (listed p.before (g + 1) n) (listed p.after (g + 1) n) in
       ap₂ (λ x y. holding g x y rest) (holders_found p.before before_fits g) (holders_found p.after after_fits g)
-      ∙ ap (holding g (Some (held p.before g)) (Some (held p.after g))) (chunks_found p before_fits after_fits (g + 1) n)
+      ∙ ap (holding g (Some (map (name_at names) (held p.before g))) (Some (map (name_at names) (held p.after g)))) (chunks_found p before_fits after_fits (g + 1) n)
 
   counted : (p : PlacementValue) (g n : ℕ) → items_len (listed p g n) ≡ n
   counted p g zero = refl
   counted p g (suc n) = ap suc (counted p (g + 1) n)
 
-  custom_found : (p : PatternValue) → p.before.nodes ≤ length names → p.after.nodes ≤ length names → custom_in (custom_json names p) ≡ Some (custom_lines names (Some p))
+  custom_found : (p : PatternValue) → p.before.nodes ≤ length names → p.after.nodes ≤ length names → (custom names).read ((custom names).json p) ≡ Some (custom_lines names (Some p))
   custom_found p before_fits after_fits =
       ap (headed (codes "custom" ∷ decimal (items_len (listed p.before 0 p.base)) ∷ [])) (chunks_found p before_fits after_fits 0 p.base)
       ∙ ap (λ n. Some ((codes "custom" ∷ decimal n ∷ []) ∷ flat_map (lines_of_chunk p) (range_with_len 0 p.base))) (counted p.before 0 p.base)
 
   -- ---- the whole
 
-  groups_found : (groups : List GroupValue) → All (λ group. All (IsBelow (length names)) group.links) groups → list_in group_in (array_of (map (group_json names) groups)) ≡ Some (map (group_words names) groups)
-  groups_found groups below = each_made group_in (group_json names) (group_words names) groups (each_weaker _ _ group_found groups (recursion_from_All _ groups below))
+  groups_found : (groups : List GroupValue) → All (λ g. All (IsBelow (length names)) g.links) groups → (each (group names)).read ((each (group names)).json groups) ≡ Some (map (group_words names) groups)
+  groups_found groups below = each_one (group names) (group_words names) groups (each_weaker _ _ group_found groups (recursion_from_All _ groups below))
 
-  names_found : (list : List (List ℕ)) → All (λ n. is_name n ≡ true) list → list_in name_in (array_of (map string list)) ≡ Some (map (λ n. n) list)
-  names_found list each = each_made name_in string (λ n. n) list (each_weaker _ _ name_found list (recursion_from_All _ list each))
+  names_found : (each name).read ((each name).json names) ≡ Some names
+  names_found = each_one name (λ n. n) names (each_weaker _ _ name_found names (recursion_from_All _ names named.each)) ∙ ap Some (map-id names)
 
-abbrev parts : Bool → Option (List (List ℕ)) → Option (List (List (List ℕ))) → Option (List (List (List ℕ))) → Option (List (List (List ℕ)))
-parts patterned names groups custom = headed (head_words patterned) (one (headed (codes "nodes") names) ⊕ groups ⊕ custom)
-
-found_parts : (patterned : Bool) (names : List (List ℕ)) (groups custom : List (List (List ℕ))) (n : Option (List (List ℕ))) (g c : Option (List (List (List ℕ)))) → n ≡ Some names → g ≡ Some groups → c ≡ Some custom
-    → parts patterned n g c ≡ Some (head_words patterned ∷ (codes "nodes" ∷ names) ∷ groups ++ custom)
-found_parts patterned names groups custom n g c a b d = ap (λ o. parts patterned o g c) a ∙ ap (λ o. parts patterned (Some names) o c) b ∙ ap (λ o. parts patterned (Some names) (Some groups) o) d
-
-with_custom : (names : List (List ℕ)) (nodes : ℕ) (groups : List GroupValue) (custom : Option PatternValue) → AreNames names → All (λ group. All (IsBelow (length names)) group.links) groups → IfSome custom (λ p. (p.before.nodes ≤ length names) × (p.after.nodes ≤ length names))
-    → topology_in (topology_json (record { names = names; topology = record { nodes = nodes; groups = groups }; custom = custom })) ≡ Some (header_words custom ∷ nodes_words names ∷ map (group_words names) groups ++ custom_lines names custom)
-with_custom names nodes groups None named below fits =
-    found_parts false names (map (group_words names) groups) [] _ _ _ (names_found names named names named.each ∙ ap Some (map-id names)) (groups_found names named groups below) refl
-with_custom names nodes groups (Some p) named below fits =
-    found_parts true names (map (group_words names) groups) (custom_lines names (Some p)) _ _ _ (names_found names named names named.each ∙ ap Some (map-id names)) (groups_found names named groups below)
-    (custom_found names named p fits.0 fits.1)
-
-fits_names : (nodes : ℕ) (names : List (List ℕ)) (custom : Option PatternValue) → length names ≡ nodes → IfSome custom (IsPattern nodes) → IfSome custom (λ p. (p.before.nodes ≤ length names) × (p.after.nodes ≤ length names))
-fits_names nodes names None many h = tt
-fits_names nodes names (Some p) many h = (omega (arith, h.before_nodes), omega (arith, h.after_nodes))
+  with_custom : (nodes : ℕ) (groups : List GroupValue) (p : Option PatternValue) → All (λ g. All (IsBelow (length names)) g.links) groups → IfSome p (IsPattern nodes) → length names ≡ nodes
+      → topology_in (topology_json (record { names = names; topology = record { nodes = nodes; groups = groups }; custom = p })) ≡ Some (header_words p ∷ nodes_words names ∷ map (group_words names) groups ++ custom_lines names p)
+  with_custom nodes groups None below fits many = ap₂ (λ n g. Some (head_words false ∷ []) ⊕ one (headed (codes "nodes") n) ⊕ g ⊕ Some []) names_found (groups_found groups below)
+  with_custom nodes groups (Some p) below fits many =
+      ap₂ (λ n g. Some (head_words true ∷ []) ⊕ one (headed (codes "nodes") n) ⊕ g ⊕ (custom names).read ((custom names).json p)) names_found (groups_found groups below)
+      ∙ ap (λ c. Some (head_words true ∷ []) ⊕ Some (nodes_words names ∷ []) ⊕ Some (map (group_words names) groups) ⊕ c) (custom_found p (omega (arith, fits.before_nodes)) (omega (arith, fits.after_nodes)))
 
 pub topology_form : (t : NamedTopologyValue) → IsNamed t → topology_in (topology_json t) ≡ Some (lines_of t)
 topology_form t named =
-    let below = subst (λ n. All (λ group. All (IsBelow n) group.links) t.topology.groups) (sym named.as_many) named.topology.nodes in
-    with_custom t.names t.topology.nodes t.topology.groups t.custom named.names below (fits_names t.topology.nodes t.names t.custom named.as_many named.custom)
+    let below = subst (λ n. All (λ g. All (IsBelow n) g.links) t.topology.groups) (sym named.as_many) named.topology.nodes in
+    with_custom t.names named.names t.topology.nodes t.topology.groups t.custom below named.custom named.as_many

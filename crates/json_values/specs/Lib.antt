@@ -1,8 +1,12 @@
 pub mod Json
 pub mod Size
 pub mod Shape
+pub mod Forms
+pub mod TopologyForm
 pub mod TopologyJson
 pub mod Answer
+pub mod Pieces
+pub mod Reading
 pub mod Appends
 pub mod Rows
 pub mod inner

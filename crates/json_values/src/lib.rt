@@ -4,9 +4,10 @@
 mod fault;
 mod laws;
 mod names;
-mod piece;
 mod reading;
 mod shape;
+mod token;
+mod tokens;
 mod topology_printing;
 mod topology_reading;
 mod vectors;
@@ -17,10 +18,13 @@ pub use laws::{
     value_is_no_larger_than_its_bytes,
 };
 pub use names::{name_text, node_text};
-pub use piece::{Piece, push_list};
 pub use reading::text_in;
-pub use shape::{count_in, has_keys, items_in, name_in};
+pub use shape::{count_in, has_due_keys, items_in, name_in, says};
 pub use std::alloc::AllocError as OutOfMemory;
+pub use token::{Keyed, Row, Token};
+pub use tokens::{
+    At, Behind, Each, Either, Empty, Fields, Headed, Lined, Lines, May, Nothing, Tokens,
+};
 pub use topology_printing::{topology_json, topology_value};
-pub use topology_reading::{TopologyLines, topology_from_json, version_in};
+pub use topology_reading::{TopologyLines, Version, topology_from_json};
 pub use vectors::{topologies_printed, topologies_read, topologies_refused};

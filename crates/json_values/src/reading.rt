@@ -1,11 +1,12 @@
 //! The value that bytes are, and the text that it stands for.
 
-ghost use Rattle.std.specs.Prelude.{◌≡◌, ◌⊎◌, None, Some, IfOk, IfErr};
+ghost use Rattle.std.specs.Prelude.{◌≡◌, ◌⊎◌, None, Some, IfOk, IfErr, option_map};
+ghost use Rattle.text_lines.specs.Text.{text_of};
 ghost use Rattle.serde_json.specs.View.{view};
 ghost use Rattle.json_values.specs.{Json.value_of, Answer.{text_of_json, GivesText}, declared.fault.JsonCode.JsonCode};
 
 use crate::fault::JsonCode;
-use crate::piece::Piece;
+use crate::tokens::Lines;
 use serde_json::Value;
 use std::alloc::Global;
 use text_lines::Stop;
@@ -26,13 +27,13 @@ fn value_of(alloc: Global, bytes: &[u8]) -> Result<Value, JsonCode>
 }
 
 /// The text that the JSON stands for. `NotJson` comes exactly where the bytes are no JSON, and
-/// `BadShape` exactly where their value does not have the shape of such a piece.
-pub fn text_in<P: Piece>(alloc: Global, bytes: &[u8]) -> Result<Vec<u8>, JsonCode>
-    ensures { GivesText result (text_of_json P.text bytes.now) }
+/// `BadShape` exactly where their value does not have the form.
+pub fn text_in<P: Lines>(alloc: Global, form: &P, bytes: &[u8]) -> Result<Vec<u8>, JsonCode>
+    ensures { GivesText result (text_of_json (λ d. option_map text_of (P.lines form.now d)) bytes.now) }
 {
     let value = value_of(alloc, bytes)?;
     let mut text = Vec::new(alloc);
-    match P::push(&mut text, &value) {
+    match form.push_lines(&mut text, &value) {
         Ok(()) => Ok(text),
         Err(Stop::Memory) => Err(JsonCode::OutOfMemory),
         Err(Stop::Refused(())) => Err(JsonCode::BadShape),

@@ -1,8 +1,8 @@
 //! What values of JSON have in them, where they have a shape.
 
-ghost use Rattle.std.specs.Prelude.{◌≡◌, option_map, map};
-ghost use Rattle.serde_json.specs.{Find.as_array, View.{view, items_view, members_view}};
-ghost use Rattle.json_values.specs.Shape.{count_in, name_in, are_keys, has_keys};
+ghost use Rattle.std.specs.Prelude.{◌≡◌, ◌≤◌, false, drop, length, option_map, unwrap_or, IfSome};
+ghost use Rattle.serde_json.specs.{Data.{Data, Members, no_members, member}, Find.as_array, View.{view, items_view, members_view}};
+ghost use Rattle.json_values.specs.{Shape.{count_in, name_in}, Forms.same_keys, Pieces.{due_keys, has_due_keys, says}};
 
 use serde_json::{Map, Value};
 use topology_text::Name;
@@ -37,29 +37,64 @@ pub fn items_in(value: &Value) -> Option<&[Value]>
     }
 }
 
-fn are_keys(keys: &[&str], members: &Map<String, Value>) -> bool
-    ensures { result ≡ are_keys (map (λ k. k.now) keys.now) (members_view members.now.entries) }
+/// Whether the text at the key is this word.
+pub fn says(value: &Value, key: &str, word: &str) -> bool
+    ensures { result ≡ says key.now word.now (view value.now) }
 {
-    let mut left = keys;
-    for (key, _) in members.iter() {
-        let [first, rest @ ..] = left else {
-            return false;
-        };
-        if *first != key.as_str() {
-            return false;
-        }
-        left = rest;
+    match value.get(key) {
+        Some(member) => member.as_str() == Some(word),
+        None => false,
     }
-    left.is_empty()
 }
 
-/// Whether the value is an object with exactly these keys, which are to be given in ascending
-/// order. In which order they stood in the bytes counts for nothing.
-pub fn has_keys(value: &Value, keys: &[&str]) -> bool
-    ensures { result ≡ has_keys (map (λ k. k.now) keys.now) (view value.now) }
+/// The place behind this key, where it is the first that is due from a place on.
+fn behind_key(keys: &[(&str, bool)], from: usize, key: &str) -> Option<usize>
+    requires { from ≤ length keys.now }
+    ensures place { IfSome result (λ place. place ≤ length keys.now) }
+    ensures same { (d : Data) (ms : Members) → same_keys (due_keys (drop from keys.now)) (member key.now d ms) ≡ unwrap_or (option_map (λ place. same_keys (due_keys (drop place keys.now)) ms) result) false }
+{
+    for place in from..keys.len() {
+        let (first, due) = keys[place];
+        if due {
+            return if first == key { Some(place + 1) } else { None };
+        }
+    }
+    None
+}
+
+/// Whether no key is due.
+fn none_due(keys: &[(&str, bool)]) -> bool
+    ensures { result ≡ same_keys (due_keys keys.now) no_members }
+{
+    for (_, due) in keys {
+        if *due {
+            return false;
+        }
+    }
+    true
+}
+
+/// Whether the members have exactly those of these keys that are due.
+fn are_due(keys: &[(&str, bool)], members: &Map<String, Value>) -> bool
+    ensures { result ≡ same_keys (due_keys keys.now) (members_view members.now.entries) }
+{
+    let mut next = 0;
+    for (key, _) in members.iter() {
+        match behind_key(keys, next, key.as_str()) {
+            Some(place) => next = place,
+            None => return false,
+        }
+    }
+    none_due(&keys[next..])
+}
+
+/// Whether the value is an object with exactly those of these keys that are due. The keys are to be
+/// given in ascending order.
+pub fn has_due_keys(value: &Value, keys: &[(&str, bool)]) -> bool
+    ensures { result ≡ has_due_keys keys.now (view value.now) }
 {
     match value.as_object() {
-        Some(members) => are_keys(keys, members),
+        Some(members) => are_due(keys, members),
         None => false,
     }
 }

@@ -1,9 +1,9 @@
 //! A topology as JSON.
 
-ghost use Rattle.std.specs.Prelude.{◌≡◌, ◌<◌, ◌≤◌, Ok, map, IfOk};
+ghost use Rattle.std.specs.Prelude.{◌≡◌, ◌<◌, ◌≤◌, [], ◌∷◌, Ok, codes, map, IfOk};
 ghost use Rattle.topology_text.specs.Value.{IsNamed};
 ghost use Rattle.serde_json.specs.{Data.string, View.view};
-ghost use Rattle.json_values.specs.{Json.{printed, array_of}, TopologyJson.{link_json, group_json, holders_json, placement_json, custom_json, topology_json}};
+ghost use Rattle.json_values.specs.{Json.{printed, array_of, count_of, object_of}, TopologyForm.{link as link_form, group as group_form, custom as custom_form}, TopologyJson.topology_json, inner.Holders.{held as held_by, holders_json, placement_json}};
 ghost use Rattle.json_values.specs.Answer.{topology_of_json};
 
 use crate::names::{name_text, node_text};
@@ -14,7 +14,7 @@ use std::alloc::{AllocError, Global};
 use topology_text::{Name, NamedTopology};
 
 fn link_json(alloc: Global, names: &[Name], from: u8, to: u8) -> Result<Value, AllocError>
-    ensures { IfOk result (λ v. view v ≡ link_json names.now (from, to)) }
+    ensures { IfOk result (λ v. view v ≡ (link_form names.now).json (from, to)) }
 {
     let from = node_text(names, from);
     let to = node_text(names, to);
@@ -22,7 +22,7 @@ fn link_json(alloc: Global, names: &[Name], from: u8, to: u8) -> Result<Value, A
 }
 
 fn links_json(alloc: Global, names: &[Name], links: &[(u8, u8)]) -> Result<Value, AllocError>
-    ensures { IfOk result (λ v. view v ≡ array_of (map (link_json names.now) links.now)) }
+    ensures { IfOk result (λ v. view v ≡ array_of (map (link_form names.now).json links.now)) }
 {
     let mut list = Vec::new(alloc);
     for (from, to) in links {
@@ -32,7 +32,7 @@ fn links_json(alloc: Global, names: &[Name], links: &[(u8, u8)]) -> Result<Value
 }
 
 fn group_json(alloc: Global, names: &[Name], group: &Group) -> Result<Value, AllocError>
-    ensures { IfOk result (λ v. view v ≡ group_json names.now group.now) }
+    ensures { IfOk result (λ v. view v ≡ (group_form names.now).json group.now) }
 {
     let links = links_json(alloc, names, group.links())?;
     let width = group.width();
@@ -40,7 +40,7 @@ fn group_json(alloc: Global, names: &[Name], group: &Group) -> Result<Value, All
 }
 
 fn groups_json(alloc: Global, names: &[Name], groups: &[Group]) -> Result<Value, AllocError>
-    ensures { IfOk result (λ v. view v ≡ array_of (map (group_json names.now) groups.now)) }
+    ensures { IfOk result (λ v. view v ≡ array_of (map (group_form names.now).json groups.now)) }
 {
     let mut list = Vec::new(alloc);
     for group in groups {
@@ -66,7 +66,7 @@ fn holders_json(
     chunk: u8,
 ) -> Result<Value, AllocError>
     requires chunk { chunk < held.now.chunks }
-    ensures { IfOk result (λ v. view v ≡ holders_json names.now held.now chunk) }
+    ensures { IfOk result (λ v. view v ≡ holders_json names.now (held_by held.now chunk)) }
 {
     let mut list = Vec::new(alloc);
     for node in 0..held.nodes() {
@@ -94,12 +94,29 @@ fn placement_json(
 }
 
 fn custom_json(alloc: Global, names: &[Name], pattern: &Pattern) -> Result<Value, AllocError>
-    ensures { IfOk result (λ v. view v ≡ custom_json names.now pattern.now) }
+    ensures { IfOk result (λ v. view v ≡ (custom_form names.now).json pattern.now) }
 {
     let base = pattern.base();
     let after = placement_json(alloc, names, base, pattern.after())?;
     let before = placement_json(alloc, names, base, pattern.before())?;
     json!(in alloc; {"after": after, "before": before})
+}
+
+fn plain_value(alloc: Global, groups: Value, nodes: Value) -> Result<Value, AllocError>
+    ensures { IfOk result (λ v. view v ≡ object_of ((codes "groups", view groups) ∷ (codes "nodes", view nodes) ∷ (codes "version", count_of 1) ∷ [])) }
+{
+    json!(in alloc; {"groups": groups, "nodes": nodes, "version": 1u32})
+}
+
+fn patterned_value(
+    alloc: Global,
+    custom: Value,
+    groups: Value,
+    nodes: Value,
+) -> Result<Value, AllocError>
+    ensures { IfOk result (λ v. view v ≡ object_of ((codes "custom", view custom) ∷ (codes "groups", view groups) ∷ (codes "nodes", view nodes) ∷ (codes "version", count_of 2) ∷ [])) }
+{
+    json!(in alloc; {"custom": custom, "groups": groups, "nodes": nodes, "version": 2u32})
 }
 
 /// The topology as a value of JSON. An `Err` comes only where memory runs out.
@@ -111,10 +128,10 @@ pub fn topology_value(alloc: Global, value: &NamedTopology) -> Result<Value, All
     let groups = groups_json(alloc, names, value.topology().groups())?;
     let nodes = names_json(alloc, names)?;
     match value.custom() {
-        None => json!(in alloc; {"groups": groups, "nodes": nodes, "version": 1u32}),
+        None => plain_value(alloc, groups, nodes),
         Some(pattern) => {
             let custom = custom_json(alloc, names, pattern)?;
-            json!(in alloc; {"custom": custom, "groups": groups, "nodes": nodes, "version": 2u32})
+            patterned_value(alloc, custom, groups, nodes)
         }
     }
 }
