@@ -6,8 +6,7 @@ use Rattle.report_form.specs.{declared.fault.ReportCode.ReportCode, Answer.repor
 use Rattle.report_form.proofs.ReportTaken.{report_take}
 use Rattle.serde_json.specs.{Data.depth, Read.max_depth, Written.compact_text}
 use Rattle.json_values.{specs.{Json.printed, TopologyJson.topology_json, Answer.topology_of_json}, proofs.Built.{topology_back, topology_flat}}
-use Rattle.json_forms.specs.ReportForm.{report as report_form}
-use Rattle.json_rules.specs.{Answer.report_of_json, ReportJson.report_json}
+use Rattle.json_rules.specs.{ReportForm.report as report_form, Answer.report_of_json, ReportJson.report_json}
 use Rattle.json_reports.proofs.Built.{report_back, report_flat}
 use Rattle.command_words.specs.{declared.command.{Command.Command, JsonWhat.JsonWhat}, Words.command_of}
 use Rattle.command_words.specs.declared.command.Command.TheVariants as command

@@ -7,11 +7,9 @@ use Rattle.topology_text.specs.{declared.fault.TopologyCode.TopologyCode, Value.
 use Rattle.topology_text.specs.Spelling.{spelling}
 use Rattle.topology_text.specs.declared.fault.TopologyCode.TheVariants as topology
 use Rattle.report_form.specs.{Reading.report_of, Reports.ReportValue, Numbered.point_at, Spelling.report_text}
-use Rattle.json_values.specs.{declared.fault.JsonCode.JsonCode, Answer.{json_number, topology_of_json}, Json.printed}
-use Rattle.json_values.specs.TopologyJson.{topology_json}
+use Rattle.json_values.specs.{declared.fault.JsonCode.JsonCode, Answer.{json_number, topology_of_json}, Json.printed, Reading.read_json, TopologyJson.topology_json, TopologyForm.topology as topology_form}
 use Rattle.json_values.specs.declared.fault.JsonCode.TheVariants as json
-use Rattle.json_forms.{specs.{Reading.read_json, TopologyForm.topology as topology_form, ReportForm.report as report_form}, proofs.ReadJson.read_alike}
-use Rattle.json_rules.specs.{Answer.report_of_json, ReportJson.report_json}
+use Rattle.json_rules.{specs.{ReportForm.report as report_form, Answer.report_of_json, ReportJson.report_json}, proofs.ReadJson.read_alike}
 use Rattle.command_words.specs.declared.command.JsonWhat.TheVariants as what
 use Rattle.command_words.specs.declared.{command.PointWord.PointWord, fault.WordCode.TheVariants.UnknownPoint}
 use Rattle.run_rules.specs.declared.{status.Status.{Status, TheVariants.{BadJson, BadTopology, BadWords, Done}}, answer.Answer.Answer}

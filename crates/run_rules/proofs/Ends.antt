@@ -9,8 +9,8 @@ use Rattle.report_form.specs.{Answer.report_number, Reading.report_of, Reports.R
 use Rattle.round_encoding.specs.Candidates.{size_limit}
 use Rattle.candidate_formula.specs.{Sizes.size_of, Counts.chunk_counts}
 use Rattle.replay_text.specs.{Showing.{shown_in, shown_text}, Points.programs_of_point}
-use Rattle.json_values.specs.{Json.printed, Answer.json_number}
-use Rattle.json_forms.specs.{TopologyForm.topology as topology_form, ReportForm.report as report_form, Reading.read_json}
+use Rattle.json_values.specs.{Json.printed, Answer.json_number, TopologyForm.topology as topology_form, Reading.read_json}
+use Rattle.json_rules.specs.ReportForm.{report as report_form}
 use Rattle.command_words.specs.declared.command.JsonWhat.TheVariants as what
 use Rattle.command_words.specs.declared.command.{RootWord.RootWord, SearchWords.SearchWords, PointWord.PointWord, Command.Command}
 use Rattle.command_words.specs.declared.fault.WordCode.TheVariants.{KeyMissing}

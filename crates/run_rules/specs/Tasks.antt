@@ -13,9 +13,8 @@ use Rattle.round_encoding.specs.Candidates.{size_limit}
 use Rattle.candidate_formula.specs.{Sizes.size_of, Counts.chunk_counts}
 use Rattle.node_programs.specs.Programs.{programs_of}
 use Rattle.replay_text.specs.{Showing.{adding_of, nodes_of, shown_in, shown_text}, Points.programs_of_point}
-use Rattle.json_values.specs.{Answer.json_number, Json.printed}
-use Rattle.json_forms.specs.{Reading.read_json, TopologyForm.topology as topology_form, ReportForm.report as report_form}
-use Rattle.json_rules.specs.ProgramsJson.{programs_json}
+use Rattle.json_values.specs.{Answer.json_number, Json.printed, Reading.read_json, TopologyForm.topology as topology_form}
+use Rattle.json_rules.specs.{ReportForm.report as report_form, ProgramsJson.programs_json}
 use Rattle.command_words.specs.declared.command.{JsonWhat.JsonWhat, RootWord.RootWord, SearchWords.SearchWords, PointWord.PointWord, Command.Command}
 use Rattle.command_words.specs.{declared.fault.WordFault.WordFault, Words.command_of}
 use Rattle.command_words.specs.declared.fault.WordCode.TheVariants.{KeyMissing, UnknownRoot, UnknownPoint, CustomMismatch, ReportNotTaken, UnknownGroup, NotNarrower}

@@ -7,7 +7,7 @@ use Rattle.text_lines.specs.Check.{◌>>=◌}
 use Rattle.report_form.specs.{Answer.report_number, Reports.ReportValue, Spelling.report_text, Reading.report_of}
 use Rattle.report_laws.{specs.Shapes.ReadsAs, proofs.Readings.only_read_as}
 use Rattle.json_values.specs.{Answer.json_number, Json.printed}
-use Rattle.json_forms.{proofs.ReadJson.readers_alike, specs.ReportForm.report as report_form}
+use Rattle.json_rules.{proofs.ReadJson.readers_alike, specs.ReportForm.report as report_form}
 use Rattle.run_rules.specs.{declared.status.Status.TheVariants.{BadJson, BadReport}, Commands.{Ask, reads_source}, Refusals.{Refusal, refused_as}}
 use Rattle.run_rules.specs.Tasks.{Task, Write, Reader, due, due_by, json_programs_in, report_by, task_by, words_asked}
 use Rattle.run_rules.specs.Steps.{audit_in, degrade_in, programs_in, replay_in, whole_text}

@@ -3,8 +3,8 @@ use Rattle.std.proofs.Common.{◌≡◌, ◌⊎◌, ◌≤◌, ◌++◌, ℕ, Bo
 use Rattle.std.proofs.lemmas.List.{take_all, Elements.All-contains}
 use Rattle.text_lines.specs.Check.{◌>>=◌, need, refuse}
 use Rattle.topology_text.specs.{Answer.topology_number, Reading.topology_of, Value.NamedTopologyValue, Spelling.spelling}
-use Rattle.json_values.specs.{Answer.json_number, Json.printed}
-use Rattle.json_forms.specs.{Reading.read_json, TopologyForm.topology as topology_form, ReportForm.report as report_form}
+use Rattle.json_values.specs.{Answer.json_number, Json.printed, Reading.read_json, TopologyForm.topology as topology_form}
+use Rattle.json_rules.specs.ReportForm.{report as report_form}
 use Rattle.outer_ports.specs.Shelf.{FilesStay}
 use Rattle.candidate_order.{specs.Frontiers.{RightFrontier, IsSolvable}, proofs.Frontiers.better_refuted}
 use Rattle.report_form.specs.{Reading.report_of, Reports.{WordsValue, ReportValue, question_of}, Spelling.report_text}

@@ -9,8 +9,8 @@ use Rattle.candidate_order.specs.Frontiers.{FrontierValue}
 use Rattle.topology_text.specs.{Value.NamedTopologyValue, Answer.topology_number, Reading.topology_of}
 use Rattle.allreduce_join.specs.Joins.{Joins}
 use Rattle.command_words.specs.{declared.command.{SearchWords.SearchWords, Command.Command}, Words.command_of}
-use Rattle.json_values.specs.Answer.{json_number}
-use Rattle.json_forms.specs.{Reading.read_json, TopologyForm.topology as topology_form, ReportForm.report as report_form}
+use Rattle.json_values.specs.{Answer.json_number, Reading.read_json, TopologyForm.topology as topology_form}
+use Rattle.json_rules.specs.ReportForm.{report as report_form}
 use Rattle.command_words.specs.declared.command.JsonWhat.TheVariants as what
 use Rattle.command_words.specs.declared.command.Command.TheVariants as command
 use Rattle.report_form.specs.{Answer.report_number, Reports.{ReportValue, WordsValue, parts_of}, Reading.report_of, Spelling.report_text}

@@ -1,7 +1,7 @@
 use Rattle.std.proofs.Common.{◌≡◌, None, Ok, subst}
 use Rattle.command_words.specs.declared.command.JsonWhat.TheVariants as what
 use Rattle.json_values.specs.Json.{printed}
-use Rattle.json_forms.specs.ReportForm.{report as report_form}
+use Rattle.json_rules.specs.ReportForm.{report as report_form}
 use Rattle.run_rules.{specs.{Read.IsReadAs, Tasks.{Write, json_asked, read_report}}, proofs.Answered.{refused_alone, refused_behind}}
 use Rattle.json_command.proofs.Exchanged.{report_written}
 use Rattle.json_command.proofs.writing.report_written.Goals as goal
