@@ -19,7 +19,7 @@ use trail_core::{ClauseId, Core};
 pub struct Decider {
     vars: u32,
     order: Order,
-    /// None in the opening, which does not go by it.
+    /// None before the first line.
     queue: Option<Queue>,
     phases: Vec<bool>,
     mode: Mode,
@@ -97,18 +97,17 @@ fn bump(queue: &mut Queue, core: &Core, met: &[Lit], lits: &[Lit]) -> Result<(),
 }
 
 impl Decider {
-    /// The variables 1 to `vars` in the order of their numbers, each with the value that it is to
-    /// have first, which stands in `phases` at its number. `Err` comes only where memory runs out.
-    pub fn new(alloc: Global, vars: u32, phases: Vec<bool>) -> Result<Decider, OutOfMemory>
-        requires small { vars < 2147483648 }
-        requires phases { length phases.items ≡ vars + 1 }
+    /// The variables 1 to `vars` in the order of their numbers, each to be false first. `Err` comes
+    /// only where memory runs out.
+    pub fn new(alloc: Global, vars: u32) -> Result<Decider, OutOfMemory>
+        requires { vars < 2147483648 }
         ensures { IfOk result (λ decider. decider ≡ vars) }
     {
         Ok(Decider {
             vars,
             order: Order::new(alloc, vars)?,
             queue: None,
-            phases,
+            phases: vec![in alloc; false; vars as usize + 1]?,
             mode: Mode::Opening,
             inputs: Vec::new(alloc),
         })
@@ -130,9 +129,6 @@ impl Decider {
             return Ok(());
         }
         self.mode = mode;
-        if self.queue.is_none() {
-            self.queue = Some(Queue::new(alloc, self.vars)?);
-        }
         if mode != Mode::Stable {
             return Ok(());
         }
@@ -237,7 +233,7 @@ impl Decider {
     }
 
     /// Gives all variables to the decisions that come. `Err` comes only where memory runs out.
-    pub fn wake(&mut self) -> Result<(), OutOfMemory>
+    fn wake(&mut self) -> Result<(), OutOfMemory>
         ensures { self.new ≡ self.old }
     {
         for index in 0..self.vars {
@@ -248,17 +244,49 @@ impl Decider {
 
     /// Makes the variables through which a conflict came about, and where the search is focused
     /// those in the reasons of the literals of its line too, likelier to be decided; those past the
-    /// last are passed over. `Err` comes only where memory runs out.
-    pub fn learn(&mut self, core: &Core, met: &[Lit], lits: &[Lit]) -> Result<(), OutOfMemory>
+    /// last are passed over. The opening keeps the queue as well, with which a focused turn goes on.
+    /// `Err` comes only where memory runs out.
+    pub fn learn(
+        &mut self,
+        alloc: Global,
+        core: &Core,
+        met: &[Lit],
+        lits: &[Lit],
+    ) -> Result<(), OutOfMemory>
         requires { self.old ≡ core.now.vars }
         ensures { self.new ≡ self.old }
     {
-        if self.mode == Mode::Focused {
-            if let Some(queue) = &mut self.queue {
-                return bump(queue, core, met, lits);
+        match self.mode {
+            Mode::Opening => {
+                self.raise(met);
+                self.bump(alloc, core, met, &[])
+            }
+            Mode::Focused => self.bump(alloc, core, met, lits),
+            Mode::Stable => {
+                self.raise(met);
+                Ok(())
             }
         }
-        self.raise(met);
+    }
+
+    /// Bumps variables in the queue, which is made at the first line, and those in the reasons of
+    /// literals.
+    fn bump(
+        &mut self,
+        alloc: Global,
+        core: &Core,
+        met: &[Lit],
+        lits: &[Lit],
+    ) -> Result<(), OutOfMemory>
+        requires { self.old ≡ core.now.vars }
+        ensures { self.new ≡ self.old }
+    {
+        if self.queue.is_none() {
+            self.queue = Some(Queue::new(alloc, self.vars)?);
+        }
+        if let Some(queue) = &mut self.queue {
+            return bump(queue, core, met, lits);
+        }
         Ok(())
     }
 

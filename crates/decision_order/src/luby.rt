@@ -1,7 +1,7 @@
 //! New beginnings by the Luby sequence.
 
 /// So many lines come before the first new beginning.
-const UNIT: u64 = 100;
+const UNIT: u64 = 50;
 
 /// New beginnings after 1, 1, 2, 1, 1, 2, 4, .. times as many lines (Luby, Sinclair and Zuckerman
 /// 1993).

@@ -4,7 +4,7 @@ use crate::averages::Averages;
 use crate::luby::Luby;
 use crate::turns::{Mode, Turns};
 
-/// New beginnings by averages in focused turns, and by the Luby sequence in others.
+/// New beginnings by the Luby sequence in stable turns, and by averages in others.
 #[derive(Drop)]
 pub struct Restarts {
     turns: Turns,
@@ -36,8 +36,8 @@ impl Restarts {
             return true;
         }
         match self.turns.mode() {
-            Mode::Focused => self.averages.tick(levels),
-            Mode::Opening | Mode::Stable => self.luby.tick(),
+            Mode::Stable => self.luby.tick(),
+            Mode::Opening | Mode::Focused => self.averages.tick(levels),
         }
     }
 }

@@ -12,8 +12,8 @@ const STABLE: u64 = 500;
 /// How a search goes on.
 #[derive(Clone, Copy, Debug, PartialEq, Eq)]
 pub enum Mode {
-    /// The first turn: variables go by activity, with probes, and the search begins anew by the
-    /// Luby sequence.
+    /// The first turn, which ends short proofs: variables go by activity, and the search begins anew
+    /// by averages.
     Opening,
     /// A turn in which long proofs are found: variables go by their last bump, and the search
     /// begins anew by averages.

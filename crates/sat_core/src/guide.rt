@@ -1,24 +1,23 @@
 //! What a search keeps from turn to turn beside its core.
 
-ghost use Rattle.std.specs.Prelude.{◌≡◌, ◌<◌, IfOk};
+ghost use Rattle.std.specs.Prelude.{◌<◌, IfOk};
 ghost use Rattle.conflict_analysis.specs.Met.{IsRested};
 ghost use Rattle.sat_core.specs.inner.Guided.{IsNewGuide};
 
 use cnf_formula::OutOfMemory;
 use conflict_analysis::{Glue, Implied, Walk};
-use decision_order::{Decider, Probes, Restarts};
+use decision_order::{Decider, Restarts};
 use sleeping_clauses::{Awake, Sleepers};
 use std::alloc::Global;
 
-/// The marks of analyses, what is decided next, when the search begins anew, when another decider
-/// takes over, and which learned clauses sleep.
+/// The marks of analyses, what is decided next, when the search begins anew, and which learned
+/// clauses sleep.
 #[derive(Drop)]
 pub struct Guide {
     pub walk: Walk,
     pub implied: Implied,
     pub decider: Decider,
     pub restarts: Restarts,
-    pub probes: Probes,
     pub awake: Awake,
     pub sleepers: Sleepers,
     pub glue: Glue,
@@ -34,17 +33,6 @@ fn tables_of(alloc: Global, vars: u32) -> Result<(Walk, Implied, Glue), OutOfMem
     Ok((walk, implied, glue))
 }
 
-/// What decides next, and what says when another decider takes over.
-fn deciders_of(alloc: Global, vars: u32) -> Result<(Decider, Probes), OutOfMemory>
-    requires { vars < 2147483648 }
-    ensures decider { IfOk result (λ both. both.0 ≡ vars) }
-    ensures probes { IfOk result (λ both. both.1 ≡ vars) }
-{
-    let decider = Decider::new(alloc, vars, vec![in alloc; false; vars as usize + 1]?)?;
-    let probes = Probes::new(alloc, vars)?;
-    Ok((decider, probes))
-}
-
 impl Guide {
     /// What a search begins with: no clause sleeps.
     pub fn new(alloc: Global, vars: u32, awake: Awake) -> Result<Guide, OutOfMemory>
@@ -52,14 +40,12 @@ impl Guide {
         ensures { IfOk result (IsNewGuide vars awake) }
     {
         let tables = tables_of(alloc, vars)?;
-        let deciders = deciders_of(alloc, vars)?;
         Ok(Guide {
             sleepers: Sleepers::new(alloc, vars)?,
             walk: tables.0,
             implied: tables.1,
-            decider: deciders.0,
+            decider: Decider::new(alloc, vars)?,
             restarts: Restarts::new(),
-            probes: deciders.1,
             awake,
             glue: tables.2,
         })

@@ -47,15 +47,15 @@ fn go_on(
     ensures ready { OnOk result ((base : FormulaValue) (lines : List ProofLineValue) → IsReady base lines core.old guide.old.awake guide.old.sleepers → AreWritten base (lines ++ line.now ∷ []) → is_fresh (checker_of base lines) line.now.lits ≡ true
         → line.now.id ≡ guide.old.awake.held + 1 → IsReady base (lines ++ line.now ∷ []) core.new guide.new.awake guide.new.sleepers) }
 {
-    guide.decider.learn(core, &guide.walk.met, &line.lits)?;
+    guide
+        .decider
+        .learn(alloc, core, &guide.walk.met, &line.lits)?;
     guide.sleepers.learn(&line.lits);
-    guide.probes.note(core);
     let levels = guide.glue.count(core, &line.lits);
     let anew = guide.restarts.tick(levels);
     let mode = guide.restarts.mode();
     let id = go_back(core, &mut guide.decider, line, anew)?;
     guide.awake.learn(id, levels)?;
-    guide.probes.turn(alloc, &mut guide.decider, anew, mode)?;
     guide
         .decider
         .settle(alloc, core, &guide.awake.ids, guide.awake.formula, mode)?;

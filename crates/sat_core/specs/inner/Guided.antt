@@ -9,7 +9,6 @@ use Rattle.sleeping_clauses.specs.{Naming.IsListed, Sleeping.AreFew, declared.aw
 pub record IsGuided (core : CoreValue) (guide : Guide) : Type 0 where
   pub rested : IsRested core.vars guide.walk.stamp guide.walk.marks.items
   pub decider : guide.decider ≡ core.vars
-  pub probes : guide.probes ≡ core.vars
   pub listed : IsListed core.clauses guide.awake
   pub sleepers : guide.sleepers.vars ≡ core.vars
   pub few : AreFew guide.sleepers
@@ -18,6 +17,5 @@ pub record IsGuided (core : CoreValue) (guide : Guide) : Type 0 where
 pub record IsNewGuide (vars : ℕ) (table : Awake) (guide : Guide) : Type 0 where
   pub rested : IsRested vars guide.walk.stamp guide.walk.marks.items
   pub decider : guide.decider ≡ vars
-  pub probes : guide.probes ≡ vars
   pub awake : guide.awake ≡ table
   pub sleepers : guide.sleepers ≡ record { vars = vars; clauses = []; numbers = []; asleep = [] }

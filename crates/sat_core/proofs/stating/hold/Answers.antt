@@ -28,6 +28,6 @@ returns c =
     record {
       same = record { vars = grown.vars; trail = ap (λ v. v.trail) ok; limits = ap (λ v. v.limits) ok };
       stated = subst (λ cs. AreStated cs c.mark.new.stated.items) (ap (λ xs. core.clauses ++ xs ∷ []) same ∙ sym (ap (λ v. v.clauses) ok)) (stated_more core.clauses _ c.args.stated.now.items c.mark.new.stated.items c.requires.stated c.mark.ensures.on c.mark.ensures.this);
-      guided = grown_guided core core' guide _ line c.in_ok-id.id c.requires.guided c.requires.once grown (c.in_ok-id.ensures.ok).0 learned.ids refl refl refl refl;
+      guided = grown_guided core core' guide _ line c.in_ok-id.id c.requires.guided c.requires.once grown (c.in_ok-id.ensures.ok).0 learned.ids refl refl refl;
       ready = λ base lines ready stating. ready_more base lines core core' guide.awake awake' guide.sleepers line ready c.requires.guided.listed stating.written stating.fresh stating.next grown;
     }

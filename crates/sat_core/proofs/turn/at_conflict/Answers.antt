@@ -88,7 +88,7 @@ returns-then-woken g c =
       turned = (
         record {
           ready = woken.ready is _ _ (c.in_ok-line.ensures.turn _ _ can.ready).ready;
-          guided = guided_more c.args.core.now _ _ guided.rested (woken.decider ∙ guided.decider) guided.probes (woken.listed is) (woken.same ∙ guided.sleepers) (omega (arith, woken.fewer is, guided.few)) woken.vars;
+          guided = guided_more c.args.core.now _ _ guided.rested (woken.decider ∙ guided.decider) (woken.listed is) (woken.same ∙ guided.sleepers) (omega (arith, woken.fewer is, guided.few)) woken.vars;
           agrees = can.agrees;
         },
         inr (refl, omega (arith, woken.fewer is, ap (λ s. sleeping s) c.line_of_conflict.ensures.sleepers)),
@@ -160,7 +160,7 @@ returns-in-Some g c =
       turned = (
         record {
           ready = woken.ready _ _ (subst (IsReady (V.base old) (V.lines old) c.args.core.now guide.awake) (sym same) (c.in_ok-line.ensures.turn _ _ can.ready).ready);
-          guided = guided_more c.args.core.now _ _ guided.rested (woken.decider ∙ guided.decider) guided.probes woken.listed (woken.same ∙ ap (λ s. s.vars) same ∙ guided.sleepers) (omega (arith, woken.fewer, few, guided.few)) woken.vars;
+          guided = guided_more c.args.core.now _ _ guided.rested (woken.decider ∙ guided.decider) woken.listed (woken.same ∙ ap (λ s. s.vars) same ∙ guided.sleepers) (omega (arith, woken.fewer, few, guided.few)) woken.vars;
           agrees = can.agrees;
         },
         inr (refl, omega (arith, woken.fewer, few, ap (λ s. sleeping s) c.line_of_conflict.ensures.sleepers)),

@@ -11,7 +11,7 @@ returns c =
     let awake' = c.learn-3.new.self in
     let grown : IsGrown core core' guide.awake awake' line = record { vars = c.go_back.ensures.vars; clauses = c.in_ok-id.ensures.added; names = c.in_ok-learn-2.ensures.names; formula = c.in_ok-learn-2.ensures.formula; held = c.in_ok-learn-2.ensures.held } in
     record {
-      guided = grown_guided core core' guide _ line c.in_ok-id.id c.requires.guided (backed_differ core line.lits c.requires.backed) grown c.in_ok-id.ensures.id c.in_ok-learn-2.ensures.ids refl (c.settle.ensures ∙ c.turn.ensures.decider ∙ c.go_back.ensures.decider ∙ c.learn.ensures) (c.turn.ensures.same ∙ c.note.ensures) c.learn-2.ensures;
+      guided = grown_guided core core' guide _ line c.in_ok-id.id c.requires.guided (backed_differ core line.lits c.requires.backed) grown c.in_ok-id.ensures.id c.in_ok-learn-2.ensures.ids refl (c.settle.ensures ∙ c.go_back.ensures.decider ∙ c.learn.ensures) c.learn-2.ensures;
       vars = grown.vars;
       ready = λ base lines ready written fresh id. subst (IsReady base (lines ++ line ∷ []) core' awake') (sym c.learn-2.ensures) (ready_more base lines core core' guide.awake awake' guide.sleepers line ready c.requires.guided.listed written fresh id grown);
     }
