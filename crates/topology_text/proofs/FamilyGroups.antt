@@ -59,13 +59,7 @@ shared_is_group size ok =
 -- ---- groups of one link
 
 alone_is_group : (link : ℕ × ℕ) (width : ℕ) → 0 < width → width ≤ 16 → IsLink link → IsGroup (record { links = link ∷ []; width = width })
-alone_is_group link width some few apart = record {
-  positive = some;
-  narrow = few;
-  some = omega arith;
-  each = All-cons IsLink link [] apart (All-nil IsLink);
-  distinct = λ i j d before h. absurd (omega arith);
-}
+alone_is_group link width some few apart = grind (arith, All-cons, All-nil)
 
 pub single_is_group : (link : ℕ × ℕ) → IsLink link → IsGroup (single link)
 single_is_group link apart = alone_is_group link 1 (omega arith) (omega arith) apart
@@ -99,22 +93,11 @@ ports_in size ok node low =
 
 -- a loop over the nodes, in which each adds one group
 pub nodes_more : (group : ℕ → GroupValue) (initial before after : List GroupValue) (node : ℕ) (its : GroupValue) → before ≡ initial ++ map group (range_with_len 0 node) → its ≡ group node → after ≡ before ++ its ∷ [] → after ≡ initial ++ map group (range_with_len 0 (node + 1))
-nodes_more group initial before after node its so_far is pushed =
-    pushed
-    ∙ ap (λ g. before ++ g ∷ []) is
-    ∙ ap (λ gs. gs ++ group node ∷ []) so_far
-    ∙ append_assoc initial (map group (range_with_len 0 node)) (group node ∷ [])
-    ∙ ap (λ gs. initial ++ gs) (sym (map-range_with_len_more group 0 node node (omega arith)))
+nodes_more group initial before after node its so_far is pushed = grind (arith, append_assoc, map-range_with_len_more)
 
 -- what holds at each node
 at_nodes : (P : ℕ → Type 0) (size : ℕ) → ((node : ℕ) → node < size → P node) → All P (range_with_len 0 size)
-at_nodes P size at = All-from_get_or P (range_with_len 0 size) 0 each
-  where
-    each : (i : ℕ) → i < length (range_with_len 0 size) → P (get_or (range_with_len 0 size) i 0)
-    each i h =
-        let low : i < size = omega (arith, h, length-range_with_len 0 size) in
-        let here : get_or (range_with_len 0 size) i 0 ≡ i = get_or-range_with_len 0 size i 0 low ∙ omega arith in
-        subst P (sym here) (at i low)
+at_nodes P size at = grind (arith, All-from_get_or, length-range_with_len, get_or-range_with_len)
 
 -- ---- cables
 
@@ -190,11 +173,5 @@ pub family_groups_are : (kind : FamilyKind) (size : ℕ) → is_allowed kind siz
 family_groups_are Mesh size ok = alones size (family_links Mesh size) mesh_group (family_links_are Mesh size ok) (λ l. refl) mesh_is_group
 family_groups_are Switch size ok = ports_are size ok
 family_groups_are Boxes size ok = boxes_are size ok
-family_groups_are Shared size ok =
-    let links = family_links_are Shared size ok in
-    record {
-      few = omega arith;
-      each = All-cons IsGroup (one_wide (family_links Shared size)) [] (shared_is_group size ok) (All-nil IsGroup);
-      below = All-cons (λ g. All (IsBelow size) g.links) (one_wide (family_links Shared size)) [] links.below (All-nil (λ g. All (IsBelow size) g.links));
-    }
+family_groups_are Shared size ok = grind (arith, family_links_are, All-cons, shared_is_group, All-nil)
 family_groups_are kind size ok = singles size (family_links kind size) (family_links_are kind size ok)

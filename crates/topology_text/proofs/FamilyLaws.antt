@@ -1,5 +1,5 @@
 -- Families are topologies.
-use Rattle.std.proofs.Common.{◌≡◌, ℕ, ◌+◌, ◌<◌, true, List, [], ◌∷◌, ◌++◌, map, length, get_or, drop, None, Some, refl, sym, ap, ◌∙◌, subst, arith}
+use Rattle.std.proofs.Common.{◌≡◌, ℕ, ◌+◌, ◌<◌, true, List, [], ◌∷◌, ◌++◌, map, drop, None, Some, refl, ap, ◌∙◌, subst, arith}
 use Rattle.std.{specs.{Fmt.digits, List.{list_all, range_with_len}}, proofs.lemmas.List.{length-map, Elements.{All-get_or, All-from_get_or}}}
 use Rattle.std.proofs.lemmas.List.FromFn.{get_or-range_with_len, get_or-map-range_with_len, map-range_with_len_more, length-range_with_len}
 use Rattle.std.proofs.lemmas.{List.Sums.AllPass-from_list_all, Fmt.decimal_injective}
@@ -28,16 +28,7 @@ numbered_apart a b low high e =
     decimal_injective a b (omega arith) (omega arith) (ap (drop 1) e)
 
 names_named : (size : ℕ) → IsSize size → AreNames (map numbered_name (range_with_len 0 size))
-names_named size ok =
-    let names : List (List ℕ) = map numbered_name (range_with_len 0 size) in
-    let count : length names ≡ size = length-map (range_with_len 0 size) numbered_name ∙ length-range_with_len 0 size in
-    let at : (i : ℕ) (d : List ℕ) → i < length names → get_or names i d ≡ numbered_name i = λ i d h. get_or-map-range_with_len numbered_name 0 size i i d (omega arith) (omega arith) in
-    record {
-      some = omega (arith, ok.some);
-      few = omega (arith, ok.few);
-      each = All-from_get_or (λ n. is_name n ≡ true) names [] (λ i h. ap is_name (at i [] h) ∙ numbered_is_name i (omega (arith, ok.few)));
-      distinct = λ i j d before h e. let same = numbered_apart i j (omega (arith, ok.few)) (omega (arith, ok.few)) (sym (at i d (omega arith)) ∙ e ∙ at j d h) in omega arith;
-    }
+names_named size ok = grind (arith, length-map, length-range_with_len, get_or-map-range_with_len, All-from_get_or, numbered_is_name, numbered_apart)
 
 pub names_more : (n : ℕ) → map numbered_name (range_with_len 0 (n + 1)) ≡ map numbered_name (range_with_len 0 n) ++ numbered_name n ∷ []
 names_more n = map-range_with_len_more numbered_name 0 n n (omega arith)
@@ -45,15 +36,7 @@ names_more n = map-range_with_len_more numbered_name 0 n n (omega arith)
 -- ---- the family
 
 pub family_topology : (kind : FamilyKind) (size : ℕ) → is_allowed kind size ≡ true → IsTopology (record { nodes = size; groups = family_groups kind size })
-family_topology kind size ok =
-    let sizes = allowed_size kind size ok in
-    let groups = family_groups_are kind size ok in
-    record { some = sizes.some; few = sizes.few; limit = groups.few; groups = groups.each; nodes = groups.below }
+family_topology kind size ok = grind (arith, allowed_size, family_groups_are)
 
 pub family_named : (kind : FamilyKind) (size : ℕ) → is_allowed kind size ≡ true → IsNamed (record { names = map numbered_name (range_with_len 0 size); topology = record { nodes = size; groups = family_groups kind size }; custom = None })
-family_named kind size ok = record {
-  names = names_named size (allowed_size kind size ok);
-  topology = family_topology kind size ok;
-  as_many = length-map (range_with_len 0 size) numbered_name ∙ length-range_with_len 0 size;
-  custom = tt;
-}
+family_named kind size ok = grind (arith, names_named, allowed_size, family_topology, length-map, length-range_with_len)

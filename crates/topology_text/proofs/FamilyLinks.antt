@@ -1,5 +1,5 @@
 -- The sizes of families and their links.
-use Rattle.std.proofs.Common.{◌≡◌, ◌≢◌, ℕ, ◌+◌, ◌*◌, ◌/◌, ◌%◌, ◌<◌, ◌≤◌, Bool, true, false, ◌&&◌, ◌||◌, cond, eqb, leb, not, List, [], ◌∷◌, ◌++◌, map, length, get_or, inl, inr, refl, sym, ap, ◌∙◌, subst, arith, bit_xor}
+use Rattle.std.proofs.Common.{◌≡◌, ◌≢◌, ℕ, ◌+◌, ◌*◌, ◌/◌, ◌%◌, ◌<◌, ◌≤◌, Bool, true, ◌&&◌, ◌||◌, cond, eqb, leb, List, [], ◌∷◌, ◌++◌, map, length, get_or, inl, inr, refl, sym, ap, ◌∙◌, subst, arith, bit_xor}
 use Rattle.std.{specs.{Int.Bits.xor_self, List.{All, filter, list_any, range_with_len}}, proofs.lemmas.List.{length-map, Kept.AllPairs-filter}}
 use Rattle.std.proofs.Math.Nat.{div-lt_iff_lt-mul, mod-eq-sub-div-mul, div-mul-le_self, mod-eq_of_lt, mod_self, mul-le-mul_left}
 use Rattle.std.proofs.lemmas.Bool.{cases_lt, and_parts, or_cases, leb-true, eqb-true, eqb-false, not-true}
@@ -9,7 +9,7 @@ use Rattle.list_laws.proofs.Tests.{few_kept}
 use Rattle.text_lines.proofs.Distinct.{AreDistinct}
 use Rattle.schedule.specs.Links.{IsLink, IsBelow}
 use Rattle.topology_text.specs.declared.family_kind.FamilyKind.{FamilyKind, TheVariants.{Line, Ring, Cube, Shared, Torus, Mesh, Switch, Boxes}}
-use Rattle.topology_text.specs.Family.{is_allowed, are_next, rows, columns, is_torus_link, is_inside, is_family_link, pairs, family_links}
+use Rattle.topology_text.specs.Family.{is_allowed, are_next, rows, columns, is_torus_link, is_family_link, pairs, family_links}
 
 -- ---- sizes
 
@@ -22,22 +22,13 @@ within low high size e = let (above, below) = and_parts (leb low size) (leb size
 
 -- what holds at each of three sizes
 pub at_three : (P : ℕ → Type 0) (a b c size : ℕ) → P a → P b → P c → (eqb size a || eqb size b || eqb size c) ≡ true → P size
-at_three P a b c size at_a at_b at_c e = elim (or_cases (eqb size a || eqb size b) (eqb size c) e) [
-  | inl t ↦ elim (or_cases (eqb size a) (eqb size b) t) [ inl u ↦ is a at_a u | inr u ↦ is b at_b u ]
-  | inr t ↦ is c at_c t
-]
-  where
-    is : (n : ℕ) → P n → eqb size n ≡ true → P size
-    is n at_n t = subst P (sym (eqb-true size n t)) at_n
+at_three P a b c size at_a at_b at_c e = grind (arith, or_cases, eqb-true)
 
 is_size : (n : ℕ) → 0 < n → n ≤ 16 → IsSize n
 is_size n some few = record { some = some; few = few }
 
 cube_size : (size : ℕ) → is_allowed Cube size ≡ true → IsSize size
-cube_size size e = elim (or_cases (eqb size 2 || eqb size 4 || eqb size 8) (eqb size 16) e) [
-  | inl t ↦ at_three IsSize 2 4 8 size (is_size 2 (omega arith) (omega arith)) (is_size 4 (omega arith) (omega arith)) (is_size 8 (omega arith) (omega arith)) t
-  | inr t ↦ subst IsSize (sym (eqb-true size 16 t)) (is_size 16 (omega arith) (omega arith))
-]
+cube_size size e = grind (arith, or_cases, at_three, is_size, eqb-true)
 
 pub allowed_size : (kind : FamilyKind) (size : ℕ) → is_allowed kind size ≡ true → IsSize size
 allowed_size Ring size e = let (low, high) = within 3 16 size e in record { some = omega arith; few = high }
@@ -73,18 +64,11 @@ pub length-pairs : (size : ℕ) → length (pairs size) ≡ size * size
 length-pairs size = length-map (range_with_len 0 (size * size)) (λ n. (n / size, n % size)) ∙ length-range_with_len 0 (size * size)
 
 pairs_below : (size : ℕ) → 0 < size → All (IsBelow size) (pairs size)
-pairs_below size some = All-from_get_or (IsBelow size) (pairs size) (0, 0) each
-  where
-    each : (i : ℕ) → i < length (pairs size) → IsBelow size (get_or (pairs size) i (0, 0))
-    each i h =
-        let within : i < size * size = omega (arith, length-pairs size) in
-        subst (IsBelow size) (sym (pair_at size i (0, 0) within)) (record { from = (div-lt_iff_lt-mul some).1 within; to = omega arith })
+pairs_below size some = grind (arith, All-from_get_or, within, length-pairs, pair_at, div-lt_iff_lt-mul)
 
 -- a place by its row and its column
 place_is : (size i j : ℕ) → i / size ≡ j / size → i % size ≡ j % size → i ≡ j
-place_is size i j row column =
-    let products : i / size * size ≡ j / size * size = ap (λ q. q * size) row in
-    omega (arith, mod-eq-sub-div-mul i size, mod-eq-sub-div-mul j size, div-mul-le_self i size, div-mul-le_self j size, products, column)
+place_is size i j row column = grind (arith, mod-eq-sub-div-mul, div-mul-le_self)
 
 pairs_distinct : (size : ℕ) → 0 < size → AreDistinct (pairs size)
 pairs_distinct size some i j d before h e =
@@ -99,49 +83,23 @@ next_differs : (a b : ℕ) → (eqb b (a + 1) || eqb a (b + 1)) ≡ true → a �
 next_differs a b t same = elim (or_cases (eqb b (a + 1)) (eqb a (b + 1)) t) [ inl h ↦ omega (arith, same, eqb-true b (a + 1) h) | inr h ↦ omega (arith, same, eqb-true a (b + 1) h) ]
 
 round_differs : (size a : ℕ) → 3 ≤ size → a < size → a ≡ (a + 1) % size → ⊥
-round_differs size a large below e = elim (cases_lt (a + 1) size) [
-  | inl small ↦ let stays : (a + 1) % size ≡ a + 1 = mod-eq_of_lt small in omega arith
-  | inr last ↦
-      let whole : a + 1 ≡ size = omega arith in
-      let turned : (a + 1) % size ≡ 0 = ap (λ n. n % size) whole ∙ mod_self size in
-      omega arith
-]
+round_differs size a large below e = grind (arith, cases_lt, mod-eq_of_lt, mod_self)
 
 ring_differs : (size a b : ℕ) → 3 ≤ size → a < size → b < size → are_next size a b ≡ true → a ≢ b
-ring_differs size a b large low high t same = elim (or_cases (eqb b ((a + 1) % size)) (eqb a ((b + 1) % size)) t) [
-  | inl h ↦ round_differs size a large low (same ∙ eqb-true b ((a + 1) % size) h)
-  | inr h ↦ round_differs size b large high (sym same ∙ eqb-true a ((b + 1) % size) h)
-]
+ring_differs size a b large low high t same = grind (arith, or_cases, round_differs, eqb-true)
 
 cube_differs : (a b : ℕ) → list_any (λ digit. eqb (bit_xor a b) digit) (1 ∷ 2 ∷ 4 ∷ 8 ∷ []) ≡ true → a ≢ b
-cube_differs a b t same =
-    let nothing : bit_xor a b ≡ 0 = ap (λ x. bit_xor a x) (sym same) ∙ xor_self a in
-    let never : list_any (λ digit. eqb (bit_xor a b) digit) (1 ∷ 2 ∷ 4 ∷ 8 ∷ []) ≡ false = ap (λ x. list_any (λ digit. eqb x digit) (1 ∷ 2 ∷ 4 ∷ 8 ∷ [])) nothing in
-    absurd (cc)
+cube_differs a b t same = grind (arith, ap (λ x. bit_xor a x) (sym same) ∙ xor_self a, ap (λ x. list_any (λ digit. eqb x digit) (1 ∷ 2 ∷ 4 ∷ 8 ∷ [])) (ap (λ x. bit_xor a x) (sym same) ∙ xor_self a))
 
 torus_differs : (tall wide a b : ℕ) → 3 ≤ tall → 3 ≤ wide → a < tall * wide → b < tall * wide → is_torus_link tall wide (a, b) ≡ true → a ≢ b
-torus_differs tall wide a b rows_some columns_some low high t same =
-    elim (or_cases (eqb (a / wide) (b / wide) && are_next wide (a % wide) (b % wide)) (eqb (a % wide) (b % wide) && are_next tall (a / wide) (b / wide)) t) [
-      | inl h ↦
-          let (row, next) = and_parts (eqb (a / wide) (b / wide)) (are_next wide (a % wide) (b % wide)) h in
-          ring_differs wide (a % wide) (b % wide) columns_some (omega arith) (omega arith) next (ap (λ n. n % wide) same)
-      | inr h ↦
-          let (column, next) = and_parts (eqb (a % wide) (b % wide)) (are_next tall (a / wide) (b / wide)) h in
-          let some : 0 < wide = omega arith in
-          ring_differs tall (a / wide) (b / wide) rows_some ((div-lt_iff_lt-mul some).1 low) ((div-lt_iff_lt-mul some).1 high) next (ap (λ n. n / wide) same)
-    ]
+torus_differs tall wide a b rows_some columns_some low high t same = grind (arith, or_cases, and_parts, ring_differs, div-lt_iff_lt-mul)
 
 differs : (kind : FamilyKind) (size a b : ℕ) → is_allowed kind size ≡ true → a < size → b < size → is_family_link kind size (a, b) ≡ true → a ≢ b
 differs Line size a b ok low high t = next_differs a b t
 differs Ring size a b ok low high t = let (large, few) = within 3 16 size ok in ring_differs size a b large low high t
 differs Cube size a b ok low high t = cube_differs a b t
-differs Torus size a b ok low high t =
-    let grid = torus_grid size ok in
-    let filled = grid.filled in
-    torus_differs (rows size) (columns size) a b grid.tall grid.wide (omega (arith, filled, low)) (omega (arith, filled, high)) t
-differs Mesh size a b ok low high t =
-    let (apart, near) = and_parts (not (eqb a b)) (is_inside (a, b) || eqb (a % 4) (b % 4)) t in
-    eqb-false a b (not-true (eqb a b) apart)
+differs Torus size a b ok low high t = grind (arith, torus_grid, torus_differs)
+differs Mesh size a b ok low high t = grind (arith, and_parts, eqb-false, not-true)
 differs kind size a b ok low high t = eqb-false a b (not-true (eqb a b) t)
 
 -- the links of a family

@@ -1,6 +1,8 @@
 -- The lines of the header and of the nodes: what is read stands there, and what stands there is read.
-use Rattle.std.proofs.Common.{◌≡◌, ℕ, ◌<◌, ◌≤◌, Bool, true, false, ◌&&◌, ◌||◌, not, cond, eqb, leb, ltb, List, [], ◌∷◌, ◌++◌, length, drop, Option, None, Some, Ok, inl, inr, refl, sym, ap, ◌∙◌, subst, append_assoc, arith, bytes_eq, codes, nat_le, if◌then◌else◌}
-use Rattle.std.{specs.{Option.is_some, List.{All, list_all, list_any}}, proofs.lemmas.List.{append-nil, length-append, Splits.length-slice_split}}
+use Rattle.std.proofs.lemmas.Bool.Decides.{nat_tests}
+use Rattle.std.proofs.lemmas.Grind.{common_steps}
+use Rattle.std.proofs.Common.{◌≡◌, ℕ, ◌<◌, ◌≤◌, Bool, true, false, ◌||◌, not, cond, eqb, leb, List, [], ◌∷◌, ◌++◌, length, drop, Option, None, Some, Ok, refl, sym, ap, ◌∙◌, subst, append_assoc, arith, bytes_eq, codes, nat_le, if◌then◌else◌}
+use Rattle.std.{specs.{Option.is_some, List.{All, list_any}}, proofs.lemmas.List.{append-nil, length-append, Splits.length-slice_split}}
 use Rattle.std.proofs.lemmas.Bool.{and_parts, or_parts, not-false, leb-true, leb-false, ltb-true, lt-leb, cond-true, or_cases, eqb-true, ne_eqb, false_from_ne_true}
 use Rattle.std.proofs.lemmas.{List.{Elements.{All-nil, All-push, All-weaker, recursion_from_All}, Sums.AllPass-from_list_all}, Slice.Eq.bytes_eq-Decides}
 use Rattle.text_lines.specs.{Text.{Row, Place, words_of}, Check.{first, line_part}, Repeated.begins}
@@ -21,11 +23,7 @@ chosen false x y e here there = there refl e
 -- which of two lines it is
 pub version_words : (one two : List ℕ) (head : Bool → List (List ℕ)) → words_of one ≡ head false → words_of two ≡ head true → (bytes : List ℕ) (b : Bool)
     → (if bytes_eq bytes one then Some false else (if bytes_eq bytes two then Some true else None)) ≡ Some b → words_of bytes ≡ head b
-version_words one two head first second bytes b e =
-    chosen (bytes_eq bytes one) _ _ e (λ t k. found one false k t first) (λ other k. chosen (bytes_eq bytes two) _ _ k (λ t l. found two true l t second) (λ neither l. absurd (cc)))
-  where
-    found : (word : List ℕ) (c : Bool) → Some c ≡ Some b → bytes_eq bytes word ≡ true → words_of word ≡ head c → words_of bytes ≡ head b
-    found word c is same words = let it : c ≡ b = cc in ap words_of ((bytes_eq-Decides bytes word).0 same) ∙ words ∙ ap head it
+version_words one two head first second bytes b e = grind (arith, chosen, bytes_eq, bytes_eq-Decides)
 
 pub header_takes : (o : Option Row) (patterned : Bool) → header_line o ≡ Ok patterned → o ≡ Some (row_of (head_words patterned))
 header_takes None patterned e = absurd (cc)
@@ -61,24 +59,16 @@ pub names_nil : Names []
 names_nil = record { few = omega arith; each = All-nil (λ n. is_name n ≡ true); distinct = distinct_nil }
 
 pub name_of_is : (word name : List ℕ) → name_of word ≡ Some name → (is_name word ≡ true) × (name ≡ word)
-name_of_is word name e =
-    let (is, some) = if_some (is_name word) (Some word) name e in
-    (is, cc)
+name_of_is word name e = grind (arith, if_some)
 
 pub name_of_name : (word : List ℕ) → is_name word ≡ true → name_of word ≡ Some word
 name_of_name word is = cond-true (is_name word) (Some word) None is
 
 push_name : (before : List (List ℕ)) (name : List ℕ) → leb 16 (length before) ≡ false → is_name name ≡ true → list_any (bytes_eq name) before ≡ false → Names before → Names (before ++ name ∷ [])
-push_name before name room is fresh ok = record {
-  few = omega (arith, leb-false 16 (length before) room, length-append before (name ∷ []));
-  each = All-push (λ n. is_name n ≡ true) before name ok.each is;
-  distinct = distinct_push bytes_eq bytes_eq-Decides before name fresh ok.distinct;
-}
+push_name before name room is fresh ok = grind (arith, nat_tests, common_steps, leb-false, length-append, All-push, distinct_push, bytes_eq, bytes_eq-Decides)
 
 pub names_take : (before words names : List (List ℕ)) → names_from before words ≡ Ok names → Names before → (names ≡ before ++ words) × Names names
-names_take before [] names e ok =
-    let same : before ≡ names = ok_is {C = TopologyCode} before names e in
-    (sym same ∙ sym (append-nil before), subst Names same ok)
+names_take before [] names e ok = grind (arith, ok_is, append-nil)
 names_take before (word ∷ words) names e ok =
     let (room, e1) = refuse_ok (nat_le 16 (length before)) TooManyNodes _ names e in
     let (name, found, e2) = need_ok (name_of word) BadName _ names e1 in
@@ -97,27 +87,13 @@ names_again before (word ∷ words) ok =
     rw (room, is, fresh) (rest ∙ ap (λ n. Ok n) (append_assoc before (word ∷ []) words))
 
 name_byte_is : (b : ℕ) → is_name_byte b ≡ true → (32 < b) × (eqb b 62 ≡ false)
-name_byte_is b e = (
-  elim (or_cases ((leb 97 b && leb b 122) || (leb 48 b && leb b 57)) (eqb b 95) e) [
-    | inl h ↦ elim (or_cases (leb 97 b && leb b 122) (leb 48 b && leb b 57) h) [
-      | inl letter ↦ omega (arith, leb-true 97 b (and_parts (leb 97 b) (leb b 122) letter).0)
-      | inr digit ↦ omega (arith, leb-true 48 b (and_parts (leb 48 b) (leb b 57) digit).0)
-    ]
-    | inr h ↦ omega (arith, eqb-true b 95 h)
-  ],
-  ne_eqb b 62 (λ k. let wrong : false ≡ true = sym (ap is_name_byte k) ∙ e in absurd (cc)),
-)
+name_byte_is b e = grind (arith, or_cases, leb-true, and_parts, eqb-true, ne_eqb)
 
 pub name_word : (name : List ℕ) → is_name name ≡ true → IsWord name
-name_word name is =
-    let (sizes, bytes) = and_parts (ltb 0 (length name) && leb (length name) 16) (list_all is_name_byte name) is in
-    let (some, few) = and_parts (ltb 0 (length name)) (leb (length name) 16) sizes in
-    (ltb-true 0 (length name) some, All-weaker (λ b. is_name_byte b ≡ true) (λ b. 32 < b) (λ b h. (name_byte_is b h).0) name (AllPass-from_list_all is_name_byte name bytes))
+name_word name is = grind (arith, and_parts, ltb-true, All-weaker, name_byte_is, AllPass-from_list_all)
 
 pub name_free : (name : List ℕ) → is_name name ≡ true → All (λ b. eqb b 62 ≡ false) name
-name_free name is =
-    let (sizes, bytes) = and_parts (ltb 0 (length name) && leb (length name) 16) (list_all is_name_byte name) is in
-    All-weaker (λ b. is_name_byte b ≡ true) (λ b. eqb b 62 ≡ false) (λ b h. (name_byte_is b h).1) name (AllPass-from_list_all is_name_byte name bytes)
+name_free name is = grind (arith, and_parts, All-weaker, name_byte_is, AllPass-from_list_all)
 
 pub names_are_words : (names : List (List ℕ)) → All (λ n. is_name n ≡ true) names → AreWords names
 names_are_words names each = recursion_from_All IsWord names (All-weaker (λ n. is_name n ≡ true) IsWord name_word names each)

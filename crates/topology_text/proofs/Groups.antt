@@ -1,4 +1,6 @@
 -- The lines of groups: what is read stands there, and what stands there is read.
+use Rattle.std.proofs.lemmas.Bool.Decides.{nat_tests}
+use Rattle.std.proofs.lemmas.Grind.{common_steps}
 use Rattle.std.proofs.Common.{◌≡◌, ℕ, ◌<◌, ◌≤◌, true, false, ◌||◌, not, leb, ltb, List, [], ◌∷◌, ◌++◌, map, length, drop, Option, None, Some, Result, Ok, refl, sym, ap, ◌∙◌, subst, arith, codes, decimal, slice_index_or}
 use Rattle.std.{specs.List.All, proofs.lemmas.Bool.{or_parts, not-false, leb-false, lt-leb, le-ltb, ltb-false}}
 use Rattle.std.proofs.lemmas.List.{length-append, length-map, Elements.{All-nil, All-push, All-get_or, All-map, All-weaker, recursion_from_All}}
@@ -6,20 +8,14 @@ use Rattle.text_lines.specs.{Text.{Row, Place, words_of}, Repeated.begins}
 use Rattle.text_lines.proofs.{Checks.{bind_ok, refuse_ok, ok_is}, Distinct.next_has, Gives.{GivesPart, Takes, lines_give}, ReadBack.{Reads, Ends, ReadsLine, lines_again}, Repeated.place, Rows.{row_of, row_back, words_again}}
 use Rattle.text_lines.proofs.Words.{IsWord, AreWords, literal, tokens_from, none_empty, begins_is, decimal_word, token-append}
 use Rattle.schedule.specs.Links.{GroupValue, IsBelow, IsGroup}
-use Rattle.topology_text.specs.{declared.fault.TopologyCode.{TopologyCode, TheVariants.{BadLine, TooManyGroups, WidthRange}}, Names.is_name}
-use Rattle.topology_text.specs.{Spelling.{name_at, link_word, group_words}, Reading.{has_empty, one_to_16, links_from, group_line, groups_at}}
+use Rattle.topology_text.specs.declared.fault.TopologyCode.{TopologyCode, TheVariants.{BadLine, TooManyGroups, WidthRange}}
+use Rattle.topology_text.specs.{Spelling.{link_word, group_words}, Reading.{has_empty, one_to_16, links_from, group_line, groups_at}}
 use Rattle.topology_text.proofs.{Front.{Names, name_word}, Links.{links_nil, links_take, links_again, small_take, small_again}}
 
 -- ---- words of links
 
 link_is_word : (names : List (List ℕ)) (link : ℕ × ℕ) → Names names → IsBelow (length names) link → IsWord (link_word names link)
-link_is_word names link ok below =
-    let (some, token) = name_word (name_at names link.0) (All-get_or (λ n. is_name n ≡ true) names link.0 [] below.from ok.each) in
-    let (some_too, token_too) = name_word (name_at names link.1) (All-get_or (λ n. is_name n ≡ true) names link.1 [] below.to ok.each) in
-    let (mark, mark_token) = literal (62 ∷ []) refl in (
-      omega (arith, length-append (name_at names link.0) (62 ∷ name_at names link.1)),
-      token-append (name_at names link.0) (62 ∷ name_at names link.1) token (token-append (62 ∷ []) (name_at names link.1) mark_token token_too),
-    )
+link_is_word names link ok below = grind (arith, name_word, All-get_or, literal, length-append, token-append)
 
 links_are_words : (names : List (List ℕ)) (links : List (ℕ × ℕ)) → Names names → All (IsBelow (length names)) links → AreWords (map (link_word names) links)
 links_are_words names links ok below =
@@ -82,11 +78,7 @@ group_again names before g ok valid below room =
     group_again_at names before (row_of (group_words names g)) g refl (words_again (group_words names g) (tokens_from (group_words names g) (omega arith) (group_is_words names g ok valid below))) ok valid below room
 
 pub group_begins : (names : List (List ℕ)) (g : GroupValue) → begins (codes "group ") (row_of (group_words names g)).bytes ≡ true
-group_begins names g = begun (map (link_word names) g.links)
-  where
-    begun : (ws : List (List ℕ)) → begins (codes "group ") (row_of (codes "group" ∷ decimal g.width ∷ ws)).bytes ≡ true
-    begun [] = refl
-    begun (w ∷ ws) = refl
+group_begins names g = grind (arith, row_of)
 
 -- ---- the lines of groups
 
@@ -100,11 +92,7 @@ pub groups_nil : (nodes : ℕ) → Groups nodes []
 groups_nil nodes = record { few = omega arith; each = All-nil IsGroup; below = All-nil (λ g. All (IsBelow nodes) g.links) }
 
 push_group : (names : List (List ℕ)) (before : List GroupValue) (r : Row) (g : GroupValue) → GroupTaken names (length before) r g → Groups (length names) before → Groups (length names) (before ++ g ∷ [])
-push_group names before r g taken ok = record {
-  few = omega (arith, taken.room, length-append before (g ∷ []));
-  each = All-push IsGroup before g ok.each taken.valid;
-  below = All-push (λ x. All (IsBelow (length names)) x.links) before g ok.below taken.below;
-}
+push_group names before r g taken ok = grind (arith, nat_tests, common_steps, length-append, All-push)
 
 module _ (names : List (List ℕ)) where
   -- behind so many groups
@@ -119,10 +107,7 @@ module _ (names : List (List ℕ)) where
   groups_give p = lines_give (codes "group ") next_group (group_words names) (Groups (length names)) group_takes (groups_nil (length names)) p
 
   group_reads : Names names → ReadsLine (codes "group ") next_group (group_words names) (Groups (length names))
-  group_reads ok = record {
-    line = λ before g more valid. group_again names (length before) g ok (next_has IsGroup before g more valid.each) (next_has (λ x. All (IsBelow (length names)) x.links) before g more valid.below) (let few = valid.few in omega (arith, few, length-append before (g ∷ more)));
-    starts = group_begins names;
-  }
+  group_reads ok = grind (arith, group_again, next_has, length-append, group_begins)
 
   pub groups_read : (groups : List GroupValue) (n : ℕ) (rest : List Row) → Names names → Groups (length names) groups → Ends (codes "group ") rest → Reads (groups_at names (place n (map row_of (map (group_words names) groups) ++ rest))) groups rest
   groups_read groups n rest ok valid ends = lines_again (codes "group ") next_group (group_words names) (Groups (length names)) (group_reads ok) [] groups n rest valid ends

@@ -29,9 +29,7 @@ ascends_next lo hi (x ∷ before) n more ok =
 
 pub ascends_above : (lo hi : ℕ) (before : List ℕ) (n : ℕ) (more : List ℕ) → Ascends lo hi (before ++ n ∷ more) → list_all (λ other. nat_lt other n) before ≡ true
 ascends_above lo hi [] n more ok = refl
-ascends_above lo hi (x ∷ before) n more ok =
-    let (later, below) = ascends_next (x + 1) hi before n more ok.1 in
-    and_from (ltb x n) (list_all (λ other. nat_lt other n) before) (lt-ltb x n (omega (arith, later))) (ascends_above (x + 1) hi before n more ok.1)
+ascends_above lo hi (x ∷ before) n more ok = grind (arith, ascends_next, and_from, nat_lt, lt-ltb, ascends_above (x + 1) hi before n more ok.1)
 
 ascends_lower : (lo more hi : ℕ) (ns : List ℕ) → lo ≤ more → Ascends more hi ns → Ascends lo hi ns
 ascends_lower lo more hi [] h ok = tt
@@ -114,10 +112,7 @@ filter_row h g (n ∷ ns) =
 -- the pairs that pass a test, chunk by chunk
 pub pairs_held : (h : ℕ × ℕ → Bool) (nodes g len : ℕ) → filter h (flat_map (λ c. map (λ n. (c, n)) (range_with_len 0 nodes)) (range_with_len g len)) ≡ pairs_from g (held_by h nodes g len)
 pairs_held h nodes g zero = refl
-pairs_held h nodes g (suc len) =
-    let row : ℕ → List (ℕ × ℕ) = λ c. map (λ n. (c, n)) (range_with_len 0 nodes) in
-    let rest : List (ℕ × ℕ) = flat_map row (range_with_len (g + 1) len) in
-    filter-append h (row g) rest ∙ ap (λ r. r ++ filter h rest) (filter_row h g (range_with_len 0 nodes)) ∙ ap (λ r. row_of_pairs g (nodes_with h nodes g) ++ r) (pairs_held h nodes (g + 1) len)
+pairs_held h nodes g (suc len) = grind (arith, filter-append, filter_row, pairs_held h nodes (g + 1) len)
 
 -- of these chunks the test passes exactly the pairs with these nodes
 pub held_same : (h : ℕ × ℕ → Bool) (nodes g : ℕ) (rows : List (List ℕ)) → EachAscends nodes rows → ((k n : ℕ) → g ≤ k → h (k, n) ≡ list_any (eqb n) (get_or rows (k - g) [])) → held_by h nodes g (length rows) ≡ rows
@@ -143,9 +138,7 @@ other_row k g n (m ∷ ns) apart = rw (ne_eqb k g apart) (other_row k g n ns apa
 
 any_after : (k g n : ℕ) (rows : List (List ℕ)) → k < g → list_any (same_pair (k, n)) (pairs_from g rows) ≡ false
 any_after k g n [] h = refl
-any_after k g n (ns ∷ more) h =
-    list_any-append (same_pair (k, n)) (row_of_pairs g ns) (pairs_from (g + 1) more)
-    ∙ or_from (list_any (same_pair (k, n)) (row_of_pairs g ns)) (list_any (same_pair (k, n)) (pairs_from (g + 1) more)) (other_row k g n ns (λ e. omega (arith, h, e))) (any_after k (g + 1) n more (omega (arith, h)))
+any_after k g n (ns ∷ more) h = grind (arith, list_any-append, or_from, other_row, any_after k (g + 1) n more (omega (arith, h)))
 
 any_from : (k g n : ℕ) (rows : List (List ℕ)) → g ≤ k → list_any (same_pair (k, n)) (pairs_from g rows) ≡ list_any (eqb n) (get_or rows (k - g) [])
 any_from k g n [] low = refl
@@ -173,10 +166,7 @@ pub rows_held : (chunks nodes : ℕ) (rows : List (List ℕ)) → length rows �
 rows_held chunks nodes rows long ok = held_same (holds (placement_from chunks nodes rows)) nodes 0 rows ok (λ k n low. any_from k 0 n rows low)
 
 pub rows_placement : (chunks nodes : ℕ) (rows : List (List ℕ)) → length rows ≡ chunks → EachAscends nodes rows → IsPlacement (placement_from chunks nodes rows)
-rows_placement chunks nodes rows long ok =
-    let h : ℕ × ℕ → Bool = holds (placement_from chunks nodes rows) in
-    let pairs = ap (pairs_from 0) (sym (rows_held chunks nodes rows long ok) ∙ ap (held_by h nodes 0) long) ∙ sym (pairs_held h nodes 0 chunks) in
-    ap (λ ps. record { chunks = chunks; nodes = nodes; pairs = ps }) pairs
+rows_placement chunks nodes rows long ok = grind (arith, rows_held, pairs_held)
 
 pub placement_rows : (p : PlacementValue) → IsPlacement p → p.pairs ≡ pairs_from 0 (held_by (holds p) p.nodes 0 p.chunks)
 placement_rows p ok = ap (λ q. q.pairs) ok ∙ pairs_held (holds p) p.nodes 0 p.chunks

@@ -1,6 +1,6 @@
 -- A placement that is made pair by pair.
-use Rattle.std.proofs.Common.{◌≡◌, ℕ, ◌+◌, ◌<◌, Bool, true, false, ◌&&◌, ◌||◌, eqb, List, [], length, get_or, take, refl, sym, ap, ◌∙◌, subst}
-use Rattle.std.{specs.List.{All, filter, list_any}, proofs.lemmas.{Bool.{eqb-true, eq-eqb}, List.Folds.list_any_more}}
+use Rattle.std.proofs.Common.{arith, ◌≡◌, ℕ, ◌+◌, ◌<◌, Bool, true, false, ◌&&◌, ◌||◌, eqb, List, [], length, get_or, take, refl, sym, ap, ◌∙◌}
+use Rattle.std.{specs.List.list_any, proofs.lemmas.{Bool.{eqb-true, eq-eqb}, List.Folds.list_any_more}}
 use Rattle.std.proofs.lemmas.List.Elements.{All-from_recursion, All-filter, All-get_or}
 use Rattle.list_laws.proofs.Tests.{same_test}
 use Rattle.schedule.specs.Placed.{PlacementValue, same_pair, holds, all_pairs, placed, IsPlacement, empty_placement, with_pair}
@@ -14,9 +14,7 @@ of_pairs chunks nodes pairs = record { chunks = chunks; nodes = nodes; pairs = p
 
 -- the pairs of a placement are in range
 pub pair_below : (chunks nodes : ℕ) (pairs : List (ℕ × ℕ)) (i : ℕ) (d : ℕ × ℕ) → IsPlacement (of_pairs chunks nodes pairs) → i < length pairs → IsBelow chunks nodes (get_or pairs i d)
-pair_below chunks nodes pairs i d ok within =
-    let all : All (IsBelow chunks nodes) (filter (among pairs) (all_pairs chunks nodes)) = All-filter (among pairs) (IsBelow chunks nodes) (all_pairs chunks nodes) (All-from_recursion (IsBelow chunks nodes) (all_pairs chunks nodes) (all_below chunks nodes)) in
-    All-get_or (IsBelow chunks nodes) pairs i d within (subst (All (IsBelow chunks nodes)) (sym (ap (λ p. p.pairs) ok)) all)
+pair_below chunks nodes pairs i d ok within = grind (arith, All-filter (among pairs) (IsBelow chunks nodes) (all_pairs chunks nodes) (All-from_recursion (IsBelow chunks nodes) (all_pairs chunks nodes) (all_below chunks nodes)), All-get_or)
 
 pub none_inserted : (chunks nodes : ℕ) → empty_placement chunks nodes ≡ placed chunks nodes (among [])
 none_inserted chunks nodes = sym (placed-none chunks nodes (among []) (λ pair c n. refl))

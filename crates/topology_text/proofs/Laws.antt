@@ -1,12 +1,12 @@
 -- Whole topologies: what is read stands there, and what stands there is read.
-use Rattle.std.proofs.Common.{◌≡◌, ℕ, Bool, true, List, [], ◌∷◌, ◌++◌, get_or, map, length, Option, None, Some, Result, Ok, Err, refl, sym, ap, ◌∙◌, subst, arith, IfOk, IfSome, codes}
+use Rattle.std.proofs.Common.{◌≡◌, ℕ, Bool, List, [], ◌∷◌, ◌++◌, get_or, map, length, Option, None, Some, Result, Ok, Err, refl, sym, ap, ◌∙◌, subst, arith, IfOk, IfSome, codes}
 use Rattle.std.{specs.{Option.is_some, List.{All, AllByRecursion}}, proofs.lemmas.List.{append-nil, Elements.{All-nil, All-cons, All-map, recursion_from_All}}}
 use Rattle.text_lines.specs.{Text.{Row, Place, rows_of, start}, Check.{◌>>=◌, refuse, first, line_part}}
 use Rattle.text_lines.proofs.{Checks.{part_ok, part_err_at}, Gives.{Gives, gives_done, gives_then, rows_split, Between, then_on, Cut, cut_here, cut_more, cut_on, Stops, GivesPart}, ReadBack.{Reads, reads_here, reads_as, reads_then, reads_end, Ends}}
 use Rattle.text_lines.proofs.{Repeated.place, Rows.{AreTokens, row_of, rows_again, text_back}, Words.{literal, tokens_from}}
 use Rattle.schedule.{specs.Links.{GroupValue, IsGroup, IsBelow}, proofs.First.each_append}
 use Rattle.collective_spec.specs.Patterns.{PatternValue, IsPattern}
-use Rattle.topology_text.specs.{declared.fault.{TopologyCode.{TopologyCode, TheVariants.BadLine}, TopologyFault.TopologyFault}, Names.{is_name, AreNames}, Answer.Answers}
+use Rattle.topology_text.specs.{declared.fault.{TopologyCode.{TopologyCode, TheVariants.BadLine}, TopologyFault.TopologyFault}, Names.AreNames, Answer.Answers}
 use Rattle.topology_text.specs.Value.{NamedTopologyValue, IsNamed, named_with}
 use Rattle.topology_text.specs.Spelling.{header_words, nodes_words, group_words, custom_lines, lines_of, spelling, head_words}
 use Rattle.topology_text.specs.Reading.{nodes_line, groups_at, pattern_at, named_at, topology_at, topology_of}
@@ -19,12 +19,7 @@ pub names_are : (names : List (List ℕ)) → AreNames names → Names names
 names_are names ok = record { few = ok.few; each = ok.each; distinct = ok.distinct }
 
 pub named_valid : (names : List (List ℕ)) (groups : List GroupValue) (custom : Option PatternValue) → AreNames names → Groups (length names) groups → IfSome custom (IsPattern (length names)) → IsNamed (named_with names groups custom)
-named_valid names groups custom ok valid pattern = record {
-  names = ok;
-  topology = record { some = ok.some; few = ok.few; limit = valid.few; groups = valid.each; nodes = valid.below };
-  as_many = refl;
-  custom = pattern;
-}
+named_valid names groups custom ok valid pattern = grind arith
 
 pub names_taken : (p : Place) (x : List (List ℕ) × Place) → line_part nodes_line p ≡ Ok x → AreNames x.0
 names_taken p x e = ((nodes_give p).ok x e).0
@@ -54,12 +49,7 @@ pub cut_behind : (p q r : Place) (n : ℕ) (patterned : Bool) (names : List (Lis
 cut_behind p q r n patterned names groups custom header nodes shown cut = cut_on (header_words custom ∷ nodes_words names ∷ []) (body_lines names groups custom) p r n (front_on p q r patterned names custom shown header nodes) cut
 
 one_name : AreNames (codes "n0" ∷ [])
-one_name = record {
-  some = omega arith;
-  few = omega arith;
-  each = All-cons (λ n. is_name n ≡ true) (codes "n0") [] refl (All-nil (λ n. is_name n ≡ true));
-  distinct = λ i j d before h. absurd (omega arith);
-}
+one_name = grind (arith, All-cons, All-nil)
 
 -- the topology that was read, or one whose first lines were
 pub topology_gives : (p : Place) → GivesPart lines_of IsNamed p (topology_at p)
@@ -105,9 +95,7 @@ pattern_of_read t n rest ok = pattern_reads t.names t.custom n rest (names_are t
 
 -- its rows, part by part
 pub rows_parted : (t : NamedTopologyValue) (rest : List Row) → map row_of (lines_of t) ++ rest ≡ row_of (head_words (is_some t.custom)) ∷ row_of (nodes_words t.names) ∷ (map row_of (map (group_words t.names) t.topology.groups) ++ (map row_of (custom_lines t.names t.custom) ++ rest))
-rows_parted t rest =
-    ap (λ rows. row_of (header_words t.custom) ∷ row_of (nodes_words t.names) ∷ rows) (rows_split (map (group_words t.names) t.topology.groups) (custom_lines t.names t.custom) rest)
-    ∙ ap (λ ws. row_of ws ∷ row_of (nodes_words t.names) ∷ (map row_of (map (group_words t.names) t.topology.groups) ++ (map row_of (custom_lines t.names t.custom) ++ rest))) (head_is t.custom)
+rows_parted t rest = grind (arith, row_of, rows_split, head_is)
 
 topology_reads : (n : ℕ) (t : NamedTopologyValue) (rest : List Row) → IsNamed t → Ends (codes "group ") rest → Reads (topology_at (place n (map row_of (lines_of t) ++ rest))) t rest
 unfolding topology_at named_at
@@ -128,15 +116,7 @@ header_are_words None = tokens_from (header_words None) (omega arith) (literal (
 header_are_words (Some p) = tokens_from (header_words (Some p)) (omega arith) (literal (codes "topology") refl, (literal (codes "2") refl, tt))
 
 pub lines_are_words : (t : NamedTopologyValue) → IsNamed t → AllByRecursion AreTokens (lines_of t)
-lines_are_words t ok =
-    let valid = groups_are t ok in
-    let names = names_are t.names ok.names in (
-      header_are_words t.custom,
-      (
-        tokens_from (nodes_words t.names) (omega arith) (nodes_are_words t.names ok.names),
-        each_append AreTokens (map (group_words t.names) t.topology.groups) (custom_lines t.names t.custom) (groups_are_words t.names t.topology.groups names valid.each valid.below) (custom_are_words t.names t.custom names (pattern_is t ok)),
-      ),
-    )
+lines_are_words t ok = grind (arith, groups_are, names_are, header_are_words, tokens_from, nodes_are_words, each_append, groups_are_words, custom_are_words, pattern_is)
 
 pub rows_of_spelling : (t : NamedTopologyValue) → IsNamed t → rows_of (spelling t) ≡ map row_of (lines_of t)
 unfolding spelling
@@ -169,9 +149,7 @@ all_take text t e = let (valid, rows) = (whole_gives (start text)).ok t e in (va
 
 pub all_again : (t : NamedTopologyValue) → IsNamed t → topology_of (spelling t) ≡ Ok t
 unfolding topology_of
-all_again t ok =
-    let read = topology_reads 1 t [] ok refl in
-    ap (λ rows. whole_at (place 1 rows)) (rows_of_spelling t ok ∙ sym (append-nil (map row_of (lines_of t)))) ∙ reads_end _ _ read (λ n. refl)
+all_again t ok = grind (arith, topology_reads 1 t [] ok refl, place, rows_of_spelling, append-nil, row_of, reads_end)
 
 pub is_found : (text : List ℕ) (r : Result NamedTopologyValue TopologyFault) → Answers r (topology_of text) → IfOk r (λ t. IsNamed t × (text ≡ spelling t))
 is_found text (Ok t) e = all_take text t e

@@ -1,10 +1,11 @@
 -- The links and the width of a group's line: what is read stands there, and what stands there is read.
+use Rattle.std.proofs.lemmas.Bool.Decides.{nat_tests}
+use Rattle.std.proofs.lemmas.Grind.{common_steps}
 use Rattle.std.proofs.Common.{◌≡◌, ℕ, ◌<◌, ◌≤◌, true, false, eqb, ltb, List, [], ◌∷◌, ◌++◌, map, length, get_or, None, Some, Ok, refl, sym, ap, ◌∙◌, subst, append_assoc, arith, bytes_eq, decimal}
 use Rattle.std.{specs.{Bool.Decides, List.{All, list_any, join_with_byte, position_or_len}}, proofs.lemmas.List.{append-nil, length-map, map_push}}
 use Rattle.std.proofs.lemmas.{Bool.{eqb-false, ne_eqb, cond-true, lt-ltb, false_from_ne_true}, Slice.Eq.bytes_eq-Decides}
 use Rattle.std.proofs.lemmas.List.{Elements.{All-nil, All-push, All-get_or}, Quantifiers.position-Some, Sums.position_or_len_is}
 use Rattle.std.proofs.lemmas.List.Splits.{slice_split_at, slice_split_none, join_with_byte-slice_split}
-use Rattle.text_lines.specs.Number.{number_up_to}
 use Rattle.text_lines.proofs.{Checks.{bind_ok, refuse_ok, need_ok, ok_is}, Distinct.{AreDistinct, distinct_nil, distinct_push, none_before, next_has}}
 use Rattle.text_lines.proofs.Numbers.{up_to_found, up_to_some}
 use Rattle.schedule.{specs.{Links.{IsLink, IsBelow, IsGroup}, Placed.same_pair}, proofs.Placing.{pair_is, pair_itself}}
@@ -15,9 +16,7 @@ use Rattle.topology_text.proofs.{Front.{Names, name_free}, Sides.{pieces, sides}
 -- ---- nodes
 
 pub node_is : (names : List (List ℕ)) (name : List ℕ) (i : ℕ) → node_of names name ≡ Some i → (i < length names) × (name_at names i ≡ name)
-node_is names name i e =
-    let (within, passes, earlier) = position-Some (bytes_eq name) names i [] e in
-    (within, sym ((bytes_eq-Decides name (get_or names i [])).0 passes))
+node_is names name i e = grind (arith, position-Some, bytes_eq, bytes_eq-Decides)
 
 pub node_again : (names : List (List ℕ)) (i : ℕ) → AreDistinct names → i < length names → node_of names (name_at names i) ≡ Some i
 node_again names i distinct within =
@@ -79,16 +78,10 @@ pub links_nil : (nodes : ℕ) → Links nodes []
 links_nil nodes = record { each = All-nil IsLink; below = All-nil (IsBelow nodes); distinct = distinct_nil }
 
 push_link : (nodes : ℕ) (before : List (ℕ × ℕ)) (link : ℕ × ℕ) → IsLink link → IsBelow nodes link → list_any (same_pair link) before ≡ false → Links nodes before → Links nodes (before ++ link ∷ [])
-push_link nodes before link apart below fresh ok = record {
-  each = All-push IsLink before link ok.each apart;
-  below = All-push (IsBelow nodes) before link ok.below below;
-  distinct = distinct_push same_pair same_pair-Decides before link fresh ok.distinct;
-}
+push_link nodes before link apart below fresh ok = grind (arith, nat_tests, common_steps, All-push, distinct_push, same_pair-Decides)
 
 pub links_take : (names : List (List ℕ)) (before : List (ℕ × ℕ)) (words : List (List ℕ)) (links : List (ℕ × ℕ)) → links_from names before words ≡ Ok links → Links (length names) before → (map (link_word names) links ≡ map (link_word names) before ++ words) × Links (length names) links
-links_take names before [] links e ok =
-    let same : before ≡ links = ok_is {C = TopologyCode} before links e in
-    (ap (map (link_word names)) (sym same) ∙ sym (append-nil (map (link_word names) before)), subst (Links (length names)) same ok)
+links_take names before [] links e ok = grind (arith, ok_is, append-nil)
 links_take names before (word ∷ words) links e ok =
     let (link, read, e1) = bind_ok (link_read names word) _ links e in
     let (fresh, e2) = refuse_ok (list_any (same_pair link) before) LinkTwice _ links e1 in
@@ -110,13 +103,7 @@ links_again names before (link ∷ rest) ok valid =
 -- ---- a number from 1 to 16
 
 pub small_take : (code : TopologyCode) (word : List ℕ) (n : ℕ) → one_to_16 code word ≡ Ok n → (word ≡ decimal n) × (0 < n) × (n ≤ 16)
-small_take code word n e =
-    let (k, found, e1) = need_ok (number_up_to 16 word) code _ n e in
-    let (positive, e2) = refuse_ok (eqb k 0) code _ n e1 in
-    let same : k ≡ n = ok_is {C = TopologyCode} k n e2 in
-    let (spelled, small) = up_to_found 16 k word found in
-    let some = eqb-false k 0 positive in
-    (spelled ∙ ap decimal same, omega arith, omega arith)
+small_take code word n e = grind (arith, need_ok, refuse_ok, ok_is, up_to_found, eqb-false)
 
 pub small_again : (code : TopologyCode) (n : ℕ) → 0 < n → n ≤ 16 → one_to_16 code (decimal n) ≡ Ok n
 small_again code n some small =

@@ -5,8 +5,8 @@ use Rattle.std.proofs.lemmas.{Fmt.decimal_injective, List.{append-nil, map_push,
 use Rattle.text_lines.specs.{Text.{Row, Place, words_of}, Check.{first, line_part}, Repeated.begins}
 use Rattle.text_lines.proofs.{Checks.{refuse_ok, need_ok, ok_is}, Gives.{Gives, Between, line_gives}, Rows.{row_of, row_back, words_again}}
 use Rattle.text_lines.proofs.Words.{IsWord, AreWords, literal, tokens_from, none_empty, begins_is, decimal_word}
-use Rattle.topology_text.specs.{declared.fault.TopologyCode.{TopologyCode, TheVariants.{BadLine, UnknownNode, BaseRange, NameOrder}}, Names.is_name}
-use Rattle.topology_text.specs.{Spelling.name_at, Reading.{has_empty, node_of, one_to_16, custom_line, holders_from, has_front, holders_line}}
+use Rattle.topology_text.specs.declared.fault.TopologyCode.{TopologyCode, TheVariants.{BadLine, UnknownNode, BaseRange, NameOrder}}
+use Rattle.topology_text.specs.{Spelling.name_at, Reading.{has_empty, node_of, custom_line, holders_from, has_front, holders_line}}
 use Rattle.topology_text.proofs.{Front.{Names, name_word}, Links.{node_is, node_again, small_take, small_again}, Held.{Ascends, ascends_push, ascends_next, ascends_above}}
 
 -- ---- the number of chunks
@@ -45,10 +45,7 @@ pub custom_gives : (p : Place) → Gives (λ (e : TopologyCode × ℕ). e.1 ≡ 
 custom_gives p = line_gives custom_line base_words p (λ base e. custom_take (first p.rows) base e)
 
 custom_at : (r : Row) (base : ℕ) → r.whole ≡ true → begins (codes "custom ") r.bytes ≡ true → words_of r.bytes ≡ base_words base → 0 < base → base ≤ 16 → custom_line (Some r) ≡ Ok base
-custom_at r base whole front words some few =
-    let two : eqb (length (words_of r.bytes)) 2 ≡ true = ap (λ w. eqb (length w) 2) words in
-    let read : one_to_16 BaseRange (slice_index_or (words_of r.bytes) 1 []) ≡ Ok base = ap (λ w. one_to_16 BaseRange (slice_index_or w 1 [])) words ∙ small_again BaseRange base some few in
-    rw (whole, front, two) read
+custom_at r base whole front words some few = grind (arith, slice_index_or, small_again)
 
 pub custom_again : (base : ℕ) → 0 < base → base ≤ 16 → custom_line (Some (row_of (base_words base))) ≡ Ok base
 custom_again base some few = custom_at (row_of (base_words base)) base refl refl (words_again (base_words base) (tokens_from (base_words base) (omega arith) (base_are_words base few))) some few
@@ -59,9 +56,7 @@ pub out_of_order : (names : List (List ℕ)) (before : List ℕ) (word : List �
 out_of_order names before word words node found behind = rw (sym found, behind) refl
 
 pub holders_take : (names : List (List ℕ)) (before : List ℕ) (words : List (List ℕ)) (nodes : List ℕ) → holders_from names before words ≡ Ok nodes → Ascends 0 (length names) before → (map (name_at names) nodes ≡ map (name_at names) before ++ words) × Ascends 0 (length names) nodes
-holders_take names before [] nodes e ok =
-    let same : before ≡ nodes = ok_is {C = TopologyCode} before nodes e in
-    (ap (map (name_at names)) (sym same) ∙ sym (append-nil (map (name_at names) before)), subst (Ascends 0 (length names)) same ok)
+holders_take names before [] nodes e ok = grind (arith, ok_is, append-nil)
 holders_take names before (word ∷ words) nodes e ok =
     let (node, found, e1) = need_ok (node_of names word) UnknownNode _ nodes e in
     let above : Bool = list_all (λ other. nat_lt other node) before in
@@ -83,11 +78,7 @@ holders_again names before (node ∷ more) ok valid =
 -- ---- the number of a chunk
 
 pub same_number : (word : List ℕ) (read number : ℕ) → word ≡ decimal read → read < 2 ^ 64 → number < 2 ^ 64 → eqb read number ≡ bytes_eq (decimal number) word
-same_number word read number spelled small small_too = by_test (eqb read number) refl
-  where
-    by_test : (b : Bool) → eqb read number ≡ b → b ≡ bytes_eq (decimal number) word
-    by_test true e = sym ((bytes_eq-Decides (decimal number) word).1 (ap decimal (sym (eqb-true read number e)) ∙ sym spelled))
-    by_test false e = sym (false_from_ne_true (bytes_eq (decimal number) word) (λ t. eqb-false read number e (decimal_injective read number small small_too (sym spelled ∙ sym ((bytes_eq-Decides (decimal number) word).0 t)))))
+same_number word read number spelled small small_too = grind (arith, bytes_eq, bytes_eq-Decides, eqb-true, false_from_ne_true, eqb-false, decimal_injective)
 
 pub no_number : (word : List ℕ) (number : ℕ) → (word ≡ decimal number → ⊥) → false ≡ bytes_eq (decimal number) word
 no_number word number other = sym (false_from_ne_true (bytes_eq (decimal number) word) (λ t. other (sym ((bytes_eq-Decides (decimal number) word).0 t))))
@@ -100,9 +91,7 @@ named_words names word g nodes = word ∷ decimal g ∷ map (name_at names) node
 
 nodes_are_words : (names : List (List ℕ)) (lo : ℕ) (nodes : List ℕ) → Names names → Ascends lo (length names) nodes → AreWords (map (name_at names) nodes)
 nodes_are_words names lo [] ok valid = tt
-nodes_are_words names lo (node ∷ nodes) ok valid =
-    let (low, within) = valid.0 in
-    (name_word (name_at names node) (All-get_or (λ n. is_name n ≡ true) names node [] within ok.each), nodes_are_words names (node + 1) nodes ok valid.1)
+nodes_are_words names lo (node ∷ nodes) ok valid = grind (arith, name_word, All-get_or, nodes_are_words names (node + 1) nodes ok valid.1)
 
 pub named_are_words : (names : List (List ℕ)) (word : List ℕ) (g : ℕ) (nodes : List ℕ) → IsWord word → g < 2 ^ 64 → Names names → Ascends 0 (length names) nodes → AreWords (named_words names word g nodes)
 named_are_words names word g nodes is small ok valid = (is, (decimal_word g small, nodes_are_words names 0 nodes ok valid))
@@ -110,9 +99,7 @@ named_are_words names word g nodes is small ok valid = (is, (decimal_word g smal
 front_is : (word number : List ℕ) (words : List (List ℕ)) → has_front word number words ≡ true → words ≡ word ∷ number ∷ drop 2 words
 front_is word number [] e = absurd (cc)
 front_is word number (a ∷ []) e = absurd (cc)
-front_is word number (a ∷ b ∷ words) e =
-    let (first, second) = and_parts (bytes_eq word a) (bytes_eq number b) e in
-    ap (λ x. x ∷ b ∷ words) (sym ((bytes_eq-Decides word a).0 first)) ∙ ap (λ y. word ∷ y ∷ words) (sym ((bytes_eq-Decides number b).0 second))
+front_is word number (a ∷ b ∷ words) e = grind (arith, and_parts, bytes_eq, bytes_eq-Decides)
 
 holders_line_take : (names : List (List ℕ)) (word : List ℕ) (g : ℕ) (o : Option Row) (nodes : List ℕ) → holders_line names word g o ≡ Ok nodes → (o ≡ Some (row_of (named_words names word g nodes))) × Ascends 0 (length names) nodes
 holders_line_take names word g None nodes e = absurd (cc)
@@ -131,12 +118,7 @@ pub holders_line_gives : (names : List (List ℕ)) (word : List ℕ) (g : ℕ) (
 holders_line_gives names word g p = line_gives (holders_line names word g) (named_words names word g) p (λ nodes e. holders_line_take names word g (first p.rows) nodes e)
 
 holders_at_row : (names : List (List ℕ)) (word : List ℕ) (g : ℕ) (r : Row) (nodes : List ℕ) → r.whole ≡ true → words_of r.bytes ≡ named_words names word g nodes → IsWord word → g < 2 ^ 64 → Names names → Ascends 0 (length names) nodes → holders_line names word g (Some r) ≡ Ok nodes
-holders_at_row names word g r nodes whole words is small ok valid =
-    let itself : (w : List ℕ) → bytes_eq w w ≡ true = λ w. (bytes_eq-Decides w w).1 refl in
-    let front : has_front word (decimal g) (words_of r.bytes) ≡ true = ap (has_front word (decimal g)) words ∙ and_from (bytes_eq word word) (bytes_eq (decimal g) (decimal g)) (itself word) (itself (decimal g)) in
-    let full : has_empty (words_of r.bytes) ≡ false = ap has_empty words ∙ none_empty (named_words names word g nodes) (named_are_words names word g nodes is small ok valid) in
-    let read : holders_from names [] (drop 2 (words_of r.bytes)) ≡ Ok nodes = ap (λ ws. holders_from names [] (drop 2 ws)) words ∙ holders_again names [] nodes ok valid in
-    rw (whole, front, full) read
+holders_at_row names word g r nodes whole words is small ok valid = grind (arith, bytes_eq, bytes_eq-Decides, and_from, none_empty, named_are_words, holders_again)
 
 pub holders_line_again : (names : List (List ℕ)) (word : List ℕ) (g : ℕ) (nodes : List ℕ) → IsWord word → g < 2 ^ 64 → Names names → Ascends 0 (length names) nodes → holders_line names word g (Some (row_of (named_words names word g nodes))) ≡ Ok nodes
 holders_line_again names word g nodes is small ok valid =

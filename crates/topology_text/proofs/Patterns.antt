@@ -18,16 +18,7 @@ abbrev pub pattern_from : ℕ → ℕ → List Holders → PatternValue
 pattern_from base nodes hs = pattern_of base nodes (with_holders no_pairs 0 hs)
 
 pub pattern_valid : (base nodes : ℕ) (hs : List Holders) → length hs ≡ base → 1 ≤ base → base ≤ 16 → AreHeld nodes hs → IsPattern nodes (pattern_from base nodes hs)
-pattern_valid base nodes hs many some few held = record {
-  some = some;
-  few = few;
-  before = rows_placement base nodes (befores hs) (length-map hs (λ h. h.0) ∙ many) (befores_ascend nodes hs held);
-  before_chunks = refl;
-  before_nodes = refl;
-  after = rows_placement base nodes (afters hs) (length-map hs (λ h. h.1) ∙ many) (afters_ascend nodes hs held);
-  after_chunks = refl;
-  after_nodes = refl;
-}
+pattern_valid base nodes hs many some few held = grind (arith, rows_placement, befores, length-map, befores_ascend, afters, afters_ascend)
 
 -- who holds the chunks of two placements
 abbrev held_in : PlacementValue → PlacementValue → ℕ → ℕ → List Holders
@@ -104,9 +95,7 @@ lines_valid names p base q found rest count e1 e2 same =
     (subst (λ (f : Pairs). IsPattern (length names) (pattern_of base (length names) f)) (sym taken.pairs) (pattern_valid base (length names) taken.held taken.many head.some head.few taken.valid))
 
 pub pattern_made : (base count : ℕ) (found : Pairs) (b a : PlacementValue) → IsPattern count (pattern_of base count found) → b ≡ record { chunks = base; nodes = count; pairs = found.before } → a ≡ record { chunks = base; nodes = count; pairs = found.after } → IsPattern b.nodes (record { base = base; before = b; after = a })
-pattern_made base count found b a ok one two =
-    subst (λ (y : PlacementValue). IsPattern b.nodes (record { base = base; before = b; after = y })) (sym two)
-    (subst (λ (x : PlacementValue). IsPattern x.nodes (record { base = base; before = x; after = record { chunks = base; nodes = count; pairs = found.after } })) (sym one) ok)
+pattern_made base count found b a ok one two = grind arith
 
 -- a valid pattern, where one is due, and else none
 pub record IsCustom (names : List (List ℕ)) (patterned : Bool) (custom : Option PatternValue) : Type 0 where

@@ -1,6 +1,8 @@
 -- What the printer appends is the spelling.
+use Rattle.std.proofs.lemmas.Bool.Decides.{nat_tests}
+use Rattle.std.proofs.lemmas.Grind.{common_steps}
 use Rattle.std.proofs.Common.{◌≡◌, ℕ, ◌+◌, Bool, true, false, cond, List, [], ◌∷◌, ◌++◌, map, length, take, ◌≤◌, Option, None, Some, refl, sym, ap, ◌∙◌, append_assoc, arith, codes, decimal, Result, Ok, Err, OnErr}
-use Rattle.std.{specs.{Io.StartsWith, List.{filter, flat_map, join_with_byte, range_with_len}}, proofs.lemmas.Grind.flat_map-append}
+use Rattle.std.{specs.{Io.StartsWith, List.{filter, flat_map, range_with_len}}, proofs.lemmas.Grind.flat_map-append}
 use Rattle.std.proofs.{Math.Seq.take-append_seam, lemmas.List.{append-nil, length-take, map-append, map-id, take-take, take_all}}
 use Rattle.std.proofs.lemmas.List.FromFn.{filter_of_map_range_with_len_more, map-range_with_len_more}
 use Rattle.text_lines.{specs.Text.{line, text_of, fields}, proofs.Words.join_fields}
@@ -18,10 +20,7 @@ pub appended_three : (a b c d x y z all : List ℕ) → b ≡ a ++ x → c ≡ b
 appended_three a b c d x y z all hb hc hd whole = rw (hd, hc, hb, sym whole) (simp append_assoc)
 
 pub group_is : (names : List (List ℕ)) (g : GroupValue) → codes "group " ++ (decimal g.width ++ (fields (map (link_word names) g.links) ++ codes "\n")) ≡ line (group_words names g)
-group_is names g =
-    let words : List (List ℕ) = map (link_word names) g.links in
-    let joined : join_with_byte 32 (group_words names g) ≡ codes "group" ++ (32 ∷ decimal g.width ++ fields words) = join_fields (codes "group") (decimal g.width ∷ words) in
-    sym (ap (λ t. t ++ 10 ∷ []) joined ∙ append_assoc (codes "group") (32 ∷ decimal g.width ++ fields words) (10 ∷ []) ∙ ap (λ t. codes "group" ++ t) (append_assoc (32 ∷ decimal g.width) (fields words) (10 ∷ [])))
+group_is names g = grind (arith, join_fields, append_assoc)
 
 -- the first two lines, but for the names and the end of the second
 abbrev pub front_text : Option PatternValue → List ℕ
@@ -33,9 +32,7 @@ front_is None = refl
 front_is (Some p) = refl
 
 pub front_lines : (names : List (List ℕ)) (custom : Option PatternValue) → front_text custom ++ (fields names ++ codes "\n") ≡ text_of (header_words custom ∷ nodes_words names ∷ [])
-front_lines names custom =
-    let second : codes "nodes" ++ (fields names ++ codes "\n") ≡ line (nodes_words names) ++ [] = sym (append-nil (line (nodes_words names)) ∙ ap (λ w. w ++ 10 ∷ []) (join_fields (codes "nodes") names) ∙ append_assoc (codes "nodes") (fields names) (10 ∷ [])) in
-    ap (λ f. f ++ (fields names ++ codes "\n")) (front_is custom) ∙ append_assoc (line (header_words custom)) (codes "nodes") (fields names ++ codes "\n") ∙ ap (λ r. line (header_words custom) ++ r) second
+front_lines names custom = grind (arith, append-nil, join_fields, append_assoc, front_is)
 
 pub holders_is : (word : List ℕ) (g : ℕ) (names : List (List ℕ)) → word ++ (codes " " ++ (decimal g ++ (fields names ++ codes "\n"))) ≡ line (word ∷ decimal g ∷ names)
 holders_is word g names =
@@ -51,16 +48,10 @@ passing_more p n =
 
 -- what a node's name adds behind those of the nodes before it
 pub name_more : (names : List (List ℕ)) (p : ℕ → Bool) (n : ℕ) → p n ≡ true → fields (map (name_at names) (filter p (range_with_len 0 (n + 1)))) ≡ fields (map (name_at names) (filter p (range_with_len 0 n))) ++ (32 ∷ name_at names n)
-name_more names p n passes =
-    let before = filter p (range_with_len 0 n) in
-    ap (λ l. fields (map (name_at names) l)) (passing_more p n ∙ ap (λ b. before ++ cond b (n ∷ []) []) passes)
-    ∙ ap fields (map-append (name_at names) before (n ∷ [])) ∙ flat_map-append (λ w. 32 ∷ w) (map (name_at names) before) (name_at names n ∷ [])
-    ∙ ap (λ w. fields (map (name_at names) before) ++ 32 ∷ w) (append-nil (name_at names n))
+name_more names p n passes = grind (arith, passing_more, map-append, flat_map-append, append-nil)
 
 pub name_skipped : (p : ℕ → Bool) (n : ℕ) → p n ≡ false → filter p (range_with_len 0 (n + 1)) ≡ filter p (range_with_len 0 n)
-name_skipped p n fails =
-    let before = filter p (range_with_len 0 n) in
-    passing_more p n ∙ ap (λ b. before ++ cond b (n ∷ []) []) fails ∙ append-nil before
+name_skipped p n fails = grind (arith, passing_more, append-nil)
 
 -- the two lines of a chunk
 abbrev pub chunk_lines : List (List ℕ) → PatternValue → ℕ → List (List (List ℕ))
@@ -78,21 +69,13 @@ chunk_more names p n =
 -- the lines of a text one after the other
 pub spelling_is : (t : NamedTopologyValue) → text_of (header_words t.custom ∷ nodes_words t.names ∷ []) ++ (text_of (map (group_words t.names) t.topology.groups) ++ text_of (custom_lines t.names t.custom)) ≡ spelling t
 unfolding spelling
-spelling_is t =
-    let front : List (List (List ℕ)) = header_words t.custom ∷ nodes_words t.names ∷ [] in
-    let groups = map (group_words t.names) t.topology.groups in
-    let custom = custom_lines t.names t.custom in
-    ap (λ r. text_of front ++ r) (sym (flat_map-append line groups custom)) ∙ sym (flat_map-append line front (groups ++ custom))
+spelling_is t = grind (arith, nat_tests, common_steps, flat_map-append)
 
 -- a topology that was printed in three pieces, of which the groups were shown one by one
 pub topology_printed : (t : NamedTopologyValue) (names : List (List ℕ)) (shown : List GroupValue) (count : ℕ) (out first second last more : List ℕ)
     → first ≡ out ++ text_of (header_words t.custom ∷ nodes_words t.names ∷ []) → second ≡ first ++ text_of (map (group_words names) (take count shown)) → length shown ≤ count → shown ≡ t.topology.groups → names ≡ t.names
     → last ≡ second ++ more → more ≡ text_of (custom_lines t.names t.custom) → last ≡ out ++ spelling t
-topology_printed t names shown count out first second last more begun so_far end same named ended custom =
-    let front = text_of (header_words t.custom ∷ nodes_words t.names ∷ []) in
-    let groups = text_of (map (group_words t.names) t.topology.groups) in
-    let printed : second ≡ first ++ groups = so_far ∙ ap (λ n. first ++ text_of (map (group_words n) (take count shown))) named ∙ ap (λ g. first ++ text_of (map (group_words t.names) g)) (take_all count shown end ∙ same) in
-    appended_three out first second last front groups more (spelling t) begun printed ended (ap (λ r. front ++ (groups ++ r)) custom ∙ spelling_is t)
+topology_printed t names shown count out first second last more begun so_far end same named ended custom = grind (arith, nat_tests, common_steps, take_all, appended_three, spelling_is)
 
 -- ---- what stays in front where memory runs out
 
@@ -103,9 +86,7 @@ pub kept_more : (new old more : List ℕ) → new ≡ old ++ more → StartsWith
 kept_more new old more e = ap (take (length old)) e ∙ take-append_seam old more
 
 pub kept_on : (new middle old : List ℕ) → StartsWith new middle → StartsWith middle old → StartsWith new old
-kept_on new middle old later earlier =
-    let short : length old ≤ length middle = omega (arith, ap length earlier, length-take (length old) middle) in
-    sym (take-take (length old) (length middle) new short) ∙ ap (take (length old)) later ∙ earlier
+kept_on new middle old later earlier = grind (arith, length-take, take-take)
 
 pub ruleset kept_rules = (kept_same, kept_more, kept_on)
 

@@ -1,7 +1,7 @@
-use Rattle.std.{proofs.Common.{◌≡◌, ℕ, ◌<◌, ◌/◌, true, List, sym, ap, ◌∙◌, subst}, specs.List.All}
+use Rattle.std.{proofs.Common.{arith, ◌≡◌, ℕ, ◌<◌, ◌/◌, true, List, sym, ap, ◌∙◌, subst}, specs.List.All}
 use Rattle.schedule.specs.Links.{IsLink, IsGroup}
-use Rattle.topology_text.specs.declared.family_kind.FamilyKind.{FamilyKind, TheVariants.{Complete, Shared, Switch, Boxes}}
-use Rattle.topology_text.specs.Family.{is_allowed, family_links, one_wide, port, cable}
+use Rattle.topology_text.specs.declared.family_kind.FamilyKind.{FamilyKind, TheVariants.{Complete, Switch, Boxes}}
+use Rattle.topology_text.specs.Family.{is_allowed, family_links, port, cable}
 use Rattle.topology_text.proofs.{FamilyLinks.family_links_are, FamilyGroups.{shared_is_group, ports_out, ports_in, cables_are}}
 use Rattle.topology_text.proofs.families.family_groups.Goals as goal
 
@@ -10,9 +10,7 @@ at_links : (P : List (ℕ × ℕ) → Type 0) (kind its : FamilyKind) (size : �
 at_links P kind its size links is made holds ok = subst P (sym (made ∙ ap (λ k. family_links k size) is)) (holds (ap (λ k. is_allowed k size) (sym is) ∙ ok))
 
 pub new-requires : goal.new-requires
-new-requires c =
-    let size = c.args.size in
-    at_links (λ links. IsGroup (one_wide links)) c.args.kind Shared size c.in_ok-links.links.items c.in-Shared.is c.in_ok-links.ensures (shared_is_group size) c.requires
+new-requires c = grind (arith, at_links, shared_is_group)
 
 pub mesh_groups-requires : goal.mesh_groups-requires
 mesh_groups-requires c = subst (All IsLink) (sym (c.deref.ensures.value ∙ c.in_ok-links.ensures)) (family_links_are c.args.kind c.args.size c.requires).each

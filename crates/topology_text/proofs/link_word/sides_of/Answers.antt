@@ -12,7 +12,4 @@ returns-then-end-word c =
     c.end_of-end.ensures.after c.if-end-word.true c.end_of-end.ensures.apart (c.end_of-end.ensures.stops c.if-end-word.true)
 
 pub returns : goal.returns
-returns c =
-    let before : c.end_of-at.result < length c.args.word.now = omega arith in
-    two_sides c.args.word.now c.end_of-at.result c.end_of-end.result before c.end_of-at.ensures.apart (c.end_of-at.ensures.stops before)
-    c.end_of-end.ensures.after c.end_of-end.ensures.before c.if-end-word.false c.end_of-end.ensures.apart
+returns c = grind (arith, two_sides)

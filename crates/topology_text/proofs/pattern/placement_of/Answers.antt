@@ -7,14 +7,10 @@ pub loop-chunk-init : goal.loop-chunk-init
 loop-chunk-init c = c.in_ok-placement.ensures ∙ ap (λ n. empty_placement n c.args.nodes) c.from.ensures ∙ none_inserted c.args.chunks c.args.nodes
 
 pub insert-requires-clause-chunk : goal.insert-requires-clause-chunk
-insert-requires-clause-chunk c =
-    let (chunk, node) = pair_below c.args.chunks c.args.nodes c.args.pairs.now c.loop-chunk.chunk-index (0, 0) c.requires c.loop-chunk-test.true in
-    omega (arith, chunk, ap (λ p. p.chunks) c.loop-chunk.invariant)
+insert-requires-clause-chunk c = grind (arith, pair_below)
 
 pub insert-requires-clause-node : goal.insert-requires-clause-node
-insert-requires-clause-node c =
-    let (chunk, node) = pair_below c.args.chunks c.args.nodes c.args.pairs.now c.loop-chunk.chunk-index (0, 0) c.requires c.loop-chunk-test.true in
-    omega (arith, node, ap (λ p. p.nodes) c.loop-chunk.invariant)
+insert-requires-clause-node c = grind (arith, pair_below)
 
 pub loop-chunk-preserved : goal.loop-chunk-preserved
 loop-chunk-preserved c =

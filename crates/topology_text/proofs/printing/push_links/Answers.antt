@@ -1,4 +1,6 @@
-use Rattle.std.{proofs.Common.{◌≡◌, ◌<◌, ◌+◌, ◌++◌, ◌∷◌, ℕ, List, length, map, take, get_or, ap, sym, ◌∙◌}, specs.Io.StartsWith}
+use Rattle.std.proofs.lemmas.Bool.Decides.{nat_tests}
+use Rattle.std.proofs.lemmas.Grind.{common_steps}
+use Rattle.std.proofs.Common.{arith, ◌≡◌, ◌<◌, ◌+◌, ◌++◌, ◌∷◌, ℕ, List, length, map, take, get_or}
 use Rattle.std.proofs.lemmas.List.{flat_map_more, map_push, take_more}
 use Rattle.text_lines.specs.Text.{fields}
 use Rattle.topology_text.{specs.Spelling.link_word, proofs.Printed.{kept_behind, at_err}}
@@ -6,16 +8,10 @@ use Rattle.topology_text.proofs.printing.push_links.Goals as goal
 
 -- one more link
 links_more : (names : List (List ℕ)) (links : List (ℕ × ℕ)) (i : ℕ) (a b c : List ℕ) (d : ℕ × ℕ) → i < length links → b ≡ a ++ fields (map (link_word names) (take i links)) → c ≡ b ++ 32 ∷ link_word names (get_or links i d) → c ≡ a ++ fields (map (link_word names) (take (i + 1) links))
-links_more names links i a b c d within before now =
-    now ∙ ap (λ xs. xs ++ 32 ∷ link_word names (get_or links i d)) before
-    ∙ flat_map_more (λ w. 32 ∷ w) a (map (link_word names) (take i links)) (link_word names (get_or links i d))
-    ∙ ap (λ ws. a ++ fields ws) (sym (map_push (link_word names) (take i links) (get_or links i d)))
-    ∙ ap (λ xs. a ++ fields (map (link_word names) xs)) (sym (take_more links i d within))
+links_more names links i a b c d within before now = grind (arith, nat_tests, common_steps, flat_map_more, map_push, take_more)
 
 pub loop-from-preserved : goal.loop-from-preserved
 loop-from-preserved c = links_more c.args.names.now c.args.links.now c.loop-from.from-index c.args.out.now.items c.loop-from.out.items c.push_link.new.out.items (0, 0) c.loop-from-test.true c.loop-from.invariant (c.in_ok-push_link.ensures.appended)
 
 pub returns-in_err-push_link-clause-kept : goal.returns-in_err-push_link-clause-kept
-returns-in_err-push_link-clause-kept c =
-    let last = c.push_link.new.out.items in
-    at_err c.from_residual.result (StartsWith last c.args.out.now.items) (kept_behind last c.loop-from.out.items c.args.out.now.items _ c.in_err-push_link.ensures.kept c.loop-from.invariant)
+returns-in_err-push_link-clause-kept c = grind (arith, at_err, kept_behind)

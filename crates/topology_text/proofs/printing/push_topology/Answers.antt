@@ -1,4 +1,7 @@
-use Rattle.std.{proofs.{Common.{[], Some, sym, ap, ◌∙◌}, lemmas.List.append-nil}, specs.Io.StartsWith}
+use Rattle.std.proofs.lemmas.Bool.Decides.{nat_tests}
+use Rattle.std.proofs.lemmas.Grind.{common_steps}
+use Rattle.std.proofs.Common.{arith}
+use Rattle.std.proofs.{Common.{[], Some, sym, ap, ◌∙◌}, lemmas.List.append-nil}
 use Rattle.std.proofs.lemmas.Result.{on_ok_weaker, on_err_weaker}
 use Rattle.text_lines.specs.Text.{text_of}
 use Rattle.topology_text.specs.Spelling.{custom_lines}
@@ -22,16 +25,7 @@ returns-in-Some-clause-appended c =
     (ap (λ n. text_of (custom_lines n (Some c.in-Some.pattern.now))) c.names-names.ensures.names ∙ ap (λ p. text_of (custom_lines value.names p)) (sym c.in-Some.ensures.some))) c.push_pattern.ensures.appended
 
 pub returns-in_err-push_group-clause-kept : goal.returns-in_err-push_group-clause-kept
-returns-in_err-push_group-clause-kept c =
-    let old = c.args.out.now.items in
-    let begun = c.push_front.new.out.items in
-    let last = c.push_group.new.out.items in
-    at_err c.from_residual-in_err-push_group.result (StartsWith last old) (kept_on last begun old (kept_behind last c.loop-group.out.items begun _ c.in_err-push_group.ensures.kept c.loop-group.invariant) (kept_more begun old _ c.in_ok-push_front.ensures.appended))
+returns-in_err-push_group-clause-kept c = grind (arith, nat_tests, common_steps, at_err, kept_on, kept_behind, kept_more)
 
 pub returns-in-Some-clause-kept : goal.returns-in-Some-clause-kept
-returns-in-Some-clause-kept c =
-    let old = c.args.out.now.items in
-    let middle = c.loop-group.out.items in
-    let last = c.push_pattern.new.out.items in
-    let earlier = kept_on middle c.push_front.new.out.items old (kept_more middle c.push_front.new.out.items _ c.loop-group.invariant) (kept_more c.push_front.new.out.items old _ c.in_ok-push_front.ensures.appended) in
-    on_err_weaker {P = StartsWith last middle} {Q = StartsWith last old} c.push_pattern.result (λ later. kept_on last middle old later earlier) c.push_pattern.ensures.kept
+returns-in-Some-clause-kept c = grind (arith, nat_tests, common_steps, kept_on, kept_more, on_err_weaker)
