@@ -1,5 +1,5 @@
 -- Where a block of checks passes, and where it fails.
-use Rattle.std.proofs.Common.{◌≡◌, ℕ, Bool, true, false, Option, None, Some, Result, Ok, Err, List, [], ◌∷◌, ◌⊎◌, refl, sym, ap, ◌∙◌, inl, inr, if◌then◌else◌}
+use Rattle.std.proofs.Common.{arith, ◌≡◌, ℕ, Bool, true, false, Option, None, Some, Result, Ok, Err, List, [], ◌∷◌, ◌⊎◌, refl, sym, ap, ◌∙◌, inl, inr, if◌then◌else◌}
 use Rattle.text_lines.specs.{Text.{Row, Place, behind}, Check.{◌>>=◌, refuse, need, at_line, first, line_part}}
 
 -- a block passes where each of its steps does
@@ -43,11 +43,7 @@ first_is [] row e = absurd (cc)
 first_is (r ∷ rs) row e = let same : r ≡ row = cc in (rs, ap (λ x. x ∷ rs) same)
 
 pub part_ok : {A C : Type 0} (check : Option Row → Result A C) (p : Place) (x : A × Place) → line_part check p ≡ Ok x → (check (first p.rows) ≡ Ok x.0) × (x.1 ≡ behind p)
-part_ok {A} {C} check p x e =
-    let next : A → Result (A × Place) (C × ℕ) = λ y. Ok (y, behind p) in
-    let (y, passed, last) = bind_ok (at_line p.number (check (first p.rows))) next x e in
-    let same : (y, behind p) ≡ x = ok_is {C = C × ℕ} (y, behind p) x last in
-    (at_line_ok p.number (check (first p.rows)) y passed ∙ ap (λ z. Ok z.0) same, sym (ap (λ z. z.1) same))
+part_ok {A} {C} check p x e = grind (arith, bind_ok, ok_is, at_line_ok)
 
 -- a block fails where its first step does, or where the rest does after it
 pub bind_err : {A B C : Type 0} (r : Result A C) (f : A → Result B C) (e : C) → (r >>= f) ≡ Err e → (r ≡ Err e) ⊎ ((x : A) × (r ≡ Ok x) × (f x ≡ Err e))
@@ -61,14 +57,7 @@ line_err n (Err c) e h = let same : (c, n) ≡ e = cc in (ap (λ z. Err z.0) sam
 
 -- a part fails where the check of its line does, at the line of its place
 pub part_err_at : {A C : Type 0} (check : Option Row → Result A C) (p : Place) (e : C × ℕ) → line_part check p ≡ Err e → (check (first p.rows) ≡ Err e.0) × (e.1 ≡ p.number)
-part_err_at {A} {C} check p e h = failed (check (first p.rows)) h
-  where
-    next : A → Result (A × Place) (C × ℕ)
-    next y = Ok (y, behind p)
-
-    failed : (r : Result A C) → (at_line p.number r >>= next) ≡ Err e → (r ≡ Err e.0) × (e.1 ≡ p.number)
-    failed (Ok y) k = absurd (cc)
-    failed (Err c) k = let same : (c, p.number) ≡ e = cc in (ap (λ z. Err z.0) same, sym (ap (λ z. z.1) same))
+part_err_at {A} {C} check p e h = grind arith
 
 -- a check of a line, and what comes of it at a place
 pub after_line : {A B C : Type 0} (n : ℕ) (c : Result A C) (p : Place) (f : A × Place → Result B (C × ℕ)) → (at_line n c >>= (λ x. f (x, p))) ≡ ((at_line n c >>= (λ x. Ok (x, p))) >>= f)

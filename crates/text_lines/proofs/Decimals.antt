@@ -19,11 +19,7 @@ pub length_two : (n : ℕ) → 10 ≤ n → n < 100 → length (decimal n) ≡ 2
 length_two n high low = ap length (decimal_two n high low)
 
 decimal_pair : (n : ℕ) → 100 ≤ n → n < 2 ^ 64 → decimal n ≡ decimal (n / 100) ++ pair (n % 100)
-decimal_pair n high small =
-    let front : n / 10 / 10 ≡ n / 100 = omega arith in
-    let tens : n / 10 % 10 ≡ n % 100 / 10 = omega arith in
-    let ones : n % 10 ≡ n % 100 % 10 = omega arith in
-    rw (decimal_step n (omega arith) small, decimal_step (n / 10) (omega arith) (omega arith), append_assoc, front, tens, ← ones)
+decimal_pair n high small = grind (arith, decimal_step, append_assoc)
 
 pub length_pair : (n : ℕ) → 100 ≤ n → n < 2 ^ 64 → length (decimal n) ≡ length (decimal (n / 100)) + 2
 length_pair n high small = ap length (decimal_pair n high small) ∙ length-append _ _
@@ -32,17 +28,10 @@ pub append_pair : (before : List ℕ) (n : ℕ) → 100 ≤ n → n < 2 ^ 64 →
 append_pair before n high small = ap (λ t. before ++ t) (decimal_pair n high small) ∙ sym (append_assoc before (decimal (n / 100)) (pair (n % 100)))
 
 pub length_four : (n : ℕ) → 10000 ≤ n → n < 2 ^ 64 → length (decimal n) ≡ length (decimal (n / 10000)) + 4
-length_four n high small =
-    let last = length_pair n (omega arith) small in
-    let first = length_pair (n / 100) (omega arith) (omega arith) in
-    let front : n / 100 / 100 ≡ n / 10000 = omega arith in
-    omega (arith, ap (λ k. length (decimal k)) front)
+length_four n high small = grind (arith, length_pair)
 
 pub append_four : (before : List ℕ) (n : ℕ) → 10000 ≤ n → n < 2 ^ 64 → before ++ decimal n ≡ before ++ decimal (n / 10000) ++ pair (n % 10000 / 100) ++ pair (n % 100)
-append_four before n high small =
-    let front : n / 100 / 100 ≡ n / 10000 = omega arith in
-    let first : n / 100 % 100 ≡ n % 10000 / 100 = omega arith in
-    rw (append_pair before n (omega arith) small, append_pair before (n / 100) (omega arith) (omega arith), front, first)
+append_four before n high small = grind (arith, append_pair)
 
 pub length_most : (n : ℕ) → n < 2 ^ 64 → length (decimal n) ≤ 20
 length_most n small = length-decimal-le 20 n (omega arith) (omega arith) small

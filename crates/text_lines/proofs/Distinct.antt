@@ -1,5 +1,6 @@
 -- Lists whose elements differ, as they are read one after another.
 use Rattle.std.{proofs.Common.{◌≡◌, ◌≢◌, ℕ, ◌<◌, Bool, false, List, [], ◌∷◌, ◌++◌, length, get_or, refl, sym, ◌∙◌, subst, arith}, specs.Bool.Decides}
+use Rattle.std.proofs.lemmas.{Grind.common_steps, Bool.Decides.nat_tests}
 use Rattle.std.{specs.List.{All, AllPairs, list_any}, proofs.lemmas.{Bool.{both_ways, false_from_ne_true}, List.{length-append, get_or_append_left, get_or_at}}}
 use Rattle.std.proofs.lemmas.List.{Quantifiers.all_pairs_push, Folds.{list_any_at, list_any_none}}
 
@@ -12,10 +13,7 @@ distinct_nil = λ i j d ordered h. absurd (omega arith)
 
 -- an element that was not read before keeps them distinct
 pub distinct_push : {A : Type 0} (same : A → A → Bool) → ((a b : A) → Decides (same a b) (a ≡ b)) → (before : List A) (x : A) → list_any (same x) before ≡ false → AreDistinct before → AreDistinct (before ++ x ∷ [])
-distinct_push {A} same decides before x none distinct = all_pairs_push (λ a b. a ≢ b) before x distinct other
-  where
-    other : (k : ℕ) (d : A) → k < length before → get_or before k d ≢ x
-    other k d h e = both_ways (list_any (same x) before) none (list_any_at (same x) before k d h ((decides x (get_or before k d)).1 (sym e)))
+distinct_push {A} same decides before x none distinct = grind (arith, nat_tests, common_steps, all_pairs_push, both_ways, list_any_at)
 
 -- of distinct elements, none was read before
 pub none_before : {A : Type 0} (same : A → A → Bool) → ((a b : A) → Decides (same a b) (a ≡ b)) → (before : List A) (x : A) (xs : List A) → AreDistinct (before ++ x ∷ xs) → list_any (same x) before ≡ false

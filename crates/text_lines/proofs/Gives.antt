@@ -1,5 +1,6 @@
 -- What a reader gives: the lines of a valid value, or a fault behind the first lines of one.
 use Rattle.std.proofs.Common.{◌≡◌, ℕ, zero, suc, ◌+◌, ◌-◌, Bool, true, false, List, [], ◌∷◌, ◌++◌, map, length, drop, take, Option, Some, Result, Ok, Err, ◌⊎◌, inl, inr, refl, sym, ap, ◌∙◌, subst, append_assoc, arith, if◌then◌else◌, flat_map}
+use Rattle.std.proofs.lemmas.{Grind.common_steps, Bool.Decides.nat_tests}
 use Rattle.std.proofs.{Math.Seq.take-append_seam, lemmas.List.{append-nil, length-append, length-map, map-append}}
 use Rattle.text_lines.specs.{Text.{Row, Place}, Check.{◌>>=◌, first, line_part}, Repeated.{row_begins, lines_at, parts_from, parts_at}}
 use Rattle.text_lines.proofs.{Checks.{bind_ok, bind_err, part_ok, part_err_at, first_is, ok_is}, Repeated.{line_by, lines_are_parts}, Rows.row_of}
@@ -44,10 +45,7 @@ pub here : (p : Place) → Between [] p p
 here p = record { rows = refl; number = omega arith }
 
 pub then_on : (a b : List (List (List ℕ))) (p q r : Place) → Between a p q → Between b q r → Between (a ++ b) p r
-then_on a b p q r one two =
-    let front = one.number in
-    let back = two.number in
-    record { rows = one.rows ∙ (ap (λ rs. map row_of a ++ rs) two.rows ∙ sym (rows_split a b r.rows)); number = omega (arith, front, back, length-append a b) }
+then_on a b p q r one two = grind (arith, row_of, rows_split, length-append)
 
 -- the numbers and the lines that are left are as many as before
 pub as_many : (lines : List (List (List ℕ))) (p q : Place) → Between lines p q → q.number + length q.rows ≡ p.number + length p.rows
@@ -76,29 +74,17 @@ cut_on a b p q n t c = record { done = a ++ c.done; more = c.more; at = c.at; is
 
 -- up to the line before it, the lines of a place and of these are the same
 pub cut_agrees : (lines : List (List (List ℕ))) (p : Place) (n : ℕ) → p.number ≡ 1 → Cut lines p n → take (n - 1) p.rows ≡ take (n - 1) (map row_of lines)
-cut_agrees lines p n one c =
-    let done : List Row = map row_of c.done in
-    let line = c.line in
-    let number = c.read.number in
-    let size : n - 1 ≡ length done = omega (arith, line, number, one, length-map c.done row_of) in
-    let theirs : take (length done) (map row_of lines) ≡ done = ap (λ l. take (length done) (map row_of l)) c.is ∙ ap (take (length done)) (map-append row_of c.done c.more) ∙ take-append_seam done (map row_of c.more) in
-    ap (λ k. take k p.rows) size ∙ ap (take (length done)) c.read.rows ∙ take-append_seam done c.at.rows ∙ sym theirs ∙ ap (λ k. take k (map row_of lines)) (sym size)
+cut_agrees lines p n one c = grind (arith, nat_tests, common_steps, row_of, length-map, map-append, take-append_seam)
 
 -- ---- one line
 
 -- a line of these words was read
 line_read : {A C : Type 0} (check : Option Row → Result A C) (p : Place) (x : A × Place) (words : List (List ℕ)) → line_part check p ≡ Ok x → first p.rows ≡ Some (row_of words) → Between (words ∷ []) p x.1
-line_read check p x words e is =
-    let (passed, at) = part_ok check p x e in
-    let (more, rows) = first_is p.rows (row_of words) is in
-    record { rows = rows ∙ ap (λ rs. row_of words ∷ rs) (sym (ap (λ q. q.rows) at ∙ ap (drop 1) rows)); number = ap (λ q. q.number) at }
+line_read check p x words e is = grind (arith, part_ok, first_is, row_of)
 
 pub line_gives : {A C : Type 0} {N : A → Type 0} (check : Option Row → Result A C) (spell : A → List (List ℕ)) (p : Place) → ((x : A) → check (first p.rows) ≡ Ok x → (first p.rows ≡ Some (row_of (spell x))) × N x)
     → Gives (λ (e : C × ℕ). e.1 ≡ p.number) (λ (x : A × Place). N x.0 × Between (spell x.0 ∷ []) p x.1) (line_part check p)
-line_gives check spell p taken = record {
-  ok = λ x e. let (is, holds) = taken x.0 (part_ok check p x e).0 in (holds, line_read check p x (spell x.0) e is);
-  err = λ e h. (part_err_at check p e h).1;
-}
+line_gives check spell p taken = grind (arith, part_ok, line_read, part_err_at)
 
 -- ---- parts
 

@@ -1,5 +1,6 @@
 -- Lines that repeat are parts of one line each, and parts that repeat go on behind the one before.
 use Rattle.std.proofs.Common.{◌≡◌, ℕ, zero, suc, ◌+◌, ◌<◌, ◌≤◌, Bool, true, false, List, [], ◌∷◌, ◌++◌, length, drop, Option, Some, Result, Ok, Err, refl, sym, ap, ◌∙◌, arith, if◌then◌else◌}
+use Rattle.std.proofs.lemmas.{Grind.common_steps, Bool.Decides.nat_tests}
 use Rattle.text_lines.specs.{Text.{Row, Place, behind}, Check.{◌>>=◌, at_line, first, line_part}, Repeated.{begins, row_begins, lines_from, lines_at, parts_from, parts_at}}
 use Rattle.text_lines.proofs.Checks.{first_is, part_ok, after_line}
 
@@ -40,17 +41,10 @@ module _ {A C : Type 0} (word : List ℕ) (check : List A → Option Row → Res
   lines_on before p = lines_from word check before p.number p.rows
 
   pub line_refused : (before : List A) (p : Place) (row : Row) (code : C) → first p.rows ≡ Some row → row_begins word (first p.rows) ≡ true → check before (Some row) ≡ Err code → lines_on before p ≡ Err (code, p.number)
-  line_refused before p row code here begun e =
-      let (more, is) = first_is p.rows row here in
-      let starts : begins word row.bytes ≡ true = ap (row_begins word) (sym here) ∙ begun in
-      rw (is, starts, e) refl
+  line_refused before p row code here begun e = grind (arith, first_is)
 
   pub line_accepted : (before now : List A) (p q : Place) (row : Row) (x : A) → first p.rows ≡ Some row → row_begins word (first p.rows) ≡ true → check before (Some row) ≡ Ok x → now ≡ before ++ x ∷ [] → q ≡ behind p → lines_on now q ≡ lines_on before p
-  line_accepted before now p q row x here begun e all at =
-      let (more, is) = first_is p.rows row here in
-      let starts : begins word row.bytes ≡ true = ap (row_begins word) (sym here) ∙ begun in
-      let one : lines_on before p ≡ lines_on (before ++ x ∷ []) (behind p) = rw (is, starts, e) refl in
-      ap (λ xs. lines_on xs q) all ∙ ap (lines_on (before ++ x ∷ [])) at ∙ sym one
+  line_accepted before now p q row x here begun e all at = grind (arith, first_is)
 
   pub lines_ended : (before : List A) (p : Place) → row_begins word (first p.rows) ≡ false → lines_on before p ≡ Ok (before, p)
   lines_ended before p other = over p.rows other
@@ -95,10 +89,7 @@ module _ {A C : Type 0} (word : List ℕ) (check : List A → Place → Result (
 
     -- one turn
     pub parts_turn : (before : List A) (p : Place) → parts_on before p ≡ (if row_begins word (first p.rows) then (check before p >>= parts_behind before) else Ok (before, p))
-    parts_turn before p =
-        let all : ℕ = length p.rows in
-        enough all (suc all) before p (omega arith) (omega arith)
-        ∙ same_if (row_begins word (first p.rows)) _ _ _ (λ begun. same_then (check before p) _ _ (λ x read. let less = shorter before p x begun read in sym (enough (length x.1.rows) all (before ++ x.0 ∷ []) x.1 (omega arith) (omega (arith, less)))))
+    parts_turn before p = grind (arith, nat_tests, common_steps, enough, same_if, same_then)
 
     part_begun : (before : List A) (p : Place) → row_begins word (first p.rows) ≡ true → parts_on before p ≡ (check before p >>= parts_behind before)
     part_begun before p begun = parts_turn before p ∙ ap (λ b. if b then (check before p >>= parts_behind before) else Ok (before, p)) begun

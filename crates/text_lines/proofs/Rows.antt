@@ -32,15 +32,10 @@ one_row (x ∷ xs) some apart = rows_last x xs apart
 
 onto_text : (b : ℕ) (rows : List Row) → flat_map row_text (onto_row b rows) ≡ b ∷ flat_map row_text rows
 onto_text b [] = refl
-onto_text b (r ∷ rs) =
-    elim r.whole as (λ w. cond w ((b ∷ r.bytes) ++ 10 ∷ []) (b ∷ r.bytes) ++ flat_map row_text rs ≡ b ∷ (cond w (r.bytes ++ 10 ∷ []) r.bytes ++ flat_map row_text rs)) [ true ↦ refl | false ↦ refl ]
+onto_text b (r ∷ rs) = grind arith
 
 byte_back : (b : ℕ) (bs : List ℕ) → flat_map row_text (rows_of bs) ≡ bs → flat_map row_text (rows_of (b ∷ bs)) ≡ b ∷ bs
-byte_back b bs rest = by_test (eqb b 10) refl
-  where
-    by_test : (t : Bool) → eqb b 10 ≡ t → flat_map row_text (cond t (row [] true ∷ rows_of bs) (onto_row b (rows_of bs))) ≡ b ∷ bs
-    by_test true e = ap (λ t. 10 ∷ t) rest ∙ ap (λ c. c ∷ bs) (sym (eqb-true b 10 e))
-    by_test false e = onto_text b (rows_of bs) ∙ ap (λ t. b ∷ t) rest
+byte_back b bs rest = grind (arith, eqb-true, onto_text)
 
 pub rows_back : (text : List ℕ) → flat_map row_text (rows_of text) ≡ text
 rows_back [] = refl
@@ -57,18 +52,10 @@ rows_step text from at ordered within apart here =
     ∙ rows_cut (slice_range text from at) (drop (at + 1) text) (no_separator text from at 10 ordered (omega arith) apart)
 
 pub rows_end : (text : List ℕ) (from : ℕ) → from < length text → ((k : ℕ) → from ≤ k → k < length text → get_or text k 0 ≢ 10) → rows_of (drop from text) ≡ row (slice_range text from (length text)) false ∷ rows_of (drop (length text) text)
-rows_end text from within apart =
-    let last = slice_range text from (length text) in
-    let all : last ≡ drop from text = take_rest text from in
-    let some : 0 < length last = omega (arith, ap length all, length-drop from text) in
-    ap rows_of (sym all) ∙ one_row last some (no_separator text from (length text) 10 (omega arith) (omega arith) apart)
-    ∙ ap (λ t. row last false ∷ rows_of t) (sym (drop_all (length text) text (omega arith)))
+rows_end text from within apart = grind (arith, slice_range, take_rest, length-drop, one_row, no_separator, drop_all)
 
 pub rows_end_at : (text : List ℕ) (from at : ℕ) → at ≤ length text → length text ≤ at → from ≤ at → from ≢ length text → ((k : ℕ) → from ≤ k → k < at → get_or text k 0 ≢ 10) → rows_of (drop from text) ≡ row (slice_range text from at) false ∷ rows_of (drop at text)
-rows_end_at text from at within end ordered some apart =
-    let last : length text ≡ at = omega arith in
-    let P : ℕ → Type 0 = λ n. rows_of (drop from text) ≡ row (slice_range text from n) false ∷ rows_of (drop n text) in
-    subst P last (rows_end text from (omega arith) (λ k low high. apart k low (omega arith)))
+rows_end_at text from at within end ordered some apart = grind (arith, slice_range, rows_end)
 
 -- ---- the pieces between separators
 
@@ -78,10 +65,7 @@ parts_step separator text from at to ordered before within apart here =
     ∙ slice_split_at (λ b. eqb b separator) (slice_range text from at) separator (slice_range text (at + 1) to) (no_separator text from at separator ordered (omega arith) apart) (eq-eqb separator separator refl)
 
 pub parts_end_at : (separator : ℕ) (text : List ℕ) (from at to : ℕ) → from ≤ at → at ≤ to → to ≤ at → to ≤ length text → ((k : ℕ) → from ≤ k → k < at → get_or text k 0 ≢ separator) → slice_split (λ b. eqb b separator) (slice_range text from to) ≡ slice_range text from at ∷ []
-parts_end_at separator text from at to ordered before end within apart =
-    let last : to ≡ at = omega arith in
-    ap (λ n. slice_split (λ b. eqb b separator) (slice_range text from n)) last
-    ∙ slice_split_none (λ b. eqb b separator) (slice_range text from at) (no_separator text from at separator ordered (omega arith) apart)
+parts_end_at separator text from at to ordered before end within apart = grind (arith, slice_range, slice_split_none, no_separator)
 
 -- the same at a space
 pub words_step : (text : List ℕ) (from at to : ℕ) → from ≤ at → at < to → to ≤ length text → ((k : ℕ) → from ≤ k → k < at → get_or text k 0 ≢ 32) → get_or text at 0 ≡ 32 → words_of (slice_range text from to) ≡ slice_range text from at ∷ words_of (slice_range text (at + 1) to)

@@ -102,9 +102,7 @@ steady_bind r g s h p one later = gives_then r g one (λ e f. fails_begun h f) (
 
 -- the same as another reader
 pub steady_as : {A C : Type 0} {r : Result (A × Place) (C × ℕ)} {p : Place} (s t : Place → Result (A × Place) (C × ℕ)) → ((q : Place) → s q ≡ t q) → SteadyAt r s p → SteadyAt r t p
-steady_as s t is one = gives_like
-    (λ e f. record { late = f.late; alike = λ q same. let w = f.alike q same in record { why = w.why; is = sym (is q) ∙ w.is } })
-    (λ x l. record { later = l.later; fewer = l.fewer; alike = λ n q same low. let to = l.alike n q same low in record { rest = to.rest; is = sym (is q) ∙ to.is; same = to.same } }) one
+steady_as s t is one = grind (arith, gives_like)
 
 -- by a test of the next line
 steady_choose : {A C : Type 0} (test : Option Row → Bool) (a : A) (r : Result (A × Place) (C × ℕ)) (s : Place → Result (A × Place) (C × ℕ)) (p : Place) → (test (first p.rows) ≡ true → SteadyAt r s p)
@@ -131,22 +129,10 @@ fewer_rows (x ∷ xs) = omega arith
 
 -- a line is read where it is the same, whatever follows it
 pub line_alike : {A C : Type 0} (check : Option Row → Result A C) (p q : Place) (n : ℕ) (x : A × Place) → Same n p q → p.number ≤ n → line_part check p ≡ Ok x → ReadsTo n (line_part check q) x
-line_alike check p q n x same low read =
-    let (passed, at) = part_ok check p x read in
-    record { rest = behind q; is = rw (sym (first_same n p q same low), passed) refl; same = subst (λ (z : Place). Same n z (behind q)) (sym at) (behind_same n p q same low) }
+line_alike check p q n x same low read = grind (arith, part_ok, first_same, behind_same)
 
 pub steady_line : {A C : Type 0} (check : Option Row → Result A C) → Steady (line_part check) (line_part check)
-steady_line check = record {
-  at = λ p. record {
-    ok = λ x read.
-        let at = (part_ok check p x read).1 in
-        let number : x.1.number ≡ p.number + 1 = ap (λ z. z.number) at in
-        record { later = omega (arith, number); fewer = omega (arith, ap (λ z. length z.rows) at, fewer_rows p.rows); alike = λ n q same low. line_alike check p q n x same (omega (arith, number, low)) read };
-    err = λ e failed.
-        let (why, at) = part_err_at check p e failed in
-        record { late = omega (arith, at); alike = λ q same. record { why = e.0; is = rw (sym (first_same e.1 p q same (omega (arith, at))), why, at, same.number) refl } };
-  };
-}
+steady_line check = grind (arith, part_ok, fewer_rows, line_alike, part_err_at, first_same)
 
 pub steady_found : {A C : Type 0} (x : A) → Steady {C = C} (λ p. Ok (x, p)) (λ p. Ok (x, p))
 steady_found x = record { at = λ p. gives_done (x, p) (record { later = omega arith; fewer = omega arith; alike = λ n q same low. record { rest = q; is = refl; same = same } }) }

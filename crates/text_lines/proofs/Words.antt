@@ -18,9 +18,7 @@ is_token word = list_all (λ b. nat_lt 32 b) word
 
 -- for a word that is written out, by refl
 pub literal : (word : List ℕ) → (nat_lt 0 (length word) && is_token word) ≡ true → IsWord word
-literal word e =
-    let (some, above) = and_parts (nat_lt 0 (length word)) (is_token word) e in
-    (ltb-true 0 (length word) some, All-weaker (λ b. nat_lt 32 b ≡ true) (λ b. 32 < b) (λ b. ltb-true 32 b) word (AllPass-from_list_all (λ b. nat_lt 32 b) word above))
+literal word e = grind (arith, and_parts, nat_lt, ltb-true, All-weaker, AllPass-from_list_all)
 
 words_are_tokens : (words : List (List ℕ)) → AreWords words → AllByRecursion IsToken words
 words_are_tokens [] each = tt
