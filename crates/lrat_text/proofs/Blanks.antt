@@ -2,7 +2,7 @@
 use Rattle.std.{proofs.lemmas.{Grind.common_steps, List.{length-drop, length-take, get_or-take, get_or-drop, take_rest, Folds.drop_split}}, specs.List.All}
 use Rattle.std.proofs.Common.{◌≡◌, ℕ, ◌+◌, ◌-◌, ◌<◌, ◌≤◌, Bool, true, false, List, ◌∷◌, ◌++◌, length, get_or, drop, slice_range, ◌≢◌, sym, ap, ◌∙◌, arith, ◌==◌, ◌||◌, nat_lt, filter}
 use Rattle.std.proofs.lemmas.List.{Elements.All-from_get_or, Splits.{slice_split_at, slice_split_none, slice_split-cons_yes}}
-use Rattle.lrat_text.specs.Tokens.{Token, placed_from, tokens_from}
+use Rattle.lrat_text.specs.Tokens.{Token, tokens_from}
 
 abbrev pub is_blank : ℕ → Bool
 is_blank b = b == 32 || b == 9
@@ -14,9 +14,7 @@ abbrev filled : List Token → List Token
 filled ts = filter (λ t. nat_lt 0 (length t.bytes)) ts
 
 blank_first : (place b : ℕ) (bytes : List ℕ) → is_blank b ≡ true → tokens_from place (b ∷ bytes) ≡ tokens_from (place + 1) bytes
-blank_first place b bytes e =
-    let at : place + 0 + 1 ≡ place + 1 = omega arith in
-    ap (λ pieces. filled (placed_from place pieces)) (slice_split-cons_yes is_blank b bytes e) ∙ ap (λ p. tokens_from p bytes) at
+blank_first place b bytes e = grind (arith, slice_split-cons_yes)
 
 abbrev AreApart : List ℕ → Type 0
 AreApart word = All (λ b. is_blank b ≡ false) word

@@ -1,6 +1,6 @@
 -- The number that digits spell, and how it is read.
-use Rattle.std.proofs.Common.{◌≡◌, ◌≢◌, ℕ, ◌^◌, ◌<◌, ◌≤◌, true, List, [], ◌∷◌, length, get_or, refl, ap, ◌∙◌, ⊎_elim, arith, ◌==◌, ◌&&◌, not, Ok, Err, decimal, nat_le, nat_lt}
-use Rattle.std.{specs.{List.list_all, Str.Parse.{AllDigits, digits_value}}, proofs.lemmas.Fmt.decimal_digit}
+use Rattle.std.proofs.Common.{◌≡◌, ◌≢◌, ℕ, ◌^◌, ◌<◌, ◌≤◌, true, List, [], ◌∷◌, length, get_or, ap, ◌∙◌, ⊎_elim, arith, ◌&&◌, Ok, Err, decimal, nat_le, nat_lt}
+use Rattle.std.{specs.{List.list_all, Str.Parse.AllDigits}, proofs.lemmas.Fmt.decimal_digit}
 use Rattle.std.proofs.lemmas.Bool.{and_parts, leb-true, lt-ltb, cases_lt, not-true, eqb-false, ltb-true}
 use Rattle.text_lines.proofs.Numbers.{digit_is, spells}
 use Rattle.lrat_text.{specs.{declared.fault.LratTextFault.TheVariants.NumberRange, Tokens.{is_number, number_from}}, proofs.Spelled.number_read}
@@ -20,32 +20,13 @@ all_digits (c ∷ digits) e =
     (omega (arith, value, leb-true c 57 high), all_digits digits rest)
 
 spelled : (digits : List ℕ) → is_number digits ≡ true → IsSpelled digits
-spelled digits e =
-    let tests = nat_lt 0 (length digits) && list_all (λ b. nat_le 48 b && nat_le b 57) digits in
-    let (front, lead) = and_parts tests (not (get_or digits 0 0 == 48)) e in
-    let (some, each) = and_parts (nat_lt 0 (length digits)) (list_all (λ b. nat_le 48 b && nat_le b 57) digits) front in
-    record {
-      some = ltb-true 0 (length digits) some;
-      each = all_digits digits each;
-      lead = eqb-false (get_or digits 0 0) 48 (not-true (get_or digits 0 0 == 48) lead);
-    }
+spelled digits e = grind (arith, nat_lt, nat_le, and_parts, ltb-true, all_digits, eqb-false, not-true)
 
 pub number_some : (n : ℕ) (digits : List ℕ) → is_number digits ≡ true → digits ≡ decimal n → 0 < n
-number_some n digits e s = ⊎_elim (λ some. some) none (cases_lt 0 n)
-  where
-    none : n ≤ 0 → 0 < n
-    none h =
-        let zero : n ≡ 0 = omega arith in
-        let lead : get_or digits 0 0 ≡ 48 = ap (λ ds. get_or ds 0 0) (s ∙ ap decimal zero ∙ decimal_digit 0 (omega arith)) in
-        absurd ((spelled digits e).lead lead)
+number_some n digits e s = grind (arith, ⊎_elim, cases_lt, decimal_digit, spelled)
 
 pub number_found : (place greatest n : ℕ) (digits : List ℕ) → is_number digits ≡ true → digits ≡ decimal n → n ≤ greatest → greatest < 2 ^ 64 → number_from place greatest digits ≡ Ok n
 number_found place greatest n digits e s fits room = ap (number_from place greatest) s ∙ number_read n (number_some n digits e s) (omega arith) place greatest fits
 
 pub number_large : (place greatest : ℕ) (digits : List ℕ) → is_number digits ≡ true → ((n : ℕ) → n ≤ greatest → digits ≢ decimal n) → greatest < 2 ^ 64 → number_from place greatest digits ≡ Err (NumberRange place)
-number_large place greatest digits e none room = ⊎_elim (λ above. let large = lt-ltb greatest (digits_value 10 digits) above in rw (e, number_from) (rw large refl)) small (cases_lt greatest (digits_value 10 digits))
-  where
-    small : digits_value 10 digits ≤ greatest → number_from place greatest digits ≡ Err (NumberRange place)
-    small fits =
-        let s = spelled digits e in
-        absurd (none (digits_value 10 digits) fits (spells digits s.each s.some (λ zero. absurd (s.lead zero)) (omega arith)))
+number_large place greatest digits e none room = grind (arith, ⊎_elim, lt-ltb, cases_lt, spelled, spells)

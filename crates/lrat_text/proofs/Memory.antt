@@ -1,10 +1,10 @@
 -- No text is at fault for out of memory.
-use Rattle.std.proofs.Common.{arith, ◌≡◌, ◌≢◌, ℕ, ◌+◌, Bool, true, false, cond, List, [], ◌∷◌, length, Option, Some, Result, Ok, Err, not, nat_lt, codes, slice_index}
-use Rattle.std.{proofs.lemmas.Bool.Decides.nat_tests, specs.Str.Parse.digits_value}
+use Rattle.std.proofs.Common.{arith, ◌≡◌, ◌≢◌, ℕ, ◌+◌, Bool, true, false, cond, List, [], ◌∷◌, Option, Some, Result, Err, nat_lt, codes, slice_index}
+use Rattle.std.proofs.lemmas.Bool.Decides.{nat_tests}
 use Rattle.text_lines.specs.{Text.Row, Check.{◌>>=◌, refuse}}
 use Rattle.cnf_formula.specs.declared.line.LratLine.{LratLine}
-use Rattle.lrat_text.specs.declared.fault.LratTextFault.{LratTextFault, TheVariants.{BadToken, NumberRange, Truncated, OutOfMemory}}
-use Rattle.lrat_text.specs.Tokens.{Token, tokens_from, content, is_word, is_number, number_from, after_minus, id_of, literal_of, hint_of}
+use Rattle.lrat_text.specs.declared.fault.LratTextFault.{LratTextFault, TheVariants.OutOfMemory}
+use Rattle.lrat_text.specs.Tokens.{Token, is_word, number_from, after_minus, id_of, literal_of, hint_of}
 use Rattle.lrat_text.specs.Reading.{up_to_zero, no_more, addition_of, deletion_of, behind_id, line_of, row_says, size_of, Said, said_at, said_by}
 
 abbrev IsToldOf : {A : Type 0} → Result A LratTextFault → Type 0
@@ -18,9 +18,7 @@ refuse_told true code ne = λ h. let same : code ≡ OutOfMemory = cc in ne same
 refuse_told false code ne = λ h. absurd (cc)
 
 number_told : (place greatest : ℕ) (digits : List ℕ) → IsToldOf (number_from place greatest digits)
-number_told place greatest digits =
-    bind_told (refuse (not (is_number digits)) (BadToken place)) _ (refuse_told (not (is_number digits)) (BadToken place) (λ h. absurd (cc)))
-    (λ u. bind_told (refuse (nat_lt greatest (digits_value 10 digits)) (NumberRange place)) _ (refuse_told (nat_lt greatest (digits_value 10 digits)) (NumberRange place) (λ h. absurd (cc))) (λ v h. absurd (cc)))
+number_told place greatest digits = grind (arith, bind_told, refuse_told, nat_lt)
 
 id_told : (t : Token) → IsToldOf (id_of t)
 id_told t = number_told t.place 4294967295 t.bytes
@@ -34,22 +32,13 @@ hint_told t = bind_told (number_from t.place 4294967295 (after_minus t)) _ (numb
 module _ (lack : LratTextFault) (ne : lack ≢ OutOfMemory) where
   list_told : {A : Type 0} (read : Token → Result A LratTextFault) → ((t : Token) → IsToldOf (read t)) → (ts : List Token) → IsToldOf (up_to_zero read lack ts)
   list_told read told [] = λ h. let same : lack ≡ OutOfMemory = cc in ne same
-  list_told {A} read told (t ∷ ts) = go (list_told read told ts) (is_word (codes "0") t)
-    where
-      next : A → Result (List A × List Token) LratTextFault
-      next x = up_to_zero read lack ts >>= λ more. Ok (x ∷ more.0, more.1)
-
-      go : IsToldOf (up_to_zero read lack ts) → (b : Bool) → IsToldOf (cond b (Ok ([], ts)) (read t >>= next))
-      go rest true = λ h. absurd (cc)
-      go rest false = bind_told (read t) next (told t) (λ x. bind_told (up_to_zero read lack ts) _ rest (λ more h. absurd (cc)))
+  list_told {A} read told (t ∷ ts) = grind (arith, bind_told, list_told read told ts)
 
   no_more_told : (ts : List Token) → IsToldOf (no_more ts)
   no_more_told ts = grind (arith, nat_tests)
 
   addition_told : (id : ℕ) (ts : List Token) → IsToldOf (addition_of lack id ts)
-  addition_told id ts =
-      bind_told (up_to_zero literal_of lack ts) _ (list_told literal_of literal_told ts)
-      (λ lits. bind_told (up_to_zero hint_of lack lits.1) _ (list_told hint_of hint_told lits.1) (λ hints. bind_told (no_more hints.1) _ (no_more_told hints.1) (λ u h. absurd (cc))))
+  addition_told id ts = grind (arith, bind_told, list_told, literal_told, hint_told, no_more_told)
 
   deletion_told : (id : ℕ) (ts : List Token) → IsToldOf (deletion_of lack id ts)
   deletion_told id ts = bind_told (up_to_zero id_of lack ts) _ (list_told id_of id_told ts) (λ ids. bind_told (no_more ids.1) _ (no_more_told ids.1) (λ u h. absurd (cc)))
@@ -66,14 +55,7 @@ module _ (lack : LratTextFault) (ne : lack ≢ OutOfMemory) where
   line_told ts = grind (arith, nat_tests, slice_index, lack, bind_told, id_told, behind_told)
 
 row_told : (place : ℕ) (row : Row) → row_says place row ≢ Some (Err OutOfMemory)
-row_told place row = line_told (lack row.whole) (ne row.whole) (tokens_from place (content row))
-  where
-    lack : Bool → LratTextFault
-    lack whole = cond whole (BadToken (place + length row.bytes)) Truncated
-
-    ne : (whole : Bool) → lack whole ≢ OutOfMemory
-    ne true = λ h. absurd (cc)
-    ne false = λ h. absurd (cc)
+row_told place row = grind (arith, line_told)
 
 at_told : (r : Option (Result LratLine LratTextFault)) (size : ℕ) (later : Said) → r ≢ Some (Err OutOfMemory) → later.answer ≢ Err OutOfMemory → (said_at r size later).answer ≢ Err OutOfMemory
 at_told r size later here behind = grind (arith, nat_tests)

@@ -16,30 +16,10 @@ pub clear_through : (bytes : List ℕ) (from searched end : ℕ) → IsClear byt
 clear_through bytes from searched end before after = λ k low high. ⊎_elim (λ early. before k low early) (λ late. after k late high) (cases_lt k searched)
 
 pub whole_line : (bytes : List ℕ) (finished : Bool) (from searched end : ℕ) → from ≤ searched → searched ≤ end → end < length bytes → IsClear bytes from searched → IsClear bytes searched end → get_or bytes end 0 ≡ 10 → IsFirstFrom bytes finished from (held end (end + 1) true)
-whole_line bytes finished from searched end ordered on low before after here =
-    let size = part_size bytes from end (omega arith) (omega arith) in
-    record {
-      rows = rows_step bytes from end (omega arith) low (clear_through bytes from searched end before after) here;
-      ended = refl;
-      ordered = omega arith;
-      after = omega arith;
-      some = omega arith;
-      within = omega arith;
-      size = omega (arith, size);
-    }
+whole_line bytes finished from searched end ordered on low before after here = grind (arith, part_size, rows_step, clear_through)
 
 pub last_line : (bytes : List ℕ) (finished : Bool) (from searched end : ℕ) → finished ≡ true → from ≤ searched → searched ≤ end → end ≤ length bytes → length bytes ≤ end → from < end → IsClear bytes from searched → IsClear bytes searched end → IsFirstFrom bytes finished from (held end end false)
-last_line bytes finished from searched end last ordered on within all some before after =
-    let size = part_size bytes from end (omega arith) within in
-    record {
-      rows = rows_end_at bytes from end within all (omega arith) (λ e. absurd (omega arith)) (clear_through bytes from searched end before after);
-      ended = last;
-      ordered = omega arith;
-      after = omega arith;
-      some = omega arith;
-      within = within;
-      size = omega (arith, size);
-    }
+last_line bytes finished from searched end last ordered on within all some before after = grind (arith, part_size, rows_end_at, clear_through)
 
 pub nothing_left : (bytes : List ℕ) (finished : Bool) (from place : ℕ) → length bytes ≤ from → said_by finished place (rows_of (drop from bytes)) ≡ nothing_said
 nothing_left bytes finished from place all = ap (λ bs. said_by finished place (rows_of bs)) (drop_all from bytes all)

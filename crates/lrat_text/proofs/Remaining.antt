@@ -19,11 +19,7 @@ left_of finished (row ∷ rows) = if row.whole || finished then left_of finished
 -- ---- what is left behind lines that say nothing
 
 row_size : (row : Row) → length (row_text row) ≡ size_of row
-row_size row = go row.whole
-  where
-    go : (w : Bool) → length (cond w (row.bytes ++ 10 ∷ []) row.bytes) ≡ length row.bytes + cond w 1 0
-    go true = length-append row.bytes (10 ∷ [])
-    go false = omega arith
+row_size row = grind (arith, length-append)
 
 at_nothing : (r : Option (Result LratLine LratTextFault)) (size : ℕ) (later : Said) → (said_at r size later).answer ≡ Ok None → (later.answer ≡ Ok None) × ((said_at r size later).taken ≡ size + later.taken)
 at_nothing r size later n = grind arith

@@ -3,7 +3,6 @@ use Rattle.std.proofs.lemmas.Grind.{common_steps}
 use Rattle.std.proofs.Common.{◌≡◌, ◌⊎◌, inl, inr, ℕ, suc, ◌+◌, ◌^◌, ◌<◌, ◌≤◌, Bool, true, false, List, [], ◌∷◌, length, get_or, drop, Result, Ok, refl, ap, ◌∙◌, ⊎_elim, arith, lit<, ◌&&◌, ◌==◌, not, nat_lt, nat_le, if◌then◌else◌, ℤ, pos, negsuc, neg_ℤ, decimal, bytes_eq, codes}
 use Rattle.std.{specs.{List.list_all, Str.Parse.{AllDigits, digits_value}}, proofs.lemmas.Fmt.{decimal_is_IsNumeral, decimal_nonempty, first_decimal}}
 use Rattle.std.proofs.lemmas.{Bool.{and_from, ne_eqb, lt-ltb, le-ltb, false_from_ne_true, cases_Bool}, Slice.Eq.bytes_eq-Decides, Str.Parse.digit_from_value}
-use Rattle.text_lines.specs.Check.{◌>>=◌}
 use Rattle.cnf_formula.specs.Literals.{LitValue, IsLit}
 use Rattle.lrat_text.{specs.{declared.fault.LratTextFault.LratTextFault, Printing.{literal_word, hint_word, IsId, IsHint}}, proofs.Blanks.token}
 use Rattle.lrat_text.specs.Tokens.{Token, is_word, is_number, number_from, has_minus, after_minus, id_of, literal_of, hint_of}
@@ -83,9 +82,7 @@ literal_by : (t : Token) (minus : Bool) (digits : List ℕ) (n : ℕ) → has_mi
 literal_by t minus digits n m d r = grind arith
 
 hint_by : (t : Token) (minus : Bool) (digits : List ℕ) (n : ℕ) → has_minus t ≡ minus → after_minus t ≡ digits → number_from t.place 4294967295 digits ≡ Ok n → hint_of t ≡ Ok (if minus then neg_ℤ (pos n) else pos n)
-hint_by t minus digits n m d r =
-    let next : ℕ → Result ℤ LratTextFault = λ v. Ok (if has_minus t then neg_ℤ (pos v) else pos v) in
-    ap (λ ds. number_from t.place 4294967295 ds >>= next) d ∙ ap (λ q. q >>= next) r ∙ ap (λ b. Ok (if b then neg_ℤ (pos n) else pos n)) m
+hint_by t minus digits n m d r = grind (arith, neg_ℤ)
 
 plain_digits : (n place : ℕ) → has_minus (token place (decimal n)) ≡ false → after_minus (token place (decimal n)) ≡ decimal n
 plain_digits n place m = ap (λ b. if b then drop 1 (decimal n) else decimal n) m

@@ -1,5 +1,5 @@
 -- Sends and candidates in their order: one behind the last is behind each.
-use Rattle.std.proofs.Common.{◌≡◌, ℕ, zero, suc, ◌<◌, ◌≤◌, true, List, [], ◌∷◌, ◌++◌, length, get_or, Option, None, Some, ◌⊎◌, inl, inr, refl, sym, ap, ◌∙◌, subst, arith, All}
+use Rattle.std.proofs.Common.{◌≡◌, ℕ, zero, suc, ◌<◌, true, List, [], ◌∷◌, ◌++◌, length, get_or, Option, None, Some, refl, sym, ap, ◌∙◌, arith, All}
 use Rattle.std.{specs.List.{AllPairs, last_or}, proofs.lemmas.{Bool.cases_lt, List.Quantifiers.all_pairs_push}}
 use Rattle.schedule.{specs.{declared.hop.Hop.Hop, Sends.hop_before}, proofs.HopOrder.before_all}
 use Rattle.candidate_order.{specs.{declared.candidate.Candidate.Candidate, Costs.Before}, proofs.Orders.{Before-trans, HasChunk}}
@@ -22,14 +22,7 @@ before_place (suc k) h = (k, refl)
 -- where a relation leads on among elements of a kind, one behind the last is behind each
 module _ {A : Type 0} (R : A → A → Type 0) (P : A → Type 0) (trans : (a b c : A) → P a → P b → P c → R a b → R b c → R a c) where
   behind_each : (xs : List A) (x : A) → All P xs → P x → AllPairs R xs → ((l : A) → last_or None xs ≡ Some l → R l x) → (k : ℕ) (d : A) → k < length xs → R (get_or xs k d) x
-  behind_each xs x ps px ascending behind k d within =
-      let (end, size) = before_place (length xs) (omega arith) in
-      let last : R (get_or xs end d) x = behind (get_or xs end d) (last_is xs None end d size) in
-      by_place end size last (cases_lt k end)
-    where
-      by_place : (end : ℕ) → length xs ≡ suc end → R (get_or xs end d) x → (k < end) ⊎ (end ≤ k) → R (get_or xs k d) x
-      by_place end size last (inl earlier) = trans (get_or xs k d) (get_or xs end d) x (ps k d within) (ps end d (omega arith)) px (ascending k end d earlier (omega arith)) last
-      by_place end size last (inr same) = let at : end ≡ k = omega arith in subst (λ (i : ℕ). R (get_or xs i d) x) at last
+  behind_each xs x ps px ascending behind k d within = grind (arith, before_place, last_is, cases_lt)
 
   pub push_behind : (xs : List A) (x : A) → All P xs → P x → AllPairs R xs → ((l : A) → last_or None xs ≡ Some l → R l x) → AllPairs R (xs ++ x ∷ [])
   push_behind xs x ps px ascending behind = all_pairs_push R xs x ascending (behind_each xs x ps px ascending behind)

@@ -1,5 +1,5 @@
 -- What the checks of one line took stands there.
-use Rattle.std.proofs.Common.{◌≡◌, ℕ, Bool, true, false, not, List, [], ◌∷◌, ◌++◌, Option, None, Some, Result, Ok, Err, refl, sym, ap, ◌∙◌, subst, bytes_eq}
+use Rattle.std.proofs.Common.{arith, ◌≡◌, ℕ, Bool, true, not, List, [], ◌∷◌, ◌++◌, Option, None, Some, Result, Ok, ap, ◌∙◌, subst, bytes_eq}
 use Rattle.std.proofs.lemmas.{Bool.not-false, Slice.Eq.bytes_eq-Decides}
 use Rattle.text_lines.specs.{Text.{Row, Place, words_of}, Check.{◌>>=◌, refuse, first, line_part}}
 use Rattle.text_lines.proofs.{Checks.{bind_ok, refuse_ok, refuse_alone, part_ok, ok_is}, Gives.{Gives, Between, line_gives, Takes}, Rows.{row_of, row_back}}
@@ -12,10 +12,7 @@ pub record WholeTaken (line : Option Row) (row : Row) : Type 0 where
 
 pub whole_take : (line : Option Row) (row : Row) → whole_line line ≡ Ok row → WholeTaken line row
 whole_take None row e = absurd (cc)
-whole_take (Some r) row e =
-    let (whole, e1) = refuse_ok (not r.whole) code.Truncated (λ u. Ok r) row e in
-    let same : r ≡ row = ok_is {C = ReportCode} r row e1 in
-    record { is = ap (λ x. Some x) same; whole = ap (λ x. x.whole) (sym same) ∙ not-false r.whole whole }
+whole_take (Some r) row e = grind (arith, refuse_ok, ok_is, not-false)
 
 -- a whole line whose bytes fall into these words
 pub whole_words : (line : Option Row) (row : Row) (words : List (List ℕ)) → whole_line line ≡ Ok row → words_of row.bytes ≡ words → line ≡ Some (row_of words)
@@ -91,12 +88,4 @@ fixed_gives bytes words tokens p = line_gives (fixed_line bytes) (λ u. words) p
         whole_words line row words found (ap words_of is ∙ tokens)
 
 pub nothing_take : (p : Place) (x : Unit {0} × Place) → line_part no_line p ≡ Ok x → p.rows ≡ []
-nothing_take p x e = none p.rows (part_ok no_line p x e).0
-  where
-    either : (b : Bool) → (refuse (not b) code.Truncated >>= (λ u. Err code.BadLine)) ≡ Ok x.0 → ⊥
-    either true h = absurd (cc)
-    either false h = absurd (cc)
-
-    none : (rows : List Row) → no_line (first rows) ≡ Ok x.0 → rows ≡ []
-    none [] k = refl
-    none (r ∷ rows) k = absurd (either r.whole k)
+nothing_take p x e = grind (arith, part_ok)

@@ -31,9 +31,7 @@ from_here xs i x lt e = at_drop_more (λ ys. ys) xs i x lt ∙ ap (λ z. z ∷ d
 
 pub number_first : (r : ReportValue) (items : List (Part × FrontierValue)) (number : ℕ) → items ≡ r.frontiers → (number ≡ 0 → ⊥) → slice_get (flat_map of_part (drop 0 items) ++ joined_points r.joined) (number - 1) ≡ point_at r number
 number_first r items zero same some = absurd (some refl)
-number_first r items (suc n) same some =
-    let less : suc n - 1 ≡ n = omega arith in
-    ap (slice_get (flat_map of_part items ++ joined_points r.joined)) less ∙ ap (λ xs. slice_get (flat_map of_part xs ++ joined_points r.joined) n) same
+number_first r items (suc n) same some = grind (arith, slice_get)
 
 module _ (items : List (Part × FrontierValue)) (i : ℕ) (x : Part × FrontierValue) (rest : List (Part × PointValue)) (left : ℕ) where
   -- the points of the part at the place stand in front
@@ -48,9 +46,7 @@ module _ (items : List (Part × FrontierValue)) (i : ℕ) (x : Part × FrontierV
       sym g ∙ (ap (λ xs. slice_get xs left) (in_front lt e) ∙ (found ∙ ap (λ q. Some (x.0, q)) point))
 
   pub number_behind : (points : List PointValue) (all : Option (Part × PointValue)) → i < length items → x ≡ get_or items i x → points ≡ x.1.points → length points ≤ left → slice_get (flat_map of_part (drop i items) ++ rest) left ≡ all → slice_get (flat_map of_part (drop (i + 1) items) ++ rest) (left - length points) ≡ all
-  number_behind points all lt e same past g =
-      let sum : left ≡ length x.1.points + (left - length points) = omega (arith, past, ap length same) in
-      sym (number_later (λ q. (x.0, q)) x.1.points (flat_map of_part (drop (i + 1) items) ++ rest) left (left - length points) sum) ∙ (ap (λ xs. slice_get xs left) (sym (in_front lt e)) ∙ g)
+  number_behind points all lt e same past g = grind (arith, number_later, slice_get, in_front)
 
 -- behind the frontiers stand the joined points
 pub number_joined : (items : List (Part × FrontierValue)) (i left : ℕ) (joined points : List PointValue) (all : Option (Part × PointValue)) → length items ≤ i → points ≡ joined → slice_get (flat_map of_part (drop i items) ++ joined_points joined) left ≡ all → all ≡ option_map (λ p. (Joined, p)) (slice_get points left)

@@ -122,16 +122,7 @@ module _ (names : List (List ℕ)) (q : QuestionValue) (as_many : length names �
   chunks_at head = chunks_in q.spec q.topology.nodes head.candidate.c
 
   pub schedule_valid : (head : HeadValue) (rounds : List ℕ) (sends : List Hop) → AreRounds head.candidate rounds → AreSends names (chunks_at head) head.candidate.s sends → 1 ≤ head.candidate.s → head.candidate.s ≤ 16 → HasSchedule q (point_of head rounds sends)
-  schedule_valid head rounds sends are sent some few =
-      let many = are.many in
-      let S : ℕ → Type 0 = λ n. All (λ h. IsStep n h.step) sends in
-      let N : ℕ → Type 0 = λ n. All (λ h. is_hop_below (chunks_at head) n h ≡ true) sends in
-      record {
-        schedule = record { some = omega (arith, many, some); few = omega (arith, many, few); rounds = are.each; steps = subst S (sym many) sent.steps_are; ascending = sent.ascending };
-        steps = many;
-        rounds = are.total;
-        in_range = subst N as_many sent.below;
-      }
+  schedule_valid head rounds sends are sent some few = grind arith
 
   -- the schedule that was read, or one whose first lines were
   pub schedule_gives : (head : HeadValue) (p : Place)

@@ -9,7 +9,7 @@ use Rattle.outer_ports.specs.declared.part.Part.{Part}
 use Rattle.collective_spec.specs.{declared.kind.Kind.Kind, Kinds.{is_custom, takes_root}, Patterns.PatternValue, Collectives.fits_kind}
 use Rattle.collective_spec.specs.declared.kind.Kind.TheVariants as kind
 use Rattle.candidate_order.specs.{Ranges.{IsLimits, unpruned}, Frontiers.{PointValue, FrontierValue}}
-use Rattle.topology_text.specs.{declared.fault.TopologyCode.TopologyCode, Value.{NamedTopologyValue, IsNamed, named_with}, Names.{is_name, AreNames}}
+use Rattle.topology_text.specs.{declared.fault.TopologyCode.TopologyCode, Value.{NamedTopologyValue, IsNamed, named_with}, Names.AreNames}
 use Rattle.topology_text.specs.Spelling.{lines_of, version_word, header_words, nodes_words, group_words, custom_lines}
 use Rattle.topology_text.specs.Reading.{header_line, nodes_line, groups_at, pattern_at}
 use Rattle.topology_text.proofs.{Front.{version_words, header_gives, nodes_give}, Links.node_again, Groups.{Groups, groups_nil, groups_give}, Patterns.{IsCustom, some_pattern, pattern_gives}}
@@ -134,11 +134,7 @@ alone : (name : List ℕ) → AreDistinct (name ∷ [])
 alone name = λ i j d ordered h. absurd (omega (arith, ordered, h))
 
 one_name : (takes : Bool) (root : Option (List ℕ)) → RootFits takes root → AreNames (name_for root ∷ [])
-one_name takes root fits = record { some = omega arith; few = omega arith; each = All-cons (λ n. is_name n ≡ true) (name_for root) [] (good takes fits) (All-nil (λ n. is_name n ≡ true)); distinct = alone (name_for root) }
-  where
-    good : (b : Bool) → RootFits b root → is_name (name_for root) ≡ true
-    good true (name, is, named) = ap (λ o. is_name (name_for o)) is ∙ named
-    good false none = ap (λ o. is_name (name_for o)) none
+one_name takes root fits = grind (arith, All-cons, All-nil, alone)
 
 root_found : (root : Option (List ℕ)) → root_of (name_for root ∷ []) root ≡ Ok 0
 root_found None = refl
@@ -168,15 +164,7 @@ module _ (b : Bool) (a : AskedValue) (asked : IsAsked b a) where
     words_are = words_take z.0.names a z.1 is.named.names.some asked.limits asked.fits is.found
 
     made_valid : IsReport made
-    made_valid = record {
-      topology = is.named;
-      pattern = pattern_fits a.kind z.0.custom (asked.kind ∙ sym is.shown);
-      words = words_are.valid;
-      parts = valid.frontiers.parts_are;
-      frontiers = valid.frontiers.valid;
-      joined = valid.joined.valid;
-      only_allreduce = valid.joined.only;
-    }
+    made_valid = grind (arith, pattern_fits)
 
     -- its lines behind the first two
     abbrev later : List (List (List ℕ))
@@ -205,10 +193,7 @@ module _ (b : Bool) (a : AskedValue) (asked : IsAsked b a) where
 
   -- behind the topology's first line
   node_stops : (q d : Place) (n : ℕ) → Between (spelling.head_words b ∷ []) q d → n ≡ d.number → Stops (λ (z : Rooted). lines_of z.0) (IsRooted b a) q n
-  node_stops q d n header line =
-      let c = one_pattern.value in
-      let rest : List (List (List ℕ)) = nodes_words one_names ∷ body_lines one_names [] c in
-      record { value = one_node; valid = one_rooted; cut = cut_on (header_words c ∷ []) rest q d n (header_on q d b c one_pattern.valid.shown header) (cut_here rest d n line) }
+  node_stops q d n header line = grind (arith, body_lines, one_rooted, cut_on, header_on, cut_here)
 
   module _ (q d : Place) (header : Between (spelling.head_words b ∷ []) q d) (names : List (List ℕ)) (named : AreNames names) (m : Place) (nodes : Between (nodes_words names ∷ []) d m) (root : ℕ) (found : root_of names a.root ≡ Ok root) where
     rooted : (gs : List GroupValue) (c : Option PatternValue) → Groups (length names) gs → IsCustom names b c → IsRooted b a (named_with names gs c, root)

@@ -1,11 +1,11 @@
 -- What the checks of a line's shape took stands there.
-use Rattle.std.proofs.Common.{◌≡◌, ℕ, ◌<◌, Bool, true, false, List, [], ◌∷◌, ◌++◌, map, length, None, Some, Ok, ◌⊎◌, inl, inr, refl, sym, ap, ◌∙◌, codes, decimal, bytes_eq, if◌then◌else◌}
+use Rattle.std.proofs.Common.{arith, ◌≡◌, ℕ, ◌<◌, List, [], ◌∷◌, ◌++◌, map, length, Some, Ok, ◌⊎◌, ap, ◌∙◌, codes, decimal, bytes_eq}
 use Rattle.std.proofs.lemmas.Slice.Eq.{bytes_eq-Decides}
 use Rattle.text_lines.{specs.Check.◌>>=◌, proofs.{Checks.{bind_ok, need_ok, ok_is}, Numbers.up_to_found}}
 use Rattle.schedule.specs.declared.hop.Hop.{Hop}
 use Rattle.candidate_order.specs.{declared.{candidate.Candidate.Candidate, mark.Mark.Mark}, Frontiers.UnknownValue}
 use Rattle.candidate_order.specs.declared.mark.Mark.TheVariants as mark
-use Rattle.report_form.specs.{declared.fault.ReportCode.{ReportCode, TheVariants.BadLine}, Fields.{any_number, small_number, fixed_word}}
+use Rattle.report_form.specs.{declared.fault.ReportCode.{ReportCode, TheVariants.BadLine}, Fields.{any_number, small_number}}
 use Rattle.report_form.specs.{Spelling.{candidate_words, mark_words, rounds_words, send_words, refuted_words}, Reading.{refuted_from, unknown_from}}
 use Rattle.report_form.specs.Points.{HeadValue, candidate_from, mark_named, head_from, joined_head_from, numbers_from, rounds_from, send_from}
 use Rattle.report_form.proofs.Tokens.{pass_then, pass_done, word_take, fixed_take, no_more_take, number_take, node_take}
@@ -43,15 +43,7 @@ abbrev pub head : Candidate → Mark → HeadValue
 head x m = record { candidate = x; mark = m }
 
 pub mark_take : (w : List ℕ) (m : Mark) → mark_named w ≡ Some m → (w ∷ [] ≡ mark_words m) × ((m ≡ mark.Optimal) ⊎ (m ≡ mark.Open))
-mark_take w m e = first (bytes_eq w (codes "optimal")) (bytes_eq w (codes "open")) (bytes_eq-Decides w (codes "optimal")).0 (bytes_eq-Decides w (codes "open")).0 e
-  where
-    is_mark : (n : Mark) → Some n ≡ Some m → n ≡ m
-    is_mark n k = cc
-
-    first : (a b : Bool) → (a ≡ true → w ≡ codes "optimal") → (b ≡ true → w ≡ codes "open") → (if a then Some mark.Optimal else (if b then Some mark.Open else None)) ≡ Some m → (w ∷ [] ≡ mark_words m) × ((m ≡ mark.Optimal) ⊎ (m ≡ mark.Open))
-    first true b p q k = let same = is_mark mark.Optimal k in (ap (λ v. v ∷ []) (p refl) ∙ ap mark_words same, inl (sym same))
-    first false true p q k = let same = is_mark mark.Open k in (ap (λ v. v ∷ []) (q refl) ∙ ap mark_words same, inr (sym same))
-    first false false p q k = absurd (cc)
+mark_take w m e = grind (arith, bytes_eq, bytes_eq-Decides)
 
 pub record HeadTaken (words : List (List ℕ)) (h : HeadValue) : Type 0 where
   pub stands : words ≡ codes "point" ∷ candidate_words h.candidate ++ mark_words h.mark
@@ -63,9 +55,7 @@ head_take words =
     (λ m t. pass_then _ _ _ _ (no_more_take m.1) (λ u e4. let (token, which) = mark_take t.word m.0 t.read_as in pass_done _ _ (record { stands = (let e3 = t.stands in cc); mark = which })))))
 
 pub joined_head_take : (words : List (List ℕ)) (x : Candidate × ℕ) → joined_head_from words ≡ Ok x → words ≡ codes "point" ∷ candidate_words x.0 ++ mark_words (mark.Joined x.1)
-joined_head_take words =
-    pass_then _ _ _ _ (fixed_take (codes "point") words) (λ a e1. pass_then _ _ _ _ (candidate_take a) (λ y e2. pass_then _ _ _ _ (fixed_take (codes "joined") y.1)
-    (λ d e3. pass_then _ _ _ _ (number_take d) (λ n e4. pass_then _ _ _ _ (no_more_take n.1) (λ u e5. pass_done _ _ (cc))))))
+joined_head_take words = grind (arith, pass_then, fixed_take, candidate_take, number_take, no_more_take, pass_done)
 
 -- ---- rounds and sends
 
@@ -78,9 +68,7 @@ numbers_take (w ∷ ws) ns e =
     ap (λ v. v ∷ ws) (up_to_found 65535 n w r1).0 ∙ (ap (λ vs. decimal n ∷ vs) (numbers_take ws ms r2) ∙ ap (map decimal) same)
 
 pub rounds_take : (words : List (List ℕ)) (rounds : List ℕ) → rounds_from words ≡ Ok rounds → words ≡ rounds_words rounds
-rounds_take words rounds e =
-    let (a, r1, e1) = bind_ok (fixed_word (codes "rounds") words) numbers_from rounds e in
-    fixed_take (codes "rounds") words a r1 ∙ ap (λ ws. codes "rounds" ∷ ws) (numbers_take a rounds e1)
+rounds_take words rounds e = grind (arith, bind_ok, fixed_take, numbers_take)
 
 abbrev pub hop : ℕ → ℕ → ℕ → ℕ → Hop
 hop c u v s = record { chunk = c; from = u; to = v; step = s }
@@ -91,6 +79,4 @@ pub record SendTaken (names words : List (List ℕ)) (h : Hop) : Type 0 where
   pub to : h.to < length names
 
 pub send_take : (names words : List (List ℕ)) (h : Hop) → send_from names words ≡ Ok h → SendTaken names words h
-send_take names words =
-    pass_then _ _ _ _ (fixed_take (codes "send") words) (λ a e1. pass_then _ _ _ _ (number_take a) (λ c e2. pass_then _ _ _ _ (node_take names c.1) (λ u from. pass_then _ _ _ _ (node_take names u.1)
-    (λ v to. pass_then _ _ _ _ (number_take v.1) (λ s e5. pass_then _ _ _ _ (no_more_take s.1) (λ z e6. pass_done _ _ (record { stands = (let e3 = from.0 in let e4 = to.0 in cc); from = from.1; to = to.1 })))))))
+send_take names words = grind (arith, pass_then, fixed_take, number_take, node_take, no_more_take, pass_done)

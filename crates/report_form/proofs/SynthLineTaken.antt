@@ -1,12 +1,12 @@
 -- What the checks of the line that says what was asked took stands there, and is valid.
-use Rattle.std.proofs.Common.{◌≡◌, ℕ, ◌<◌, Bool, true, false, ◌||◌, not, List, [], ◌∷◌, ◌++◌, length, drop, Option, None, Some, Ok, refl, sym, ap, ◌∙◌, arith, codes, decimal, bytes_eq, find, if◌then◌else◌}
+use Rattle.std.proofs.Common.{◌≡◌, ℕ, ◌<◌, Bool, true, false, ◌||◌, not, List, [], ◌∷◌, ◌++◌, length, Option, None, Some, Ok, refl, sym, ap, ◌∙◌, arith, codes, decimal, bytes_eq, find, if◌then◌else◌}
 use Rattle.std.proofs.lemmas.{Bool.and_parts, Slice.Eq.bytes_eq-Decides, List.append-nil, Option.same_Some}
-use Rattle.text_lines.{specs.{Text.Place, Check.{◌>>=◌, line_part}}, proofs.{Checks.{ok_is, if_some, need_is}, Gives.{Gives, Between}}}
+use Rattle.text_lines.{specs.{Text.Place, Check.line_part}, proofs.{Checks.{ok_is, if_some, need_is}, Gives.{Gives, Between}}}
 use Rattle.collective_spec.specs.{declared.kind.Kind.{Kind, TheVariants.Custom}, Kinds.{word_of, takes_root, is_custom}}
 use Rattle.candidate_order.specs.{declared.pruning.Pruning.Pruning, Ranges.{LimitsValue, IsLimits, unpruned}}
 use Rattle.topology_text.{specs.{Names.{is_name, name_of}, Spelling.name_at, Reading.node_of}, proofs.Links.node_is}
 use Rattle.report_form.specs.{declared.fault.ReportCode.ReportCode, Reports.IsWords, Spelling.{word_if, pruning_words, synth_words}, Tests.are_limits}
-use Rattle.report_form.specs.Fields.{any_number, behind_key, next_keyed}
+use Rattle.report_form.specs.Fields.{any_number, next_keyed}
 use Rattle.report_form.specs.SynthLine.{AskedValue, kinds_of, kind_named, limits_from, root_from, said_from, pruning_from, asked_from, may_be_asked, asked_line, root_of, words_from}
 use Rattle.report_form.proofs.{Tested.decides_limits, Tokens.{pass_then, pass_done, word_take, fixed_take, no_more_take, keyed_is, any_number_is}}
 use Rattle.report_form.proofs.LineTaken.{ruled_gives}
@@ -21,18 +21,11 @@ pub record KeyedTaken {A : Type 0} (key : List ℕ) (read : List ℕ → Option 
   pub read_as : read value ≡ Some x.0
 
 pub keyed_take : {A : Type 0} (key : List ℕ) (read : List ℕ → Option A) (words : List (List ℕ)) (x : A × List (List ℕ)) → next_keyed key read words ≡ Ok x → KeyedTaken key read words x
-keyed_take key read words x e =
-    let t = word_take (behind_key key read) words x e in
-    let (is, found) = keyed_is key read t.word x.0 t.read_as in
-    record { value = drop (length key) t.word; stands = t.stands ∙ ap (λ w. w ∷ x.1) is; read_as = found }
+keyed_take key read words x e = grind (arith, word_take, keyed_is)
 
 pub found_is : (p : Kind → Bool) (kinds : List Kind) (k : Kind) → find p kinds ≡ Some k → p k ≡ true
 found_is p [] k e = absurd (cc)
-found_is p (x ∷ xs) k e = chosen (p x) refl e (found_is p xs k)
-  where
-    chosen : (b : Bool) → b ≡ p x → (if b then Some x else find p xs) ≡ Some k → (find p xs ≡ Some k → p k ≡ true) → p k ≡ true
-    chosen true same h later = let is : x ≡ k = same_Some x k h in ap p (sym is) ∙ sym same
-    chosen false same h later = later h
+found_is p (x ∷ xs) k e = grind (arith, same_Some, found_is p xs k)
 
 kind_is : (patterned : Bool) (w : List ℕ) (k : Kind) → kind_named patterned w ≡ Some k → w ≡ word_of k
 kind_is patterned w k e = sym ((bytes_eq-Decides (word_of k) w).0 (found_is (λ kind. bytes_eq (word_of kind) w) (kinds_of patterned) k e))
@@ -88,24 +81,13 @@ pub record RootTaken (takes : Bool) (words : List (List ℕ)) (x : Option (List 
   pub fits : RootFits takes x.0
 
 pub root_take : (kind : Kind) (words : List (List ℕ)) (x : Option (List ℕ) × List (List ℕ)) → root_from kind words ≡ Ok x → RootTaken (takes_root kind) words x
-root_take kind words = chosen (takes_root kind)
-  where
-    chosen : (b : Bool) (x : Option (List ℕ) × List (List ℕ)) → (if b then (next_keyed (codes "root=") name_of words >>= (λ n. Ok (Some n.0, n.1))) else Ok (None, words)) ≡ Ok x → RootTaken b words x
-    chosen true = pass_then _ _ _ _ (keyed_take (codes "root=") name_of words) (λ n t. let (is, good) = name_is t.value n.0 t.read_as in pass_done _ _ (record { stands = (let e = t.stands in cc); fits = (n.0, refl, good) }))
-    chosen false = pass_done _ _ (record { stands = refl; fits = refl })
+root_take kind words = grind (arith, pass_then, keyed_take, name_is, pass_done)
 
 -- ---- what may be left out
 
 said_is : (word : List ℕ) (words : List (List ℕ)) → words ≡ word_if word (said_from word words).0 ++ (said_from word words).1
 said_is word [] = refl
-said_is word (w ∷ ws) = by_test (bytes_eq w word) refl
-  where
-    said : Bool → Bool × List (List ℕ)
-    said b = if b then (true, ws) else (false, w ∷ ws)
-
-    by_test : (b : Bool) → bytes_eq w word ≡ b → w ∷ ws ≡ word_if word (said b).0 ++ (said b).1
-    by_test true same = ap (λ v. v ∷ ws) ((bytes_eq-Decides w word).0 same)
-    by_test false other = refl
+said_is word (w ∷ ws) = grind (arith, bytes_eq, bytes_eq-Decides)
 
 pub pruning_take : (words : List (List ℕ)) (p : Pruning) → pruning_from words ≡ Ok p → words ≡ pruning_words p
 pruning_take words =

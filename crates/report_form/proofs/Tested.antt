@@ -1,5 +1,5 @@
 -- Each test of limits and of candidates is true exactly where what it tests holds.
-use Rattle.std.proofs.{Common.{ℕ, ◌+◌, ◌*◌, ◌≤◌, ◌==◌, ◌&&◌, ◌||◌, Bool, nat_le, nat_lt, IsTrue, Decides}, lemmas.Bool.{leb-true, le-leb}}
+use Rattle.std.proofs.{Common.{arith, ℕ, ◌+◌, ◌*◌, ◌≤◌, ◌&&◌, ◌||◌, Bool, nat_le, nat_lt, IsTrue, Decides}, lemmas.Bool.{leb-true, le-leb}}
 use Rattle.std.proofs.lemmas.Bool.Decides.{Decides-and, Decides-or, Decides-eqb, Decides-ltb, Decides-like}
 use Rattle.collective_spec.specs.{Kinds.allows, Collectives.kind_in}
 use Rattle.candidate_order.specs.{declared.candidate.Candidate.Candidate, Ranges.{LimitsValue, IsLimits}, Costs.{NoWorse, Better, Before}}
@@ -20,20 +20,12 @@ decides_better a b = Decides-and (is_no_worse a b) (nat_lt a.s b.s || nat_lt (a.
     (Decides-or (nat_lt a.s b.s) (nat_lt (a.r * b.c) (b.r * a.c)) (Decides-ltb _ _) (Decides-ltb _ _))
 
 pub decides_before : (a b : Candidate) → Decides (is_before a b) (Before a b)
-decides_before a b =
-    let chunks = Decides-and (a.r * b.c == b.r * a.c) (nat_lt a.c b.c) (Decides-eqb _ _) (Decides-ltb _ _) in
-    let costs = Decides-or (nat_lt (a.r * b.c) (b.r * a.c)) (a.r * b.c == b.r * a.c && nat_lt a.c b.c) (Decides-ltb _ _) chunks in
-    let steps = Decides-and (a.s == b.s) (nat_lt (a.r * b.c) (b.r * a.c) || (a.r * b.c == b.r * a.c && nat_lt a.c b.c)) (Decides-eqb _ _) costs in
-    Decides-or (nat_lt a.s b.s) (a.s == b.s && (nat_lt (a.r * b.c) (b.r * a.c) || (a.r * b.c == b.r * a.c && nat_lt a.c b.c))) (Decides-ltb _ _) steps
+decides_before a b = grind (arith, Decides-and, nat_lt, Decides-eqb, Decides-ltb, Decides-or)
 
 -- six tests in a row
 pub six : {P Q R S T U : Type 0} (p q r s t u : Bool) → Decides p P → Decides q Q → Decides r R → Decides s S → Decides t T → Decides u U
     → Decides (p && q && r && s && t && u) (((((P × Q) × R) × S) × T) × U)
-six p q r s t u dp dq dr ds dt du =
-    Decides-and (p && q && r && s && t) u
-    (Decides-and (p && q && r && s) t
-    (Decides-and (p && q && r) s
-    (Decides-and (p && q) r (Decides-and p q dp dq) dr) ds) dt) du
+six p q r s t u dp dq dr ds dt du = grind (arith, Decides-and)
 
 pub decides_within : (q : QuestionValue) (x : Candidate) → Decides (is_within q x) (IsWithin q x)
 decides_within q x =
@@ -44,10 +36,4 @@ decides_within q x =
     (leb_decides _ _) (leb_decides _ _) (leb_decides _ _) (leb_decides _ _) (leb_decides _ _) (itself _))
 
 pub decides_limits : (l : LimitsValue) → Decides (are_limits l) (IsLimits l)
-decides_limits l =
-    Decides-like (are_limits l)
-    (λ h. record { k = h.0.0.0.0.0.0; some_steps = h.0.0.0.0.0.1; steps = h.0.0.0.0.1; some_chunks = h.0.0.0.1; chunks = h.0.0.1; some_conflicts = h.0.1; conflicts = h.1 })
-    (λ h. ((((((h.k, h.some_steps), h.steps), h.some_chunks), h.chunks), h.some_conflicts), h.conflicts))
-    (Decides-and (nat_le l.k 8 && nat_le 1 l.max_s && nat_le l.max_s 8 && nat_le 1 l.max_c && nat_le l.max_c 16 && nat_le 1 l.conflicts) (nat_le l.conflicts 100000)
-    (six (nat_le l.k 8) (nat_le 1 l.max_s) (nat_le l.max_s 8) (nat_le 1 l.max_c) (nat_le l.max_c 16) (nat_le 1 l.conflicts)
-    (leb_decides _ _) (leb_decides _ _) (leb_decides _ _) (leb_decides _ _) (leb_decides _ _) (leb_decides _ _)) (leb_decides _ _))
+decides_limits l = grind (arith, Decides-like, Decides-and, nat_le, six, leb_decides)

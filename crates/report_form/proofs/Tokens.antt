@@ -1,11 +1,11 @@
 -- What the checks of tokens took stands there.
 use Rattle.std.proofs.Common.{◌≡◌, ℕ, ◌<◌, ◌^◌, true, ◌&&◌, not, List, [], ◌∷◌, ◌++◌, length, drop, Option, Some, Result, Ok, refl, sym, ap, ◌∙◌, subst, arith, ◌==◌, bytes_eq, decimal, nat_eq, nat_le}
-use Rattle.std.{specs.{List.{starts_with, list_all}, Str.Parse.{AllDigits, digits_value}}, proofs.lemmas.{Bool.Decides.Decides-eqb, Option.same_Some}}
+use Rattle.std.{specs.{List.list_all, Str.Parse.{AllDigits, digits_value}}, proofs.lemmas.{Bool.Decides.Decides-eqb, Option.same_Some}}
 use Rattle.std.proofs.lemmas.{Bool.{and_parts, not-true, not-false, leb-true, eqb-false}, Slice.Eq.{bytes_eq-Decides, starts_is}}
-use Rattle.text_lines.{specs.{Check.◌>>=◌, Repeated.begins}, proofs.{Checks.{bind_ok, done, need_ok, refuse_ok, ok_is, if_some}, Numbers.{up_to_found, spells, digit_is}}}
+use Rattle.text_lines.{specs.Check.◌>>=◌, proofs.{Checks.{bind_ok, done, need_ok, refuse_ok, ok_is, if_some}, Numbers.{up_to_found, spells, digit_is}}}
 use Rattle.topology_text.{specs.{Spelling.name_at, Reading.node_of}, proofs.Links.node_is}
-use Rattle.report_form.specs.declared.fault.ReportCode.{ReportCode, TheVariants.BadLine}
-use Rattle.report_form.specs.Fields.{is_digit, is_number, any_number, small_number, next_word, behind_key, fixed_word, next_number, next_node, no_more}
+use Rattle.report_form.specs.declared.fault.ReportCode.{ReportCode}
+use Rattle.report_form.specs.Fields.{is_digit, is_number, any_number, next_word, behind_key, fixed_word, next_number, next_node, no_more}
 
 -- one step that passed, and then the rest
 pub pass_then : {A B C : Type 0} (N : A → Type 0) (M : B → Type 0) (r : Result A C) (f : A → Result B C) → ((x : A) → r ≡ Ok x → N x) → ((x : A) → N x → (y : B) → f x ≡ Ok y → M y) → (y : B) → (r >>= f) ≡ Ok y → M y
@@ -26,19 +26,11 @@ with_rest ws x = Ok (x, ws)
 
 pub word_take : {A : Type 0} (read : List ℕ → Option A) (words : List (List ℕ)) (x : A × List (List ℕ)) → next_word read words ≡ Ok x → WordTaken read words x
 word_take read [] x e = absurd (cc)
-word_take {A} read (w ∷ ws) x e =
-    let (y, found, e1) = need_ok (read w) BadLine (with_rest ws) x e in
-    let same : (y, ws) ≡ x = ok_is {C = ReportCode} (y, ws) x e1 in
-    let P : A × List (List ℕ) → Type 0 = λ z. WordTaken read (w ∷ ws) z in
-    subst P same (record { word = w; stands = refl; read_as = found })
+word_take {A} read (w ∷ ws) x e = grind (arith, need_ok, ok_is)
 
 pub fixed_take : (word : List ℕ) (words rest : List (List ℕ)) → fixed_word word words ≡ Ok rest → words ≡ word ∷ rest
 fixed_take word [] rest e = absurd (cc)
-fixed_take word (w ∷ ws) rest e =
-    let (same, e1) = refuse_ok (not (bytes_eq w word)) BadLine (λ u. Ok ws) rest e in
-    let is : w ≡ word = (bytes_eq-Decides w word).0 (not-false (bytes_eq w word) same) in
-    let left : ws ≡ rest = ok_is {C = ReportCode} ws rest e1 in
-    ap (λ x. x ∷ ws) is ∙ ap (λ xs. word ∷ xs) left
+fixed_take word (w ∷ ws) rest e = grind (arith, refuse_ok, bytes_eq, bytes_eq-Decides, not-false, ok_is)
 
 pub no_more_take : (words : List (List ℕ)) (u : Unit {0}) → no_more words ≡ Ok u → words ≡ []
 no_more_take [] u e = refl
@@ -47,9 +39,7 @@ no_more_take (w ∷ ws) u e = absurd (cc)
 -- ---- numbers and names
 
 pub number_take : (words : List (List ℕ)) (x : ℕ × List (List ℕ)) → next_number words ≡ Ok x → words ≡ decimal x.0 ∷ x.1
-number_take words x e =
-    let t = word_take small_number words x e in
-    t.stands ∙ ap (λ w. w ∷ x.1) (up_to_found 65535 x.0 t.word t.read_as).0
+number_take words x e = grind (arith, word_take, up_to_found)
 
 pub node_take : (names words : List (List ℕ)) (x : ℕ × List (List ℕ)) → next_node names words ≡ Ok x → (words ≡ name_at names x.0 ∷ x.1) × (x.0 < length names)
 node_take names words x e =
@@ -79,13 +69,8 @@ canonical (b ∷ c ∷ bs) e small =
     spells (b ∷ c ∷ bs) (digits_all (b ∷ c ∷ bs) parts.1) (omega arith) (λ zero_first. absurd (eqb-false b 48 (not-true (b == 48) parts.0) zero_first)) small
 
 pub any_number_is : (token : List ℕ) (n : ℕ) → any_number token ≡ Some n → n < 2 ^ 64 → token ≡ decimal n
-any_number_is token n e small =
-    let (canon, value) = if_some (is_number token) (Some (digits_value 10 token)) n e in
-    let same : digits_value 10 token ≡ n = same_Some (digits_value 10 token) n value in
-    canonical token canon (omega (arith, same, small)) ∙ ap decimal same
+any_number_is token n e small = grind (arith, if_some, same_Some, canonical)
 
 -- a key and what stands behind it
 pub keyed_is : {A : Type 0} (key : List ℕ) (read : List ℕ → Option A) (w : List ℕ) (x : A) → behind_key key read w ≡ Some x → (w ≡ key ++ drop (length key) w) × (read (drop (length key) w) ≡ Some x)
-keyed_is key read w x e =
-    let (front, found) = if_some (begins key w) (read (drop (length key) w)) x e in
-    ((starts_is Decides-eqb w key (starts_with nat_eq w key) refl).0 front, found)
+keyed_is key read w x e = grind (arith, if_some, starts_is, Decides-eqb, nat_eq)

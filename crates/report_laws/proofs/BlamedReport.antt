@@ -1,7 +1,7 @@
 -- The line that the checks of a report blame has the code of its form.
-use Rattle.std.proofs.Common.{◌≡◌, ℕ, zero, suc, ◌+◌, Bool, true, false, ◌||◌, not, List, [], ◌∷◌, ◌++◌, map, length, drop, Option, None, Some, Result, Ok, Err, refl, sym, ap, ◌∙◌, arith, ◌==◌, codes, decimal, bytes_eq, if◌then◌else◌, slice_index_or, is_ok}
+use Rattle.std.proofs.Common.{◌≡◌, ℕ, zero, suc, ◌+◌, Bool, true, false, ◌||◌, not, List, [], ◌∷◌, ◌++◌, map, length, drop, Option, None, Some, Result, Ok, Err, refl, sym, ap, ◌∙◌, arith, ◌==◌, codes, bytes_eq, if◌then◌else◌, slice_index_or, is_ok}
 use Rattle.std.{specs.List.list_any, proofs.lemmas.{Bool.{and_parts, not-false, or_parts}, Option.same_Some, Slice.Eq.bytes_eq-Decides}}
-use Rattle.text_lines.specs.{Text.{Row, Place, words_of, rows_of, start, behind}, Check.{◌>>=◌, refuse, need, first, line_part}, Repeated.{begins, parts_at}}
+use Rattle.text_lines.specs.{Text.{Row, Place, words_of, rows_of, start, behind}, Check.{refuse, first, line_part}, Repeated.{begins, parts_at}}
 use Rattle.text_lines.proofs.{Checks.refuse_ok, Gives.{Gives, gives_done, gives_fail, gives_like}, Rows.{row_of, words_again}, Words.tokens_from}
 use Rattle.schedule.specs.Links.{GroupValue}
 use Rattle.outer_ports.specs.declared.part.Part.{Part, TheVariants.Joined}
@@ -10,14 +10,14 @@ use Rattle.collective_spec.specs.declared.kind.Kind.TheVariants as kind
 use Rattle.candidate_order.specs.Frontiers.{PointValue, FrontierValue}
 use Rattle.topology_text.specs.{declared.fault.TopologyCode.{TopologyCode, TheVariants.BadLine}, Value.{NamedTopologyValue, named_with}, Names.AreNames}
 use Rattle.topology_text.specs.Spelling.{nodes_words, head_words}
-use Rattle.topology_text.specs.Reading.{has_empty, has_front, node_of, header_line, nodes_line, groups_at, base_of, custom_line, holders_from, holders_line, holders_at, Pairs, pattern_at}
+use Rattle.topology_text.specs.Reading.{header_line, nodes_line, groups_at, base_of, custom_line, holders_line, holders_at, Pairs, pattern_at}
 use Rattle.topology_text.proofs.{Front.{header_takes, nodes_line_take, nodes_are_words}, Groups.next_group}
 use Rattle.report_form.specs.{declared.fault.ReportCode.ReportCode, Reports.{WordsValue, ReportValue, parts_of, question_of}, Lines.no_line}
 use Rattle.report_form.specs.{Points.joined_point_at, SynthLine.{AskedValue, kinds_of, asked_from, may_be_asked, asked_line, root_of, words_from}}
-use Rattle.report_form.specs.Reading.{part_bytes, frontiers_from, joined_at, body_of, version_of, version_line, is_same, report_of}
+use Rattle.report_form.specs.Reading.{part_bytes, frontiers_from, joined_at, body_of, version_line, is_same, report_of}
 use Rattle.report_form.proofs.ReportTaken.{after_root, after_names, after_same, after_asked, after_head, report_at, report_is}
 use Rattle.report_form.specs.declared.fault.ReportCode.TheVariants as code
-use Rattle.report_laws.specs.Shapes.{has_shape, asked_shape, formed, results, forms_after, first_word, is_patterned, names_in, forms_behind, code_of}
+use Rattle.report_laws.specs.Shapes.{has_shape, asked_shape, results, forms_after, first_word, is_patterned, names_in, forms_behind, code_of}
 use Rattle.report_laws.proofs.{ShapesTold.asked_told, BlamedPoints.{joined_points_go, IsTitle, title_goes, frontier_goes}}
 use Rattle.report_laws.proofs.Blaming.{Form, is_joined, fits, last_is, goes_on, at_line_goes, part_goes, or_false, told_code, ruled_goes, first_of_shape, first_of_front, On, Coded, Unfit, code_on, unfit_on, among_goes, Stands, stands_goes, told_on, At, coded_at, onward, lines_go}
 
@@ -34,11 +34,7 @@ titles_of k = (refl, tt)
 
 -- no line may stand there
 none_goes : (row : Row) → Gives (λ (why : ReportCode). why ≡ told_code false row) (λ (u : Unit {0}). Unit {0}) (no_line (Some row))
-none_goes row = by_end row.whole
-  where
-    by_end : (b : Bool) → Gives (λ (why : ReportCode). why ≡ (if b then code.BadLine else code.Truncated)) (λ (u : Unit {0}). Unit {0}) (refuse (not b) code.Truncated >>= (λ u. Err code.BadLine))
-    by_end true = gives_fail code.BadLine refl
-    by_end false = gives_fail code.Truncated refl
+none_goes row = grind (arith, gives_fail)
 
 module _ (rows : List Row) (words : WordsValue) (t : NamedTopologyValue) where
   frontiers_go : (parts : List Part) → Titles parts → (p : Place) → At rows t.names false [] p → Gives (Coded rows) (λ (x : List (Part × FrontierValue) × Place). At rows t.names false [] x.1) (frontiers_from words t parts p)
@@ -100,18 +96,7 @@ module _ (rows : List Row) (names : List (List ℕ)) where
       first_of_front (codes "custom") row refl (not-false front begun)
 
   holders_first : (word : List ℕ) (g : ℕ) (row : Row) (found : List ℕ) → holders_line names word g (Some row) ≡ Ok found → first_word row ≡ word
-  holders_first word g row found e =
-      let words = words_of row.bytes in
-      let front : Bool = has_front word (decimal g) words in
-      let (shape, e1) = refuse_ok (not row.whole || not front || has_empty words) BadLine (λ u. holders_from names [] (drop 2 words)) found e in
-      let (early, full) = or_parts (not row.whole || not front) (has_empty words) shape in
-      let (whole, begun) = or_parts (not row.whole) (not front) early in
-      by_words words (not-false front begun)
-    where
-      by_words : (ws : List (List ℕ)) → has_front word (decimal g) ws ≡ true → slice_index_or ws 0 [] ≡ word
-      by_words [] h = absurd (cc)
-      by_words (w ∷ []) h = absurd (cc)
-      by_words (w ∷ x ∷ ws) h = sym ((bytes_eq-Decides word w).0 (and_parts (bytes_eq word w) (bytes_eq (decimal g) x) h).0)
+  holders_first word g row found e = grind (arith, refuse_ok, or_parts, not-false, slice_index_or, bytes_eq-Decides, and_parts, bytes_eq)
 
   holders_go : (left g : ℕ) (found : Pairs) (p : Place) → At rows names false [] p → Gives (Unfit rows) (InTopology {A = Pairs}) (holders_at names left g found p)
   holders_go zero g found p at = gives_done _ at
@@ -158,14 +143,7 @@ module _ (text : List ℕ) where
           w4 = ap (λ ws. slice_index_or ws 0 []) words4
 
           at_groups : At all n.0 false [] n.1
-          at_groups = record {
-            before = r1 ∷ r2 ∷ r3 ∷ r4 ∷ [];
-            on = on4;
-            named = λ more. ap (drop 1) words4;
-            section = ap (λ w. is_joined (w ∷ first_word r2 ∷ first_word r3 ∷ first_word r4 ∷ [])) w1 ∙ (ap (λ w. is_joined (codes "sccl" ∷ w ∷ first_word r3 ∷ first_word r4 ∷ [])) w2
-                ∙ (ap (λ w. is_joined (codes "sccl" ∷ codes "synth" ∷ w ∷ first_word r4 ∷ [])) w3 ∙ ap (λ w. is_joined (codes "sccl" ∷ codes "synth" ∷ codes "topology" ∷ w ∷ [])) w4));
-            awaits = λ row h. fits_after (r1 ∷ r2 ∷ r3 ∷ []) r4 row (codes "nodes") w4 [] refl;
-          }
+          at_groups = grind (arith, words4, is_joined, w4, fits_after)
 
           root_goes : (root : ℕ) → Gives (Coded all) Passed (after_root all head.0 a.0 n root)
           root_goes root =
@@ -178,11 +156,7 @@ module _ (text : List ℕ) where
 
         root_told : (names : List (List ℕ)) (root : Option (List ℕ)) (c : ReportCode) → root_of names root ≡ Err c → c ≡ code.Limits
         root_told names None c e = absurd (cc)
-        root_told names (Some name) c e = needed (node_of names name) e
-          where
-            needed : (o : Option ℕ) → need o code.Limits ≡ Err c → c ≡ code.Limits
-            needed None h = let same : code.Limits ≡ c = cc in sym same
-            needed (Some i) h = absurd (cc)
+        root_told names (Some name) c e = grind arith
 
         behind_names : (n : List (List ℕ) × Place) → Stands all nodes_line (r1 ∷ r2 ∷ r3 ∷ []) d.1 n → Gives (Coded all) Passed (after_names all head.0 a.0 d.1.number n)
         behind_names n i =
@@ -224,14 +198,7 @@ module _ (text : List ℕ) where
     asked_test words = list_any (λ k. has_shape (asked_shape k) words) (kinds_of head.0)
 
     asked_fits : (row : Row) → fits (r1 ∷ []) row ≡ asked_test (words_of row.bytes)
-    asked_fits row = fits_after [] r1 row (codes "sccl") w1 (map asked_form (kinds_of (is_patterned (r1 ∷ [])))) refl ∙ (ap (λ b. list_any (λ form. form row) (map asked_form (kinds_of b))) v1 ∙ by_version head.0)
-      where
-        asked_form : Kind → Form
-        asked_form k = formed (asked_shape k)
-
-        by_version : (b : Bool) → list_any (λ form. form row) (map asked_form (kinds_of b)) ≡ list_any (λ k. asked_form k row) (kinds_of b)
-        by_version true = refl
-        by_version false = refl
+    asked_fits row = grind (arith, fits_after)
 
     asked_first : (ks : List Kind) (row : Row) → list_any (λ k. has_shape (asked_shape k) (words_of row.bytes)) ks ≡ true → first_word row ≡ codes "synth"
     asked_first [] row e = absurd (cc)
@@ -261,20 +228,7 @@ module _ (text : List ℕ) where
     version : is_patterned (row ∷ []) ≡ b
 
   version_goes : (row : Row) → Gives (λ (c : ReportCode). c ≡ told_code false row) (λ (b : Bool). Said row b) (version_line (Some row))
-  version_goes row = by_end row.whole
-    where
-      by_tests : (one two : Bool) → bytes_eq row.bytes (codes "sccl 1") ≡ one → bytes_eq row.bytes (codes "sccl 2") ≡ two → Gives (λ (c : ReportCode). c ≡ code.BadLine) (λ (b : Bool). Said row b) (need (if one then Some false else (if two then Some true else None)) code.BadLine)
-      by_tests true two is1 is2 =
-          let is : row.bytes ≡ codes "sccl 1" = (bytes_eq-Decides row.bytes (codes "sccl 1")).0 is1 in
-          gives_done false (record { word = ap (λ v. slice_index_or (words_of v) 0 []) is; version = ap (λ v. bytes_eq v (codes "sccl 2") || false) is })
-      by_tests false true is1 is2 =
-          let is : row.bytes ≡ codes "sccl 2" = (bytes_eq-Decides row.bytes (codes "sccl 2")).0 is2 in
-          gives_done true (record { word = ap (λ v. slice_index_or (words_of v) 0 []) is; version = ap (λ b. b || false) is2 })
-      by_tests false false is1 is2 = gives_fail code.BadLine refl
-
-      by_end : (w : Bool) → Gives (λ (c : ReportCode). c ≡ (if w then code.BadLine else code.Truncated)) (λ (b : Bool). Said row b) ((refuse (not w) code.Truncated >>= (λ u. Ok row)) >>= (λ r. need (version_of r.bytes) code.BadLine))
-      by_end true = by_tests (bytes_eq row.bytes (codes "sccl 1")) (bytes_eq row.bytes (codes "sccl 2")) refl refl
-      by_end false = gives_fail code.Truncated refl
+  version_goes row = grind (arith, bytes_eq, bytes_eq-Decides, gives_done, slice_index_or, gives_fail)
 
   version_code : (o : Option Row) (c : ReportCode) → version_line o ≡ Err c → c ≡ code_of [] o
   version_code None c e = let same : code.Truncated ≡ c = cc in sym same

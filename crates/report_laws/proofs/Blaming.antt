@@ -1,5 +1,5 @@
 -- A line that a check blames has the code of its form, where the lines before it say which forms may stand there.
-use Rattle.std.proofs.Common.{◌≡◌, ℕ, zero, suc, ◌+◌, ◌-◌, ◌<◌, ◌≤◌, Bool, true, false, ◌&&◌, ◌||◌, not, eqb, List, [], ◌∷◌, ◌++◌, map, length, take, drop, Option, None, Some, Result, Ok, Err, refl, sym, ap, ◌∙◌, subst, append_assoc, arith, codes, bytes_eq, if◌then◌else◌, slice_get, slice_index_or, nat_eq}
+use Rattle.std.proofs.Common.{◌≡◌, ℕ, zero, suc, ◌+◌, ◌-◌, ◌<◌, ◌≤◌, Bool, true, false, ◌&&◌, ◌||◌, not, eqb, List, [], ◌∷◌, ◌++◌, map, length, take, Option, None, Some, Result, Ok, Err, refl, sym, ap, ◌∙◌, subst, append_assoc, arith, codes, bytes_eq, if◌then◌else◌, slice_get, slice_index_or, nat_eq}
 use Rattle.std.{specs.List.{list_any, list_all, last_or, starts_with, join_with_byte}, proofs.{Math.Seq.take-append_seam, lemmas.Bool.and_parts}}
 use Rattle.std.proofs.lemmas.{Bool.Decides.Decides-eqb, List.{length-append, Splits.join_with_byte-slice_split}, Slice.Eq.{bytes_eq-Decides, starts_is}}
 use Rattle.text_lines.specs.{Text.{Row, Place, words_of, behind}, Check.{◌>>=◌, refuse, at_line, first, line_part}, Repeated.{begins, row_begins, lines_at, parts_from}}
@@ -53,41 +53,16 @@ told_code fit row = if row.whole then (if fit then code.Limits else code.BadLine
 -- a shape, and then a rule
 module _ {A B : Type 0} (test : List (List ℕ) → Bool) (shape : List (List ℕ) → Result A ReportCode) (rule : A → Bool) (made : A → B) (told : (words : List (List ℕ)) → Told (test words) (shape words)) where
   pub ruled_goes : (row : Row) → Gives (λ (why : ReportCode). why ≡ told_code (test (words_of row.bytes)) row) (λ (y : B). test (words_of row.bytes) ≡ true) (on_words (ruled_by shape rule made) (Some row))
-  ruled_goes row = by_end row.whole
-    where
-      by_rule : (t kept : Bool) (x : A) → t ≡ true → Gives (λ (why : ReportCode). why ≡ (if t then code.Limits else code.BadLine)) (λ (y : B). t ≡ true) (refuse (not kept) code.Limits >>= (λ u. Ok (made x)))
-      by_rule t true x here = gives_done (made x) here
-      by_rule t false x here = gives_fail code.Limits (ap (λ b. if b then code.Limits else code.BadLine) (sym here))
-
-      by_shape : (t : Bool) (r : Result A ReportCode) → Told t r → Gives (λ (why : ReportCode). why ≡ (if t then code.Limits else code.BadLine)) (λ (y : B). t ≡ true) (r >>= (λ x. refuse (not (rule x)) code.Limits >>= (λ u. Ok (made x))))
-      by_shape t (Ok x) here = by_rule t (rule x) x (here.ok x refl)
-      by_shape t (Err c) here = let (fails, bad) = here.err c refl in gives_fail c (bad ∙ ap (λ b. if b then code.Limits else code.BadLine) (sym fails))
-
-      by_end : (b : Bool) → Gives (λ (why : ReportCode). why ≡ (if b then (if test (words_of row.bytes) then code.Limits else code.BadLine) else code.Truncated)) (λ (y : B). test (words_of row.bytes) ≡ true)
-          (((refuse (not b) code.Truncated >>= (λ u. Ok row)) >>= (λ r. Ok (words_of r.bytes))) >>= ruled_by shape rule made)
-      by_end true = by_shape (test (words_of row.bytes)) (shape (words_of row.bytes)) (told (words_of row.bytes))
-      by_end false = gives_fail code.Truncated refl
+  ruled_goes row = grind (arith, gives_done, gives_fail, ruled_by)
 
 -- a line that is written out
 pub fixed_goes : (bytes : List ℕ) (row : Row) → Gives (λ (why : ReportCode). why ≡ told_code false row) (λ (u : Unit {0}). row.bytes ≡ bytes) (fixed_line bytes (Some row))
-fixed_goes bytes row = by_end row.whole
-  where
-    by_same : (same : Bool) → bytes_eq row.bytes bytes ≡ same → Gives (λ (why : ReportCode). why ≡ code.BadLine) (λ (u : Unit {0}). row.bytes ≡ bytes) (refuse (not same) code.BadLine)
-    by_same true is = gives_done tt ((bytes_eq-Decides row.bytes bytes).0 is)
-    by_same false is = gives_fail code.BadLine refl
-
-    by_end : (b : Bool) → Gives (λ (why : ReportCode). why ≡ (if b then code.BadLine else code.Truncated)) (λ (u : Unit {0}). row.bytes ≡ bytes) ((refuse (not b) code.Truncated >>= (λ v. Ok row)) >>= (λ r. refuse (not (bytes_eq r.bytes bytes)) code.BadLine))
-    by_end true = by_same (bytes_eq row.bytes bytes) refl
-    by_end false = gives_fail code.Truncated refl
+fixed_goes bytes row = grind (arith, bytes_eq, gives_done, bytes_eq-Decides, gives_fail)
 
 -- ---- the first word of a line
 
 pub first_of_shape : (word : List ℕ) (shape : List Token) (row : Row) → has_shape (Word word ∷ shape) (words_of row.bytes) ≡ true → first_word row ≡ word
-first_of_shape word shape row e = by_words (words_of row.bytes) e
-  where
-    by_words : (ws : List (List ℕ)) → has_shape (Word word ∷ shape) ws ≡ true → slice_index_or ws 0 [] ≡ word
-    by_words [] h = absurd (cc)
-    by_words (w ∷ ws) h = (bytes_eq-Decides w word).0 (and_parts (bytes_eq w word) (has_shape shape ws) h).0
+first_of_shape word shape row e = grind (arith, slice_index_or, bytes_eq-Decides, and_parts, bytes_eq)
 
 abbrev pub IsOneWord : List ℕ → Type 0
 IsOneWord word = list_all (λ b. not (eqb b 32)) word ≡ true
@@ -128,12 +103,7 @@ last_is (r ∷ rs) row o = last_is rs row (Some (first_word r))
 
 joined_on : (rows : List Row) (row : Row) → is_joined (map first_word (rows ++ row ∷ [])) ≡ (is_joined (map first_word rows) || bytes_eq (first_word row) (codes "joined"))
 joined_on [] row = or_false (bytes_eq (first_word row) (codes "joined"))
-joined_on (r ∷ rs) row = by_test (bytes_eq (first_word r) (codes "joined")) (joined_on rs row)
-  where
-    by_test : (b : Bool) → is_joined (map first_word (rs ++ row ∷ [])) ≡ (is_joined (map first_word rs) || bytes_eq (first_word row) (codes "joined"))
-        → (b || is_joined (map first_word (rs ++ row ∷ []))) ≡ ((b || is_joined (map first_word rs)) || bytes_eq (first_word row) (codes "joined"))
-    by_test true e = refl
-    by_test false e = e
+joined_on (r ∷ rs) row = grind (arith, bytes_eq, joined_on rs row)
 
 get_behind : {A : Type 0} (xs ys : List A) → slice_get (xs ++ ys) (length xs) ≡ slice_get ys 0
 get_behind [] ys = refl
@@ -158,10 +128,7 @@ module _ (rows : List Row) where
   Unfit e = blamed (whole_line (slice_get rows (e.1 - 1))) ≡ code_at e.1
 
   line_on : (before : List Row) (p : Place) (n : ℕ) → On before p → n ≡ p.number → slice_get rows (n - 1) ≡ first p.rows
-  line_on before p n on at =
-      let number = on.number in
-      let index : n - 1 ≡ length before = omega (arith, at, number) in
-      ap (slice_get rows) index ∙ (ap (λ rs. slice_get rs (length before)) on.is ∙ get_behind before p.rows)
+  line_on before p n on at = grind (arith, slice_get, get_behind)
 
   pub code_on : (before : List Row) (p : Place) (n : ℕ) → On before p → n ≡ p.number → code_at n ≡ code_of before (first p.rows)
   code_on before p n on at =
@@ -186,13 +153,7 @@ module _ (rows : List Row) where
   among_goes N (Err e) g = gives_fail (blamed (whole_line (slice_get rows (e.1 - 1))), e.1) (g.err e refl)
 
   next_on : (before : List Row) (p : Place) (row : Row) → On before p → first p.rows ≡ Some row → On (before ++ row ∷ []) (behind p)
-  next_on before p row on here =
-      let (more, is) = first_is p.rows row here in
-      let number = on.number in
-      record {
-        is = on.is ∙ (ap (λ rs. before ++ rs) is ∙ (sym (append_assoc before (row ∷ []) more) ∙ ap (λ rs. (before ++ row ∷ []) ++ rs) (sym (ap (drop 1) is))));
-        number = omega (arith, number, length-append before (row ∷ []));
-      }
+  next_on before p row on here = grind (arith, first_is, append_assoc, length-append)
 
   -- a line that stands behind these, and was read
   pub record Stands {A C : Type 0} (check : Option Row → Result A C) (before : List Row) (p : Place) (x : A × Place) : Type 0 where
@@ -249,11 +210,7 @@ module _ (rows : List Row) where
         → (check : Option Row → Result A ReportCode) (p : Place) → At names joined forms p → check None ≡ Err code.Truncated
         → ((row : Row) → first p.rows ≡ Some row → Gives (λ (why : ReportCode). why ≡ told_code (list_any (λ form. form row) forms) row) (λ (x : A). first_word row ≡ w) (check (Some row)))
         → Gives Coded (λ (x : A × Place). At names now later x.1) (line_part check p)
-    line_goes {A} w now later section next check p at lacks goes = part_goes Coded (λ (x : A × Place). At names now later x.1) check p (by_line (first p.rows) refl)
-      where
-        by_line : (o : Option Row) → first p.rows ≡ o → Gives (λ (why : ReportCode). Coded (why, p.number)) (λ (x : A). At names now later (behind p)) (check o)
-        by_line None here = subst (λ (r : Result A ReportCode). Gives (λ (why : ReportCode). Coded (why, p.number)) (λ (x : A). At names now later (behind p)) r) (sym lacks) (gives_fail code.Truncated (lacking_at p at here))
-        by_line (Some row) here = gives_like (λ why is. coded_at p row why at here is) (λ x is. onward w now later section next p row at here is) (goes row here)
+    line_goes {A} w now later section next check p at lacks goes = grind (arith, part_goes, gives_fail, lacking_at, gives_like, coded_at, onward)
 
     -- no line begins with the word
     abbrev pub Behind : {A : Type 0} → List ℕ → A × Place → Type 0
@@ -279,13 +236,7 @@ module _ (rows : List Row) where
     module _ {A C : Type 0} (E : C × ℕ → Type 0) (word : List ℕ) (free : IsOneWord word) (section : (joined || bytes_eq word (codes "joined")) ≡ joined) (next : (patterned : Bool) → forms_after patterned names joined word ≡ forms) (check : List A → Option Row → Result A C)
         (blames : (before : List A) (p : Place) (row : Row) (why : C) → At names joined forms p → first p.rows ≡ Some row → begins (word ++ 32 ∷ []) row.bytes ≡ true → check before (Some row) ≡ Err why → E (why, p.number)) where
       line_goes_on : (before : List A) (p : Place) → At names joined forms p → row_begins (word ++ 32 ∷ []) (first p.rows) ≡ true → Gives E (λ x. At names joined forms x.1 × (length x.1.rows < length p.rows)) (line_part (check before) p)
-      line_goes_on before p at begun =
-          let (row, is) = begun_row (word ++ 32 ∷ []) (first p.rows) begun in
-          let front : begins (word ++ 32 ∷ []) row.bytes ≡ true = ap (row_begins (word ++ 32 ∷ [])) (sym is) ∙ begun in
-          part_goes E (λ x. At names joined forms x.1 × (length x.1.rows < length p.rows)) (check before) p (record {
-            ok = λ x e. (onward word joined forms section next p row at is (first_of_front word row free front), one_less (word ++ 32 ∷ []) p.rows begun);
-            err = λ why e. blames before p row why at is front (ap (check before) (sym is) ∙ e);
-          })
+      line_goes_on before p at begun = grind (arith, begun_row, part_goes, onward, first_of_front, one_less)
 
       pub lines_go : (p : Place) → At names joined forms p → Gives E (Behind (word ++ 32 ∷ [])) (lines_at (word ++ 32 ∷ []) check p)
       lines_go p at = subst (λ (r : Result (List A × Place) (C × ℕ)). Gives E (Behind (word ++ 32 ∷ [])) r) (sym (lines_are_parts (word ++ 32 ∷ []) check p))
@@ -293,10 +244,4 @@ module _ (rows : List Row) where
 
   -- the line there has not the first of these forms
   pub less : (names : List (List ℕ)) (joined : Bool) (form : Form) (forms : List Form) (p : Place) → At names joined (form ∷ forms) p → ((row : Row) → first p.rows ≡ Some row → form row ≡ false) → At names joined forms p
-  less names joined form forms p at none = record {
-    before = at.before;
-    on = at.on;
-    named = at.named;
-    section = at.section;
-    awaits = λ row h. at.awaits row h ∙ ap (λ b. b || list_any (λ f. f row) forms) (none row h);
-  }
+  less names joined form forms p at none = grind arith

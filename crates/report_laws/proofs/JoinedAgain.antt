@@ -13,40 +13,17 @@ use Rattle.report_laws.proofs.{ListsAgain.ruled_again, PointsAgain.{head_of, hea
 
 -- a joined point passes the eight tests of a join
 may_join_again : (q : QuestionValue) (p : PointValue) (is : IsJoinedPoint q p) → may_join q p.candidate is.adding ≡ true
-may_join_again q p is = (decides_join q p.candidate is.adding).1 (record {
-  some_steps = is.some_steps;
-  steps = is.steps;
-  all_rounds = is.all_rounds;
-  rounds = is.rounds;
-  some_chunks = is.some_chunks;
-  chunks = is.chunks;
-  some_add = is.some_add;
-  some_copy = is.some_copy;
-})
+may_join_again q p is = grind (arith, decides_join)
 
 module _ (names : List (List ℕ)) (q : QuestionValue) (as_many : length names ≡ q.topology.nodes) (named : AreNames names) (ok : IsLimits q.limits) (base : FewBase q.spec) where
   joined_small : (p : PointValue) → IsJoinedPoint q p → IsSmall p.candidate
-  joined_small p is =
-      let s = is.steps in
-      let r = is.rounds in
-      let c = is.chunks in
-      let most_s = ok.steps in
-      let most_k = ok.k in
-      let most_c = ok.chunks in
-      record { steps = omega (arith, s, most_s); rounds = omega (arith, s, r, most_s, most_k); chunks = omega (arith, c, most_c) }
+  joined_small p is = grind arith
 
   few_chunks : (p : PointValue) → IsJoinedPoint q p → p.candidate.c ≤ 16
-  few_chunks p is =
-      let c = is.chunks in
-      let most = ok.chunks in
-      omega (arith, c, most)
+  few_chunks p is = grind arith
 
   few_added : (p : PointValue) (is : IsJoinedPoint q p) → is.adding ≤ 65535
-  few_added p is =
-      let low = is.some_copy in
-      let s = is.steps in
-      let most = ok.steps in
-      omega (arith, low, s, most)
+  few_added p is = grind arith
 
   head_tokens : (p : PointValue) → IsJoinedPoint q p → AreTokens (point_words p)
   head_tokens p is = tokens_from (point_words p) (omega arith) (head_are_words p.candidate p.mark (joined_small p is) (subst MarkIsSmall (sym is.mark) (few_added p is)))

@@ -54,8 +54,4 @@ module _ {A B : Type 0} (check : Option Row → Result A TopologyCode) (later : 
 pub judged_passed : {A B C : Type 0} (later : A → Result B ReportCode) (n : ℕ) (r : Result (A × Place) (ReportCode × ℕ)) (next : A → B → Place → Result C (ReportCode × ℕ)) → (r >>= (λ x. at_line n (later x.0) >>= (λ y. next x.0 y x.1)))
     ≡ ((r >>= (λ x. at_line n (later x.0) >>= with_later {A = A} {B = B} x)) >>= (λ z. next z.0.0 z.0.1 z.1))
 judged_passed {A} {B} {C} later n (Err e) next = refl
-judged_passed {A} {B} {C} later n (Ok x) next = inner (at_line n (later x.0))
-  where
-    inner : (s : Result B (ReportCode × ℕ)) → (s >>= (λ y. next x.0 y x.1)) ≡ ((s >>= with_later {A = A} {B = B} x) >>= (λ z. next z.0.0 z.0.1 z.1))
-    inner (Ok y) = refl
-    inner (Err e) = refl
+judged_passed {A} {B} {C} later n (Ok x) next = grind arith

@@ -66,14 +66,7 @@ lines_are_tokens P spell each (x ∷ xs) valid = (each x (All-head P x xs valid)
 
 module _ (q : QuestionValue) (ok : IsLimits q.limits) where
   pub within_small : (x : Candidate) → IsWithin q x → IsSmall x
-  within_small x w =
-      let a = w.steps in
-      let b = w.rounds in
-      let c = w.chunks in
-      let most_s = ok.steps in
-      let most_k = ok.k in
-      let most_c = ok.chunks in
-      record { steps = omega (arith, a, most_s); rounds = omega (arith, a, b, most_s, most_k); chunks = omega (arith, c, most_c) }
+  within_small x w = grind arith
 
   pub refuted_tokens : (x : Candidate) → IsWithin q x → AreTokens (refuted_words x)
   refuted_tokens x w = tokens_from (refuted_words x) (omega arith) (refuted_are_words x (within_small x w))
@@ -88,10 +81,7 @@ module _ (q : QuestionValue) (ok : IsLimits q.limits) where
   }
 
   unknown_few : (u : UnknownValue) → IsUnknown q u → suc u.conflicts ≤ 2 ^ 64
-  unknown_few u is =
-      let same = is.conflicts in
-      let most = ok.conflicts in
-      omega (arith, same, most)
+  unknown_few u is = grind arith
 
   pub unknown_tokens : (u : UnknownValue) → IsUnknown q u → AreTokens (unknown_words u)
   unknown_tokens u is = let few = unknown_few u is in tokens_from (unknown_words u) (omega arith) (unknown_are_words u (within_small u.candidate is.within) (omega (arith, few)))

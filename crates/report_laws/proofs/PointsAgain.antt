@@ -1,12 +1,11 @@
 -- The lines of points that are spelled are read.
-use Rattle.std.proofs.Common.{◌≡◌, ℕ, ◌≤◌, Bool, true, ◌&&◌, List, [], ◌∷◌, ◌++◌, map, length, Option, None, Some, Result, Ok, ◌⊎◌, inl, inr, refl, sym, subst, arith, codes, All, IfSome}
+use Rattle.std.proofs.Common.{◌≡◌, ℕ, ◌≤◌, Bool, ◌&&◌, List, [], ◌∷◌, ◌++◌, map, length, Option, None, Some, Result, Ok, refl, arith, codes, IfSome}
 use Rattle.std.{specs.List.{last_or, AllByRecursion}, proofs.lemmas.Bool.and_from}
 use Rattle.text_lines.specs.{Text.Row, Check.{◌>>=◌, line_part}}
 use Rattle.text_lines.proofs.{Distinct.next_has, ReadBack.{Reads, reads_here, reads_then, line_again, Ends, lines_again, ReadsPart}, Repeated.place, Rows.{AreTokens, row_of}, Words.tokens_from}
-use Rattle.schedule.specs.Sends.{IsStep, is_hop_below}
-use Rattle.collective_spec.{specs.{Collectives.{chunks_in, spec_of}, Patterns.{PatternValue, IsPattern}}, proofs.Chunks.{FewBase, chunks_few}}
+use Rattle.collective_spec.{specs.{Collectives.{chunks_in, spec_of}, Patterns.IsPattern}, proofs.Chunks.{FewBase, chunks_few}}
 use Rattle.outer_ports.specs.declared.part.Part.{Part}
-use Rattle.candidate_order.specs.{declared.{candidate.Candidate.Candidate, mark.Mark.Mark}, Ranges.IsLimits, Frontiers.{QuestionValue, PointValue, IsWithin}}
+use Rattle.candidate_order.specs.{declared.candidate.Candidate.Candidate, Ranges.IsLimits, Frontiers.{QuestionValue, PointValue, IsWithin}}
 use Rattle.candidate_order.specs.declared.mark.Mark.TheVariants as mark
 use Rattle.topology_text.specs.{Value.NamedTopologyValue, Names.AreNames}
 use Rattle.report_form.specs.{declared.fault.ReportCode.ReportCode, Reports.{WordsValue, HasSchedule, IsPrintedPoint, kind_of}, Tests.{is_within, comes_next}}
@@ -20,11 +19,7 @@ use Rattle.report_laws.proofs.SendsAgain.{rounds_small, rounds_kept, rounds_toke
 -- ---- a schedule behind the head of its point
 
 pub base_of : (words : WordsValue) (t : NamedTopologyValue) (x : Part) → IfSome t.custom (IsPattern t.topology.nodes) → FewBase (spec_of (record { kind = kind_of words.collective.kind x; root = words.collective.root }) t.custom)
-base_of words t x given = by_pattern t.custom given
-  where
-    by_pattern : (o : Option PatternValue) → IfSome o (IsPattern t.topology.nodes) → FewBase (spec_of (record { kind = kind_of words.collective.kind x; root = words.collective.root }) o)
-    by_pattern None none = tt
-    by_pattern (Some p) is = is.few
+base_of words t x given = grind arith
 
 abbrev pub head_of : PointValue → HeadValue
 head_of p = record { candidate = p.candidate; mark = p.mark }
@@ -34,22 +29,13 @@ module _ (names : List (List ℕ)) (q : QuestionValue) (as_many : length names �
   chunks_at p = chunks_in q.spec q.topology.nodes p.candidate.c
 
   few_chunks_at : (p : PointValue) → p.candidate.c ≤ 16 → chunks_at p ≤ 65535
-  few_chunks_at p small =
-      let few = named.few in
-      let most = chunks_few q.spec q.topology.nodes p.candidate.c (omega (arith, as_many, few)) small base in
-      omega (arith, most)
+  few_chunks_at p small = grind (arith, chunks_few)
 
   few_steps_at : (p : PointValue) → HasSchedule q p → p.candidate.s ≤ 65535
-  few_steps_at p has =
-      let few = has.schedule.few in
-      let many = has.steps in
-      omega (arith, few, many)
+  few_steps_at p has = grind arith
 
   sends_are : (p : PointValue) → HasSchedule q p → AreSends names (chunks_at p) p.candidate.s p.schedule.sends
-  sends_are p has =
-      let S : ℕ → Type 0 = λ n. All (λ h. IsStep n h.step) p.schedule.sends in
-      let N : ℕ → Type 0 = λ n. All (λ h. is_hop_below (chunks_at p) n h ≡ true) p.schedule.sends in
-      record { steps_are = subst S has.steps has.schedule.steps; below = subst N (sym as_many) has.in_range; ascending = has.schedule.ascending }
+  sends_are p has = grind arith
 
   pub schedule_again : (p : PointValue) (n : ℕ) (rest : List Row) → HasSchedule q p → p.candidate.c ≤ 16 → Ends (codes "send ") rest → Reads (schedule_at names q (head_of p) (place n (map row_of (schedule_lines names p) ++ rest))) p rest
   unfolding schedule_at
@@ -80,19 +66,10 @@ module _ (names : List (List ℕ)) (q : QuestionValue) (as_many : length names �
   -- ---- points of a frontier
 
   few_chunks : (x : Candidate) → IsWithin q x → x.c ≤ 16
-  few_chunks x w =
-      let c = w.chunks in
-      let most = ok.chunks in
-      omega (arith, c, most)
+  few_chunks x w = grind arith
 
   mark_small : (p : PointValue) → IsPrintedPoint q p → MarkIsSmall p.mark
-  mark_small p is = plain p.mark is.mark
-    where
-      plain : (m : Mark) → (m ≡ mark.Optimal) ⊎ (m ≡ mark.Open) → MarkIsSmall m
-      plain mark.Optimal which = tt
-      plain mark.Open which = tt
-      plain (mark.Joined n) (inl e) = absurd (cc)
-      plain (mark.Joined n) (inr e) = absurd (cc)
+  mark_small p is = grind arith
 
   head_tokens : (p : PointValue) → IsPrintedPoint q p → AreTokens (point_words p)
   head_tokens p is = tokens_from (point_words p) (omega arith) (head_are_words p.candidate p.mark (within_small q ok p.candidate is.within) (mark_small p is))

@@ -1,11 +1,11 @@
 -- The text of a valid report is read as that report.
-use Rattle.std.proofs.Common.{◌≡◌, ℕ, Bool, true, false, not, List, [], ◌∷◌, ◌++◌, map, drop, Option, None, Some, Ok, refl, sym, ap, ◌∙◌, subst, codes, flat_map, is_some}
+use Rattle.std.proofs.Common.{arith, ◌≡◌, ℕ, Bool, true, false, not, List, [], ◌∷◌, ◌++◌, map, Option, None, Some, Ok, refl, sym, ap, ◌∙◌, subst, codes, flat_map, is_some}
 use Rattle.std.proofs.lemmas.{Bool.not-true, List.map-append}
 use Rattle.text_lines.specs.{Text.{Row, rows_of}, Check.{refuse, at_line, line_part}}
 use Rattle.text_lines.proofs.{Checks.ok_is, Gives.rows_split, ReadBack.{Reads, reads_end, line_again, Ends}, Repeated.place, Rows.row_of}
 use Rattle.outer_ports.specs.declared.part.Part.{Part}
 use Rattle.collective_spec.specs.{declared.kind.Kind.Kind, Kinds.{takes_root, is_custom}, Patterns.PatternValue, Collectives.fits_kind}
-use Rattle.topology_text.specs.{Value.NamedTopologyValue, Spelling.{version_word, nodes_words, group_words, custom_lines, lines_of}}
+use Rattle.topology_text.specs.{Value.NamedTopologyValue, Spelling.{nodes_words, group_words, custom_lines}}
 use Rattle.topology_text.proofs.{Front.{header_reads, nodes_reads}, Laws.{named_again, groups_of_read, pattern_of_read, rows_parted}}
 use Rattle.topology_text.specs.Spelling as spelling
 use Rattle.report_form.specs.{declared.fault.ReportCode.ReportCode, Reports.{WordsValue, ReportValue, IsReport}}
@@ -24,10 +24,7 @@ behind_topology r = body_lines r ++ end_words ∷ []
 
 -- the frontiers' lines, those of the joined points, and the end
 body_rows : (r : ReportValue) → map row_of (behind_topology r) ≡ map row_of (flat_map (frontier_lines r.topology.names) r.frontiers) ++ (map row_of (joined_lines r.topology.names r.words.collective.kind r.joined) ++ row_of end_words ∷ [])
-body_rows r =
-    let frontiers = flat_map (frontier_lines r.topology.names) r.frontiers in
-    let joined = joined_lines r.topology.names r.words.collective.kind r.joined in
-    map-append row_of (frontiers ++ joined) (end_words ∷ []) ∙ rows_split frontiers joined (row_of end_words ∷ [])
+body_rows r = grind (arith, flat_map, map-append, row_of, end_words, rows_split)
 
 pub body_again : (r : ReportValue) (n : ℕ) → IsReport r → body_of r.words r.topology (place n (map row_of (behind_topology r))) ≡ Ok r
 unfolding body_of
@@ -47,20 +44,12 @@ body_again r n is =
 
 -- no line behind the topology begins a group
 body_ends : (r : ReportValue) → IsReport r → Ends (codes "group ") (map row_of (behind_topology r))
-body_ends r is =
-    let last : List Row = row_of end_words ∷ [] in
-    let second : List Row = map row_of (joined_lines r.topology.names r.words.collective.kind r.joined) ++ last in
-    let ends = frontiers_end r.topology.names r.frontiers second (joined_end r.words r.topology is.topology.as_many is.topology.names is.words.limits is.topology.custom r.words.collective.kind r.joined last (end_ends [])) in
-    subst (Ends (codes "group ")) (sym (body_rows r)) ends.group
+body_ends r is = grind (arith, row_of, end_words, frontiers_end, joined_end, end_ends, body_rows)
 
 -- ---- the whole
 
 version_reads : (b : Bool) (n : ℕ) (rows : List Row) → Reads (line_part version_line (place n (row_of (head_words b) ∷ rows))) b rows
-version_reads b n rows = line_again version_line (row_of (head_words b)) b n rows (version_back b)
-  where
-    version_back : (c : Bool) → version_line (Some (row_of (head_words c))) ≡ Ok c
-    version_back true = refl
-    version_back false = refl
+version_reads b n rows = grind (arith, line_again, row_of, head_words)
 
 same_itself : (b : Bool) → is_same b b ≡ true
 same_itself true = refl
@@ -78,11 +67,7 @@ report_rows r =
     ∷ (map row_of (map (group_words r.topology.names) r.topology.topology.groups) ++ (map row_of (custom_lines r.topology.names r.topology.custom) ++ map row_of (behind_topology r)))
 
 report_rows_are : (r : ReportValue) → map row_of (report_lines r) ≡ report_rows r
-report_rows_are r =
-    let t : NamedTopologyValue = r.topology in
-    let asked : Row = row_of (synth_words t.names r.words) in
-    ap (λ rows. row_of (codes "sccl" ∷ version_word t.custom ∷ []) ∷ asked ∷ rows) (map-append row_of (lines_of t) (behind_topology r) ∙ rows_parted t (map row_of (behind_topology r)))
-    ∙ ap (λ ws. row_of ws ∷ drop 1 (report_rows r)) (sym (head_spelled t.custom))
+report_rows_are r = grind (arith, row_of, map-append, rows_parted, head_spelled)
 
 -- whatever the rows among which a fault would be looked for
 rows_read : (rows : List Row) (r : ReportValue) → IsReport r → report_at rows (place 1 (report_rows r)) ≡ Ok r

@@ -38,12 +38,7 @@ follows_from (Some l) h e = e
 
 module _ (names : List (List ℕ)) (named : AreNames names) (chunks steps : ℕ) (few_chunks : chunks ≤ 65535) (few_steps : steps ≤ 65535) where
   send_spelled : (h : Hop) → IsStep steps h.step → is_hop_below chunks (length names) h ≡ true → IsSpelled names h
-  send_spelled h at below =
-      let (chunk, nodes) = and_parts (ltb h.chunk chunks) (ltb h.from (length names) && ltb h.to (length names)) below in
-      let (from, to) = and_parts (ltb h.from (length names)) (ltb h.to (length names)) nodes in
-      let low = ltb-true h.chunk chunks chunk in
-      let last = at.to in
-      record { chunk = omega (arith, low, few_chunks); step = omega (arith, last, few_steps); from = ltb-true h.from (length names) from; to = ltb-true h.to (length names) to }
+  send_spelled h at below = grind (arith, and_parts, ltb-true)
 
   send_tokens : (h : Hop) → IsSpelled names h → AreTokens (send_words names h)
   send_tokens h ok = tokens_from (send_words names h) (omega arith) (send_are_words names h named ok)

@@ -1,11 +1,11 @@
 -- The tokens of a line that is spelled are those of its shape, and the shape is read from them.
-use Rattle.std.proofs.Common.{◌≡◌, ℕ, ◌<◌, ◌≤◌, ◌^◌, true, List, [], ◌∷◌, ◌++◌, map, length, Some, Ok, ◌⊎◌, inl, inr, refl, ap, arith, codes, decimal, All}
+use Rattle.std.proofs.Common.{◌≡◌, ℕ, ◌<◌, ◌≤◌, ◌^◌, List, [], ◌∷◌, ◌++◌, map, length, Some, Ok, ◌⊎◌, inl, inr, refl, ap, arith, codes, decimal, All}
 use Rattle.std.proofs.lemmas.List.Elements.{All-head, All-tail, All-get_or}
 use Rattle.text_lines.{specs.Check.need, proofs.{Distinct.AreDistinct, Words.{AreWords, literal, decimal_word}}}
 use Rattle.schedule.specs.declared.hop.Hop.{Hop}
 use Rattle.candidate_order.specs.{declared.{candidate.Candidate.Candidate, mark.Mark.Mark}, Frontiers.UnknownValue}
 use Rattle.candidate_order.specs.declared.mark.Mark.TheVariants as mark
-use Rattle.topology_text.{specs.{Names.{is_name, AreNames}, Spelling.name_at}, proofs.Front.name_word}
+use Rattle.topology_text.{specs.Names.AreNames, proofs.Front.name_word}
 use Rattle.report_form.specs.{declared.fault.ReportCode.TheVariants.BadLine, Fields.any_number, Reading.{refuted_from, unknown_from}}
 use Rattle.report_form.specs.Spelling.{candidate_words, mark_words, rounds_words, send_words, refuted_words, unknown_words}
 use Rattle.report_form.specs.Points.{candidate_from, mark_named, head_from, joined_head_from, numbers_from, rounds_from, send_from}
@@ -24,11 +24,7 @@ pub candidate_again : (x : Candidate) (rest : List (List ℕ)) → IsSmall x →
 candidate_again x rest small = ok_then _ _ (number_again x.s _ small.steps) (ok_then _ _ (number_again x.r _ small.rounds) (ok_then _ _ (number_again x.c rest small.chunks) refl))
 
 pub candidate_are_words : (x : Candidate) (rest : List (List ℕ)) → IsSmall x → AreWords rest → AreWords (decimal x.s ∷ decimal x.r ∷ decimal x.c ∷ rest)
-candidate_are_words x rest small words =
-    let s = small.steps in
-    let r = small.rounds in
-    let c = small.chunks in
-    (decimal_word x.s (omega (arith, s)), (decimal_word x.r (omega (arith, r)), (decimal_word x.c (omega (arith, c)), words)))
+candidate_are_words x rest small words = grind (arith, decimal_word)
 
 -- ---- refuted and unknown candidates
 
@@ -104,8 +100,4 @@ send_again names h distinct ok =
     ok_then _ _ (number_again h.chunk _ ok.chunk) (ok_then _ _ (next_node_again names h.from _ distinct ok.from) (ok_then _ _ (next_node_again names h.to _ distinct ok.to) (ok_then _ _ (number_again h.step [] ok.step) refl)))
 
 pub send_are_words : (names : List (List ℕ)) (h : Hop) → AreNames names → IsSpelled names h → AreWords (send_words names h)
-send_are_words names h named ok =
-    let chunk = ok.chunk in
-    let step = ok.step in
-    let is : (i : ℕ) → i < length names → is_name (name_at names i) ≡ true = λ i below. All-get_or (λ n. is_name n ≡ true) names i [] below named.each in
-    (literal (codes "send") refl, (decimal_word h.chunk (omega (arith, chunk)), (name_word (name_at names h.from) (is h.from ok.from), (name_word (name_at names h.to) (is h.to ok.to), (decimal_word h.step (omega (arith, step)), tt)))))
+send_are_words names h named ok = grind (arith, All-get_or, literal, decimal_word, name_word)

@@ -1,6 +1,6 @@
 -- The checks of a line's shape pass exactly where the line has the shape.
-use Rattle.std.proofs.Common.{◌≡◌, ℕ, Bool, true, false, ◌&&◌, ◌||◌, not, List, [], ◌∷◌, ◌++◌, map, length, drop, Option, None, Some, Result, Ok, Err, refl, sym, ap, ◌∙◌, subst, codes, bytes_eq, find, if◌then◌else◌, is_some, nat_eq, nat_lt, nat_le, ◌==◌, ◌≢◌, arith}
-use Rattle.std.{specs.{Str.Parse.digits_value, Cmp.both_ways, List.{list_any, list_all, starts_with}}, proofs.{lemmas.{Bool.{and_parts, ltb-true, lt-ltb, leb-true, le-leb, eqb-true, eqb-false, Decides.Decides-eqb}, Option.same_Some}, Math.Bool.and-true}}
+use Rattle.std.proofs.Common.{◌≡◌, ℕ, Bool, true, false, ◌&&◌, ◌||◌, not, List, [], ◌∷◌, ◌++◌, map, length, drop, Option, None, Some, Result, Ok, Err, refl, sym, ap, ◌∙◌, subst, codes, bytes_eq, find, if◌then◌else◌, is_some, nat_eq, nat_lt, nat_le, arith}
+use Rattle.std.{specs.{Str.Parse.digits_value, List.{list_any, starts_with}}, proofs.{lemmas.{Bool.{and_parts, ltb-true, lt-ltb, leb-true, le-leb, eqb-true, eqb-false, Decides.Decides-eqb}, Option.same_Some}, Math.Bool.and-true}}
 use Rattle.std.proofs.lemmas.Slice.Eq.{bytes_eq-Decides, starts_is}
 use Rattle.text_lines.{specs.{Check.{◌>>=◌, refuse, need}, Repeated.begins}, proofs.Gives.{Gives, gives_done, gives_fail, gives_then}}
 use Rattle.collective_spec.specs.{declared.kind.Kind.Kind, Kinds.{word_of, takes_root}}
@@ -8,7 +8,7 @@ use Rattle.candidate_order.specs.{declared.{candidate.Candidate.Candidate, pruni
 use Rattle.candidate_order.specs.declared.mark.Mark.TheVariants as mark
 use Rattle.topology_text.specs.{Names.{is_name, name_of}, Reading.node_of}
 use Rattle.report_form.specs.{declared.fault.ReportCode.{ReportCode, TheVariants.BadLine}, Reading.{refuted_from, unknown_from}}
-use Rattle.report_form.specs.Fields.{is_digit, is_number, any_number, small_number, next_word, behind_key, next_keyed, fixed_word, next_number, next_node, no_more}
+use Rattle.report_form.specs.Fields.{is_number, any_number, small_number, next_word, next_keyed, fixed_word, next_number, next_node, no_more}
 use Rattle.report_form.specs.Points.{candidate_from, mark_named, head_from, joined_head_from, numbers_from, rounds_from, send_from}
 use Rattle.report_form.specs.SynthLine.{AskedValue, kind_named, kinds_of, limits_from, root_from, said_from, pruning_from, asked_from}
 use Rattle.report_form.proofs.{Shapes.candidate, SynthLineTaken.{found_is, limits, pruned, asked}}
@@ -39,21 +39,11 @@ made_told r g s = record { told = gives_then r _ s.told (λ code bad. bad) (λ x
 word_told : {A B : Type 0} (read : List ℕ → Option A) (passes : List ℕ → Bool) (shape : List Token) (f : A × List (List ℕ) → Result B ReportCode) → ((w : List ℕ) → passes w ≡ is_some (read w)) → ((x : A) (ws : List (List ℕ)) → Shaped shape ws (f (x, ws)))
     → (words : List (List ℕ)) → Shaped (Any passes ∷ shape) words (next_word read words >>= f)
 word_told read passes shape f same next [] = record { told = told_bad refl }
-word_told {A} read passes shape f same next (w ∷ ws) = record { told = by_read (passes w) (read w) (same w) }
-  where
-    by_read : (b : Bool) (o : Option A) → b ≡ is_some o → Told (b && has_shape shape ws) ((need o BadLine >>= (λ x. Ok (x, ws))) >>= f)
-    by_read true (Some x) e = (next x ws).told
-    by_read true None e = absurd (cc)
-    by_read false (Some x) e = absurd (cc)
-    by_read false None e = told_bad refl
+word_told {A} read passes shape f same next (w ∷ ws) = grind (arith, is_some, told_bad)
 
 fixed_told : {B : Type 0} (word : List ℕ) (shape : List Token) (f : List (List ℕ) → Result B ReportCode) → ((ws : List (List ℕ)) → Shaped shape ws (f ws)) → (words : List (List ℕ)) → Shaped (Word word ∷ shape) words (fixed_word word words >>= f)
 fixed_told word shape f next [] = record { told = told_bad refl }
-fixed_told word shape f next (w ∷ ws) = record { told = by_test (bytes_eq w word) }
-  where
-    by_test : (b : Bool) → Told (b && has_shape shape ws) ((refuse (not b) BadLine >>= (λ u. Ok ws)) >>= f)
-    by_test true = (next ws).told
-    by_test false = told_bad refl
+fixed_told word shape f next (w ∷ ws) = grind (arith, bytes_eq, told_bad)
 
 end_told : {B : Type 0} (y : B) (words : List (List ℕ)) → Shaped [] words (no_more words >>= (λ u. Ok y))
 end_told y [] = record { told = gives_done y refl }
@@ -74,41 +64,18 @@ some_if false x = refl
 -- digits have no leading zero where they are 0 or the first of them is more
 is_decimal_is : (w : List ℕ) → is_decimal w ≡ is_number w
 is_decimal_is [] = refl
-is_decimal_is (b ∷ bs) = by_zero (b == 48) bs refl
-  where
-    above : (b == 48) ≡ false → nat_lt 48 b ≡ nat_le 48 b
-    above other = both_ways (nat_lt 48 b) (nat_le 48 b) (λ h. let more = ltb-true 48 b h in le-leb 48 b (omega (arith, more))) (λ h. let low = leb-true 48 b h in let apart : b ≢ 48 = eqb-false b 48 other in lt-ltb 48 b (omega (arith, low, apart)))
-
-    known : (l m high more : Bool) → l ≡ m → (l && ((m && high) && more)) ≡ ((m && high) && more)
-    known true true high more e = refl
-    known true false high more e = absurd (cc)
-    known false true high more e = absurd (cc)
-    known false false high more e = refl
-
-    by_zero : (is_zero : Bool) (cs : List ℕ) → (b == 48) ≡ is_zero → ((is_zero && bytes_eq cs []) || (nat_lt 48 b && list_all is_digit (b ∷ cs))) ≡ is_number (b ∷ cs)
-    by_zero true [] e = sym (ap is_digit (eqb-true b 48 e))
-    by_zero true (c ∷ cs) e = ap (λ n. nat_lt 48 n && list_all is_digit (b ∷ c ∷ cs)) (eqb-true b 48 e) ∙ ap (λ t. not t && list_all is_digit (b ∷ c ∷ cs)) (sym e)
-    by_zero false [] e = known (nat_lt 48 b) (nat_le 48 b) (nat_le b 57) true (above e) ∙ and-true (is_digit b)
-    by_zero false (c ∷ cs) e = known (nat_lt 48 b) (nat_le 48 b) (nat_le b 57) (list_all is_digit (c ∷ cs)) (above e) ∙ ap (λ t. not t && list_all is_digit (b ∷ c ∷ cs)) (sym e)
+is_decimal_is (b ∷ bs) = grind (arith, nat_lt, nat_le, ltb-true, le-leb, leb-true, eqb-false, lt-ltb, bytes_eq, eqb-true, and-true)
 
 any_passes : (w : List ℕ) → is_decimal w ≡ is_some (any_number w)
 any_passes w = is_decimal_is w ∙ some_if (is_number w) (digits_value 10 w)
 
 keyed_told : {A B : Type 0} (key : List ℕ) (read : List ℕ → Option A) (passes : List ℕ → Bool) (shape : List Token) (f : A × List (List ℕ) → Result B ReportCode) → ((w : List ℕ) → passes w ≡ is_some (read w)) → ((x : A) (ws : List (List ℕ)) → Shaped shape ws (f (x, ws)))
     → (words : List (List ℕ)) → Shaped (key_with key passes ∷ shape) words (next_keyed key read words >>= f)
-keyed_told {A} key read passes shape f same next words = word_told (behind_key key read) (λ w. begins key w && passes (drop (length key) w)) shape f (λ w. by_front (begins key w) (passes (drop (length key) w)) (read (drop (length key) w)) (same (drop (length key) w))) next words
-  where
-    by_front : (b c : Bool) (o : Option A) → c ≡ is_some o → (b && c) ≡ is_some (if b then o else None)
-    by_front true c o e = e
-    by_front false c o e = refl
+keyed_told {A} key read passes shape f same next words = grind (arith, word_told, is_some)
 
 may_told : {B : Type 0} (word : List ℕ) (shape : List Token) (f : Bool × List (List ℕ) → Result B ReportCode) → ((said : Bool) (ws : List (List ℕ)) → Shaped shape ws (f (said, ws))) → (words : List (List ℕ)) → Shaped (May word ∷ shape) words (f (said_from word words))
 may_told word shape f next [] = record { told = (next false []).told }
-may_told word shape f next (w ∷ ws) = record { told = by_test (bytes_eq w word) }
-  where
-    by_test : (b : Bool) → Told (if b then has_shape shape ws else has_shape shape (w ∷ ws)) (f (if b then (true, ws) else (false, w ∷ ws)))
-    by_test true = (next true ws).told
-    by_test false = (next false (w ∷ ws)).told
+may_told word shape f next (w ∷ ws) = grind (arith, bytes_eq)
 
 -- ---- candidates
 
@@ -131,12 +98,7 @@ abbrev pub mark_shape : Bool → List Token
 mark_shape joined = if joined then Word (codes "joined") ∷ small ∷ [] else Any is_mark ∷ []
 
 mark_passes : (w : List ℕ) → is_mark w ≡ is_some (mark_named w)
-mark_passes w = by_tests (bytes_eq w (codes "optimal")) (bytes_eq w (codes "open"))
-  where
-    by_tests : (a b : Bool) → (a || b) ≡ is_some (if a then Some mark.Optimal else (if b then Some mark.Open else None))
-    by_tests true b = refl
-    by_tests false true = refl
-    by_tests false false = refl
+mark_passes w = grind (arith, bytes_eq, is_some)
 
 pub head_told : (words : List (List ℕ)) → Shaped (candidate_shape (codes "point") (mark_shape false)) words (head_from words)
 head_told words = fixed_told _ _ _ (λ ws. candidate_told _ _ (λ x vs. word_told mark_named is_mark _ _ mark_passes (λ n us. end_told _ us) vs) ws) words
@@ -152,19 +114,11 @@ rounds_shape words = Word (codes "rounds") ∷ map (λ w. small) (drop 1 words)
 
 numbers_told : (ws : List (List ℕ)) → Shaped (map (λ w. small) ws) ws (numbers_from ws)
 numbers_told [] = record { told = gives_done [] refl }
-numbers_told (w ∷ ws) = record { told = by_read (small_number w) (numbers_told ws) }
-  where
-    by_read : (o : Option ℕ) → Shaped (map (λ w. small) ws) ws (numbers_from ws) → Told (is_some o && has_shape (map (λ w. small) ws) ws) (need o BadLine >>= (λ n. numbers_from ws >>= (λ ns. Ok (n ∷ ns))))
-    by_read None s = told_bad refl
-    by_read (Some n) s = (made_told (numbers_from ws) (λ ns. n ∷ ns) s).told
+numbers_told (w ∷ ws) = grind (arith, is_some, told_bad, made_told, numbers_told ws)
 
 pub rounds_told : (words : List (List ℕ)) → Shaped (rounds_shape words) words (rounds_from words)
 rounds_told [] = record { told = told_bad refl }
-rounds_told (w ∷ ws) = record { told = by_test (bytes_eq w (codes "rounds")) }
-  where
-    by_test : (b : Bool) → Told (b && has_shape (map (λ w. small) ws) ws) ((refuse (not b) BadLine >>= (λ u. Ok ws)) >>= numbers_from)
-    by_test true = (numbers_told ws).told
-    by_test false = told_bad refl
+rounds_told (w ∷ ws) = grind (arith, bytes_eq, numbers_told, told_bad)
 
 pub send_told : (names words : List (List ℕ)) → Shaped (send_shape names) words (send_from names words)
 send_told names words = fixed_told _ _ _ (λ ws. number_told _ _ (λ c vs. node_told names _ _ (λ u us. node_told names _ _ (λ v ts. number_told _ _ (λ s rs. end_told _ rs) ts) us) vs) ws) words
@@ -173,11 +127,7 @@ send_told names words = fixed_told _ _ _ (λ ws. number_told _ _ (λ c vs. node_
 
 none_any : {A : Type 0} (K : A → Bool) (xs : List A) → ((x : A) → K x ≡ true → ⊥) → list_any K xs ≡ false
 none_any K [] no_one = refl
-none_any K (x ∷ xs) no_one = by_test (K x) refl (none_any K xs no_one)
-  where
-    by_test : (b : Bool) → K x ≡ b → list_any K xs ≡ false → (b || list_any K xs) ≡ false
-    by_test true e none = absurd (no_one x e)
-    by_test false e none = none
+none_any K (x ∷ xs) no_one = grind (arith, none_any K xs no_one)
 
 -- the test of the one that is found
 abbrev of_found : {A : Type 0} → (A → Bool) → Option A → Bool
@@ -187,16 +137,7 @@ of_found K (Some x) = K x
 -- a test that only the one that is found can pass
 found_any : {A : Type 0} (p K : A → Bool) (xs : List A) → ((x : A) → K x ≡ true → p x ≡ true) → ((x y : A) → p x ≡ true → p y ≡ true → x ≡ y) → list_any K xs ≡ of_found K (find p xs)
 found_any p K [] only one = refl
-found_any {A} p K (x ∷ xs) only one = by_test (p x) (K x) refl refl (found_any p K xs only one)
-  where
-    clash : K x ≡ false → (y : A) → y ≡ x → K y ≡ true → ⊥
-    clash fails y same h = let e : true ≡ false = sym h ∙ (ap K same ∙ fails) in absurd (cc)
-
-    by_test : (b c : Bool) → p x ≡ b → K x ≡ c → list_any K xs ≡ of_found K (find p xs) → (c || list_any K xs) ≡ of_found K (if b then Some x else find p xs)
-    by_test true true here holds later = sym holds
-    by_test true false here holds later = none_any K xs (λ y h. clash holds y (one y x (only y h) here) h) ∙ sym holds
-    by_test false true here holds later = let e : false ≡ true = sym here ∙ only x holds in absurd (cc)
-    by_test false false here holds later = later
+found_any {A} p K (x ∷ xs) only one = grind (arith, none_any, found_any p K xs only one)
 
 one_kind : (a b : Kind) → word_of a ≡ word_of b → a ≡ b
 one_kind a b e = same_Some a b (sym (kind_back a) ∙ (ap (kind_named true) e ∙ kind_back b))

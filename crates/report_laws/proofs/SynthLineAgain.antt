@@ -69,13 +69,7 @@ root_of_again false names root named below none = ap (λ n. Ok n) (sym (none ref
 -- ---- what may be left out
 
 pub pruning_again : (p : Pruning) → pruning_from (pruning_words p) ≡ Ok p
-pruning_again p = each p.cuts p.ordered
-  where
-    each : (cuts ordered : Bool) → pruning_from (pruning_words (record { cuts = cuts; ordered = ordered })) ≡ Ok (record { cuts = cuts; ordered = ordered })
-    each true true = refl
-    each true false = refl
-    each false true = refl
-    each false false = refl
+pruning_again p = grind arith
 
 -- ---- the line
 

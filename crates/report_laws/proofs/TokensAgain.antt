@@ -1,11 +1,11 @@
 -- Tokens that are spelled are taken, and give back what they spell.
-use Rattle.std.proofs.Common.{◌≡◌, ◌≢◌, ℕ, suc, ◌<◌, ◌≤◌, ◌^◌, Bool, true, false, ◌&&◌, not, List, [], ◌∷◌, ◌++◌, length, get_or, drop, Option, None, Some, Result, Ok, refl, ap, ◌∙◌, arith, ◌==◌, decimal, nat_eq, nat_le}
-use Rattle.std.{specs.{List.{starts_with, list_all}, Str.Parse.digits_value}, proofs.{Math.Seq.drop-append_seam, lemmas.Bool.Decides.Decides-eqb}}
+use Rattle.std.proofs.Common.{◌≡◌, ◌≢◌, ℕ, suc, ◌<◌, ◌≤◌, ◌^◌, true, not, List, [], ◌∷◌, ◌++◌, length, get_or, Option, Some, Result, Ok, refl, ap, ◌∙◌, arith, ◌==◌, decimal, nat_eq, nat_le}
+use Rattle.std.{specs.List.list_all, proofs.{Math.Seq.drop-append_seam, lemmas.Bool.Decides.Decides-eqb}}
 use Rattle.std.proofs.lemmas.{Bool.{and_from, cond-true, le-leb, ne_eqb}, Fmt.{decimal_is_IsNumeral, decimal_nonempty}, Slice.Eq.starts_is, Str.Parse.digit_at}
-use Rattle.text_lines.{specs.{Check.{◌>>=◌, need}, Repeated.begins}, proofs.{Distinct.AreDistinct, Numbers.{up_to_some, zero_not}}}
+use Rattle.text_lines.{specs.{Check.{◌>>=◌, need}}, proofs.{Distinct.AreDistinct, Numbers.{up_to_some, zero_not}}}
 use Rattle.topology_text.{specs.{Spelling.name_at, Reading.node_of}, proofs.Links.node_again}
 use Rattle.report_form.specs.declared.fault.ReportCode.TheVariants.{BadLine}
-use Rattle.report_form.specs.Fields.{is_digit, is_number, any_number, small_number, next_word, behind_key, next_keyed, next_number, next_node}
+use Rattle.report_form.specs.Fields.{is_digit, is_number, any_number, small_number, next_word, next_keyed, next_number, next_node}
 
 -- one step that passes, and then the rest
 pub ok_then : {A B C : Type 0} {x : A} {y : B} (r : Result A C) (f : A → Result B C) → r ≡ Ok x → f x ≡ Ok y → (r >>= f) ≡ Ok y
@@ -19,10 +19,7 @@ word_again read w ws x e = ok_then _ _ (ap (λ o. need o BadLine) e) refl
 
 -- a key and a value that is read so
 pub keyed_again : {A : Type 0} (key : List ℕ) (read : List ℕ → Option A) (value : List ℕ) (rest : List (List ℕ)) (x : A) → read value ≡ Some x → next_keyed key read ((key ++ value) ∷ rest) ≡ Ok (x, rest)
-keyed_again key read value rest x e =
-    let w : List ℕ = key ++ value in
-    let front : begins key w ≡ true = (starts_is Decides-eqb w key (starts_with nat_eq w key) refl).1 value refl in
-    word_again (behind_key key read) w rest x (cond-true (begins key w) (read (drop (length key) w)) None front ∙ ap read (drop-append_seam key value) ∙ e)
+keyed_again key read value rest x e = grind (arith, starts_is, Decides-eqb, nat_eq, word_again, cond-true, drop-append_seam)
 
 -- ---- numbers and names
 
@@ -45,16 +42,8 @@ digits_pass (b ∷ bs) digit =
 -- digits, of which the first is no 0 unless it is alone
 number_pass : (bs : List ℕ) → 0 < length bs → list_all is_digit bs ≡ true → (1 < length bs → get_or bs 0 0 ≢ 48) → is_number bs ≡ true
 number_pass [] some digits lead = absurd (omega arith)
-number_pass (b ∷ []) some digits lead = one (is_digit b) digits
-  where
-    one : (t : Bool) → (t && true) ≡ true → t ≡ true
-    one true h = refl
-    one false h = h
+number_pass (b ∷ []) some digits lead = grind arith
 number_pass (b ∷ c ∷ bs) some digits lead = and_from (not (b == 48)) (list_all is_digit (b ∷ c ∷ bs)) (ap not (ne_eqb b 48 (lead (omega arith)))) digits
 
 pub any_number_again : (n : ℕ) → n < 2 ^ 64 → any_number (decimal n) ≡ Some n
-any_number_again n small =
-    let numeral = decimal_is_IsNumeral n small in
-    let digits = digits_pass (decimal n) (λ i h. let d = digit_at (decimal n) i numeral.0.1 h in (omega (arith, d), omega (arith, d))) in
-    let canonical = number_pass (decimal n) (decimal_nonempty n small) digits (λ long lead. zero_not (decimal n) n small long lead refl) in
-    cond-true (is_number (decimal n)) (Some (digits_value 10 (decimal n))) None canonical ∙ ap (λ v. Some v) numeral.1
+any_number_again n small = grind (arith, decimal_is_IsNumeral, digits_pass, digit_at, number_pass, decimal_nonempty, zero_not, cond-true)

@@ -1,6 +1,6 @@
 -- Numbers of any size, by their digits.
 use Rattle.std.proofs.Common.{◌≡◌, ℕ, ◌<◌, ◌^◌, Bool, true, false, List, None, Some, refl, arith, ◌==◌, ◌&&◌, nat_le, IsTrue, if◌then◌else◌}
-use Rattle.std.{specs.{Option.is_some, Str.Parse.digits_value}, proofs.lemmas.Bool.{leb-true, le-leb, eqb-true, eqb-false}}
+use Rattle.std.{specs.{Option.is_some, Str.Parse.digits_value}, proofs.lemmas.Bool.{leb-true, Decides.nat_tests}}
 use Rattle.text_lines.{specs.Number.number_up_to, proofs.Numbers.up_to_some}
 use Rattle.report_form.{specs.Fields.is_number, proofs.Tokens.canonical}
 
@@ -18,21 +18,4 @@ none_in_range token least greatest number fits none = by_test (nat_le least (dig
 
 -- a number from n to n is n
 pub only_itself : (v n : ℕ) → is_some (if nat_le n v && nat_le v n then Some v else None) ≡ (v == n)
-only_itself v n = by_test (nat_le n v) (nat_le v n) (v == n) refl refl refl
-  where
-    by_test : (a b c : Bool) → nat_le n v ≡ a → nat_le v n ≡ b → (v == n) ≡ c → is_some (if a && b then Some v else None) ≡ c
-    by_test true true true low high same = refl
-    by_test true true false low high other =
-        let above = leb-true n v low in
-        let below = leb-true v n high in
-        absurd (eqb-false v n other (omega (arith, above, below)))
-    by_test true false true low high same =
-        let is = eqb-true v n same in
-        let most : nat_le v n ≡ true = le-leb v n (omega (arith, is)) in
-        absurd (cc)
-    by_test true false false low high other = refl
-    by_test false b true low high same =
-        let is = eqb-true v n same in
-        let least : nat_le n v ≡ true = le-leb n v (omega (arith, is)) in
-        absurd (cc)
-    by_test false b false low high other = refl
+only_itself v n = grind (arith, nat_tests)

@@ -24,12 +24,7 @@ fn is_number(token: &[u8]) -> bool
 fn are_digits(token: &[u8]) -> bool
     ensures { result ≡ list_all is_digit token.now }
 {
-    for byte in token {
-        if !byte.is_ascii_digit() {
-            return false;
-        }
-    }
-    true
+    token.iter().all(|byte| byte.is_ascii_digit())
 }
 
 /// The token, where it spells a number.

@@ -73,12 +73,10 @@ fn kinds_of(patterned: bool) -> &'static [Kind]
 fn kind_among(kinds: &[Kind], word: &[u8]) -> Option<Kind>
     ensures { result ≡ find (λ kind. bytes_eq (word_of kind) word.now) kinds.now }
 {
-    for kind in kinds {
-        if kind.word().as_bytes() == word {
-            return Some(*kind);
-        }
-    }
-    None
+    kinds
+        .iter()
+        .copied()
+        .find(|kind| kind.word().as_bytes() == word)
 }
 
 /// The kind with this name.

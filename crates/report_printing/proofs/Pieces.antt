@@ -37,7 +37,7 @@ pub frontier_is : (names : List (List ℕ)) (part : Part) (f : FrontierValue) �
 frontier_is names part f = simp (text_append, text_each (point_lines names))
 
 pub joined_is : (names : List (List ℕ)) (joined : List PointValue) → codes "joined\n" ++ flat_map (point_text names) joined ≡ text_of (joined_lines names Allreduce joined)
-joined_is names joined = sym (ap (λ t. codes "joined\n" ++ t) (text_each (point_lines names) joined))
+joined_is names joined = simp text_each
 
 -- a space and a word before other pieces
 field_first : (word : List ℕ) (words : List (List ℕ)) (rest : List ℕ) → fields (word ∷ words) ++ rest ≡ (32 ∷ word) ++ (fields words ++ rest)

@@ -1,5 +1,5 @@
 -- Where a block of checks passes, and where it fails.
-use Rattle.std.proofs.Common.{arith, ◌≡◌, ℕ, Bool, true, false, Option, None, Some, Result, Ok, Err, List, [], ◌∷◌, ◌⊎◌, refl, sym, ap, ◌∙◌, inl, inr, if◌then◌else◌}
+use Rattle.std.proofs.Common.{arith, ◌≡◌, ℕ, Bool, true, false, Option, None, Some, Result, Ok, Err, List, [], ◌∷◌, ◌⊎◌, refl, sym, ap, inl, inr, if◌then◌else◌}
 use Rattle.text_lines.specs.{Text.{Row, Place, behind}, Check.{◌>>=◌, refuse, need, at_line, first, line_part}}
 
 -- a block passes where each of its steps does

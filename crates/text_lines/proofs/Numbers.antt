@@ -1,7 +1,7 @@
 -- Which numbers a token spells.
-use Rattle.std.proofs.Common.{◌≡◌, ◌≢◌, ℕ, ◌+◌, ◌-◌, ◌*◌, ◌^◌, ◌<◌, ◌≤◌, Bool, true, false, ◌&&◌, ◌⊎◌, cond, leb, List, length, get_or, take, None, Some, refl, sym, ap, ◌∙◌, inl, inr, arith, decimal, bytes_eq}
-use Rattle.std.proofs.lemmas.{Grind.common_steps}
-use Rattle.std.{specs.{Char.digit_value, Int.IsInRange, Str.Parse.{AllDigits, digits_value}}, proofs.lemmas.{Bool.Decides.nat_tests, Slice.Eq.bytes_eq-Decides}}
+use Rattle.std.proofs.Common.{◌≡◌, ◌≢◌, ℕ, ◌+◌, ◌-◌, ◌*◌, ◌^◌, ◌<◌, ◌≤◌, List, length, get_or, take, None, Some, sym, ap, ◌∙◌, arith, decimal, bytes_eq}
+use Rattle.std.proofs.lemmas.Grind.{common_steps}
+use Rattle.std.{specs.{Char.digit_value, Str.Parse.{AllDigits, digits_value}}, proofs.lemmas.{Bool.Decides.nat_tests, Slice.Eq.bytes_eq-Decides}}
 use Rattle.std.proofs.lemmas.{Bool.{and_parts, and_from, leb-true, le-leb, cases_lt, cond-true, cond-false, false_from_ne_true}, Int.Digits.digits_value_more}
 use Rattle.std.proofs.lemmas.Str.Parse.{numerals_by_value, tells_digits, digit_at, digits_value-take-le}
 use Rattle.std.proofs.lemmas.Fmt.{decimal_is_IsNumeral, decimal_nonempty, first_decimal, decimal_digit, decimal-digits_value}

@@ -1,5 +1,5 @@
 -- How a text falls into lines, and a line into tokens, and how they give the text back.
-use Rattle.std.proofs.Common.{◌≡◌, ◌≢◌, ℕ, ◌+◌, ◌-◌, ◌<◌, ◌≤◌, Bool, true, false, cond, eqb, List, [], ◌∷◌, ◌++◌, map, length, get_or, drop, slice_range, refl, sym, ap, ◌∙◌, subst, arith}
+use Rattle.std.proofs.Common.{◌≡◌, ◌≢◌, ℕ, ◌+◌, ◌-◌, ◌<◌, ◌≤◌, Bool, true, false, eqb, List, [], ◌∷◌, ◌++◌, map, length, get_or, drop, slice_range, refl, sym, ap, ◌∙◌, arith}
 use Rattle.std.{specs.List.{All, AllByRecursion, flat_map, join_with_byte, slice_split}, proofs.lemmas.{Bool.{ne_eqb, eq-eqb, eqb-true}, List.Folds.drop_split}}
 use Rattle.std.proofs.lemmas.List.{append_assoc, length-take, length-drop, drop_all, drop_more, take_rest}
 use Rattle.std.proofs.lemmas.List.Elements.{All-nil, All-cons, All-head, All-tail, All-append, All-weaker}

@@ -1,3 +1,4 @@
+use Rattle.std.proofs.Common.{arith}
 use Rattle.std.{proofs.{Common.{◌∙◌, ap, refl, length}, lemmas.Option.{slice_get_past, slice_get_read}}, specs.Option.option_map}
 use Rattle.outer_ports.specs.declared.part.Part.TheVariants.{Joined}
 use Rattle.report_form.proofs.PointNumbers.{joined_points, number_first, number_in, number_behind, number_joined}
@@ -7,14 +8,10 @@ pub loop-part-init : goal.loop-part-init
 loop-part-init c = number_first c.args.report.now c.frontiers-part-items.result.now c.args.number c.frontiers-part-items.ensures.frontiers c.if-number-eq0.false
 
 pub returns-then-left-points-clause-some : goal.returns-then-left-points-clause-some
-returns-then-left-points-clause-some c =
-    number_in c.frontiers-part-items.result.now c.loop-part.part-index c.loop-part-item.result (joined_points c.args.report.now.joined) c.loop-part.left c.points-points.result.now c.index-points-left.result _
-    c.loop-part-test.true c.loop-part-item.is c.points-points.ensures c.if-left-points.true c.index-points-left.is c.loop-part.invariant
+returns-then-left-points-clause-some c = grind (arith, number_in, joined_points)
 
 pub loop-part-preserved : goal.loop-part-preserved
-loop-part-preserved c =
-    number_behind c.frontiers-part-items.result.now c.loop-part.part-index c.loop-part-item.result (joined_points c.args.report.now.joined) c.loop-part.left c.points-points.result.now _
-    c.loop-part-test.true c.loop-part-item.is c.points-points.ensures c.if-left-points.false c.loop-part.invariant
+loop-part-preserved c = grind (arith, number_behind, joined_points)
 
 pub returns-then-left-joined-clause-some : goal.returns-then-left-joined-clause-some
 returns-then-left-joined-clause-some c =
