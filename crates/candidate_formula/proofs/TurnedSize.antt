@@ -1,5 +1,7 @@
 -- A search over links that are turned round is as large.
-use Rattle.std.proofs.Common.{◌≡◌, ℕ, ◌+◌, ◌*◌, Bool, true, false, cond, List, [], ◌∷◌, ◌++◌, length, map, refl, sym, ap, ◌∙◌, arith, length-append, filter, sum_by}
+use Rattle.std.proofs.lemmas.Bool.Decides.{nat_tests}
+use Rattle.std.proofs.lemmas.Grind.{common_steps}
+use Rattle.std.proofs.Common.{◌≡◌, ℕ, ◌+◌, Bool, true, false, cond, List, [], ◌∷◌, ◌++◌, length, map, refl, sym, ap, ◌∙◌, arith, length-append, filter, sum_by}
 use Rattle.std.{specs.List.{flat_map, range_with_len}, proofs.lemmas.List.{length-map, Elements.filter-append, Sums.sum_by-cons}}
 use Rattle.schedule.specs.Links.{GroupValue, TopologyValue, is_usable, usable_links, turned, reversed_group, reversed_of}
 use Rattle.schedule.proofs.Turning.{turned_usable, one_if}
@@ -56,10 +58,7 @@ as_many_links t =
 
 same_groups : (chunks steps extra : ℕ) (groups : List GroupValue) → sum_by (group_size chunks steps extra) (map reversed_group groups) ≡ sum_by (group_size chunks steps extra) groups
 same_groups chunks steps extra [] = refl
-same_groups chunks steps extra (g ∷ groups) =
-    let size : GroupValue → ℕ = group_size chunks steps extra in
-    let first : size (reversed_group g) ≡ size g = ap (λ n. n * chunks * steps * (g.width * (1 + extra) + 1)) (length-map g.links turned) in
-    omega (arith, sum_by-cons size (reversed_group g) (map reversed_group groups), sum_by-cons size g groups, first, same_groups chunks steps extra groups)
+same_groups chunks steps extra (g ∷ groups) = grind (arith, nat_tests, common_steps, length-map, sum_by-cons, same_groups chunks steps extra groups)
 
 pub copied_size : (q : QuestionValue) → size_of (copied_question q) ≡ size_of q
 copied_size q = grind (arith, same_size (reversed_of q.topology) q.spec q.limits, as_many_links q.topology, same_groups (most_chunks q) q.limits.max_s q.limits.k q.topology.groups)
