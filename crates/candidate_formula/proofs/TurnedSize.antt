@@ -21,10 +21,6 @@ kept_first p x xs = elim (p x) as (λ b. length (cond b (x ∷ filter p xs) (fil
 kept_append : {X : Type 0} (p : X → Bool) (xs ys : List X) → kept p (xs ++ ys) ≡ kept p xs + kept p ys
 kept_append p xs ys = ap length (filter-append p xs ys) ∙ length-append (filter p xs) (filter p ys)
 
-kept_alike : {X : Type 0} (p q : X → Bool) → ((x : X) → p x ≡ q x) → (xs : List X) → kept p xs ≡ kept q xs
-kept_alike p q same [] = refl
-kept_alike p q same (x ∷ xs) = grind (arith, same x, kept_first, kept_alike p q same xs)
-
 -- the pairs of one, and those of many, with so many others
 abbrev row : ℕ → List ℕ → List (ℕ × ℕ)
 row a bs = map (λ b. (a, b)) bs
@@ -54,7 +50,7 @@ kept_turned p xs (y ∷ ys) = grind (arith, kept_append, kept_column, kept_row, 
 as_many_links : (t : TopologyValue) → length (usable_links (reversed_of t)) ≡ length (usable_links t)
 as_many_links t =
     let range = range_with_len 0 t.nodes in
-    kept_alike (is_usable (reversed_of t)) (λ l. is_usable t (turned l)) (turned_usable t.groups) (grid range range) ∙ sym (kept_turned (is_usable t) range range)
+    (λ i. kept (λ l. turned_usable t.groups l i) (grid range range)) ∙ sym (kept_turned (is_usable t) range range)
 
 same_groups : (chunks steps extra : ℕ) (groups : List GroupValue) → sum_by (group_size chunks steps extra) (map reversed_group groups) ≡ sum_by (group_size chunks steps extra) groups
 same_groups chunks steps extra [] = refl
