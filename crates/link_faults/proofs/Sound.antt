@@ -1,25 +1,21 @@
 -- What a fault leaves is a topology.
-use Rattle.std.proofs.Common.{◌≡◌, ℕ, zero, suc, ◌<◌, ◌≤◌, Bool, true, false, cond, List, [], ◌∷◌, length, refl, sym, ap, subst, ⊎_elim, arith, ◌≢◌, filter, not, slice_set, All}
-use Rattle.std.{specs.List.AllByRecursion, proofs.lemmas.{Bool.{cases_Bool, ltb-true, lt-ltb}, List.{length-set, Kept.AllPairs-filter}}}
+use Rattle.std.proofs.Common.{◌≡◌, ℕ, zero, suc, ◌<◌, ◌≤◌, Bool, true, List, [], ◌∷◌, length, map, refl, sym, ap, ◌∙◌, subst, arith, ◌≢◌, filter, not, slice_set, All}
+use Rattle.std.{specs.List.AllByRecursion, proofs.lemmas.{Bool.{ltb-true, lt-ltb}, List.{length-map, length-set, Kept.AllPairs-filter, Sums.{count_by-le-length, length-filter}}}}
 use Rattle.std.proofs.lemmas.List.Elements.{All-filter, All-from_recursion, recursion_from_All}
-use Rattle.schedule.specs.{Links.{GroupValue, TopologyValue, IsBelow, IsGroup, IsLink, IsTopology, has_link}, Judging.group_at}
+use Rattle.schedule.{specs.{Links.{GroupValue, TopologyValue, IsBelow, IsGroup, IsLink, IsTopology, has_link}, Judging.group_at}, proofs.First.{among_each, each_among, filter_among, map_among}}
 use Rattle.link_faults.specs.Narrowed.{with_width, without_links, has_links, left_of, groups_after, narrowed}
 
 pub left_each : (P : GroupValue → Type 0) (lost : GroupValue) → ((group : GroupValue) → P group → has_links (without_links lost group) ≡ true → P (without_links lost group))
     → (groups : List GroupValue) → AllByRecursion P groups → AllByRecursion P (left_of lost groups)
-left_each P lost kept [] each = tt
-left_each P lost kept (group ∷ groups) each =
-    ⊎_elim
-    (λ (some : has_links (without_links lost group) ≡ true). rw some (kept group each.0 some, left_each P lost kept groups each.1))
-    (λ (none : has_links (without_links lost group) ≡ false). rw none (left_each P lost kept groups each.1))
-    (cases_Bool (has_links (without_links lost group)))
+left_each P lost kept groups each = each_among P (left_of lost groups) (λ left among.
+    let (there, some) = filter_among has_links left (map (without_links lost) groups) among in
+    let (group, inside, is) = map_among (without_links lost) left groups there in
+    subst P is (kept group (among_each P group groups each inside) (ap has_links is ∙ some)))
 
 pub left_few : (lost : GroupValue) (groups : List GroupValue) → length (left_of lost groups) ≤ length groups
-left_few lost [] = omega arith
-left_few lost (group ∷ groups) =
-    let rest : length (left_of lost groups) ≤ length groups = left_few lost groups in
-    elim (has_links (without_links lost group)) as (λ b. length (cond b (without_links lost group ∷ left_of lost groups) (left_of lost groups)) ≤ length (group ∷ groups))
-    [ true ↦ omega (arith, rest) | false ↦ omega (arith, rest) ]
+left_few lost groups =
+    let all : List GroupValue = map (without_links lost) groups in
+    omega (arith, length-filter has_links all, count_by-le-length has_links all, length-map groups (without_links lost))
 
 pub each_set : {X : Type 0} (P : X → Type 0) (xs : List X) (k : ℕ) (y : X) → P y → AllByRecursion P xs → AllByRecursion P (slice_set xs k y)
 each_set P [] k y new each = tt
