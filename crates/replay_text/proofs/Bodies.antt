@@ -4,7 +4,7 @@ use Rattle.std.{specs.List.range_with_len, proofs.lemmas.Grind.flat_map-append}
 use Rattle.schedule.specs.{Sends.ScheduleValue, Placed.PlacementValue, Links.TopologyValue, Bags.{Bags, contributions, held_at_2, of_placement}, Running.run_of}
 use Rattle.schedule.specs.{JoinedRuns.joined_run, Judging.verdict_of, declared.verdict.Verdict.Verdict}
 use Rattle.inversion.specs.{declared.verdict.SumVerdict.SumVerdict, Saying.{says_solves, says_sums}}
-use Rattle.collective_spec.specs.{declared.{instance.Instance.Instance, spec.Spec.Spec}, Collectives.{chunks_in, spec_demand, spec_instance}}
+use Rattle.collective_spec.specs.{declared.{instance.Instance.Instance, spec.Spec.Spec}, Collectives.spec_demand}
 use Rattle.bag_runs.{specs.Stores.{StoreValue, stored}, proofs.Tables.table_cell}
 use Rattle.node_programs.specs.{Machines.State, Ended.machine_of}
 use Rattle.text_lines.specs.Text.{line, text_of}
