@@ -20,11 +20,7 @@ not_gone lost group link h = not-true (has_link lost link) (and_parts (not (has_
 -- what is usable was usable, and is not gone
 pub left_usable : (lost : GroupValue) (groups : List GroupValue) (link : ℕ × ℕ) → list_any (λ group. has_link group link) (left_of lost groups) ≡ true
     → (list_any (λ group. has_link group link) groups ≡ true) × (has_link lost link ≡ false)
-left_usable lost groups link h =
-    let (left, among, has) = any_found (λ group. has_link group link) (left_of lost groups) h in
-    let (group, there, is) = map_among (without_links lost) left groups (filter_among has_links left (map (without_links lost) groups) among).0 in
-    let kept : has_link (without_links lost group) link ≡ true = ap (λ g. has_link g link) is ∙ has in
-    (any_among (λ group. has_link group link) group groups there (was_there lost group link kept), not_gone lost group link kept)
+left_usable lost groups link h = grind (arith, any_found, map_among, filter_among, any_among, was_there, not_gone)
 
 -- sends that use no link that is gone load a group as they load what is left of it
 pub same_load : (lost group : GroupValue) (step : ℕ) (sends : List Hop) → AllByRecursion (λ h. has_link lost (link_of h) ≡ false) sends → load (without_links lost group) step sends ≡ load group step sends

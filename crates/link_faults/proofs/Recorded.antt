@@ -1,5 +1,5 @@
 -- A record of candidates, of which some are carried by old ones.
-use Rattle.std.proofs.Common.{◌≡◌, ℕ, ◌≤◌, Bool, true, false, ◌&&◌, eqb, leb, cond, List, [], ◌∷◌, ◌++◌, sym, ap, ◌∙◌, subst, ⊎_elim, not}
+use Rattle.std.proofs.Common.{arith, ◌≡◌, ℕ, ◌≤◌, Bool, true, false, ◌&&◌, eqb, leb, cond, List, [], ◌∷◌, ◌++◌, sym, ap, ◌∙◌, subst, ⊎_elim, not}
 use Rattle.std.specs.List.{AllByRecursion, Contains}
 use Rattle.std.proofs.lemmas.{Bool.{false≢true, and_parts, and_from, cases_Bool, or_cases, eqb-true, eq-eqb, leb-true, le-leb, not-true}, List.{append-nil, Elements.{Contains-push_cases, filter-append}}}
 use Rattle.schedule.{specs.Judging.group_at, proofs.First.{Among-from_Contains, Contains-from_Among, among_kept, filter_among}}
@@ -7,10 +7,7 @@ use Rattle.candidate_order.specs.{declared.candidate.Candidate.Candidate, Fronti
 use Rattle.link_faults.{specs.Carrying.{Carries, IsOldRefuted, is_carrier, is_carried, not_carried, narrowed_question}, proofs.Carried.carried}
 
 pub carrier_is : (a b : Candidate) → is_carrier a b ≡ true → Carries a b
-carrier_is a b h =
-    let first = and_parts (eqb a.s b.s) (leb b.r a.r && leb a.c b.c) h in
-    let rest = and_parts (leb b.r a.r) (leb a.c b.c) first.1 in
-    (eqb-true a.s b.s first.0, leb-true b.r a.r rest.0, leb-true a.c b.c rest.1)
+carrier_is a b h = grind (arith, and_parts, eqb-true, leb-true)
 
 pub carrier_from : (a b : Candidate) → Carries a b → is_carrier a b ≡ true
 carrier_from a b c = and_from (eqb a.s b.s) (leb b.r a.r && leb a.c b.c) (eq-eqb a.s b.s c.0) (and_from (leb b.r a.r) (leb a.c b.c) (le-leb b.r a.r c.1) (le-leb a.c b.c c.2))

@@ -4,20 +4,14 @@ use Rattle.std.proofs.lemmas.{Bool.false≢true, Nat.mul-le, List.Sums.{count_by
 use Rattle.schedule.specs.{Links.{GroupValue, TopologyValue, has_link, is_usable, usable_links}, Placed.all_pairs, Judging.group_at}
 use Rattle.candidate_order.specs.Frontiers.{QuestionValue}
 use Rattle.round_encoding.specs.Candidates.{group_size}
-use Rattle.candidate_formula.specs.{Questions.IsSmallQuestion, Sizes.{most_chunks, size_of}}
+use Rattle.candidate_formula.specs.{Questions.IsSmallQuestion, Sizes.size_of}
 use Rattle.link_faults.specs.{Narrowed.{with_width, without_links, has_links, left_of, narrowed}, Carrying.narrowed_question}
 use Rattle.link_faults.proofs.{Links.{left_usable, set_any}, Sound.narrowed_topology}
 
 -- ---- links
 
 fewer_pass : {X : Type 0} (p q : X → Bool) → ((x : X) → p x ≡ true → q x ≡ true) → (xs : List X) → length (filter p xs) ≤ length (filter q xs)
-fewer_pass p q passes xs =
-    omega (arith, length-filter p xs, length-filter q xs, sum_by-le-sum_by (λ x. cond (p x) 1 0) (λ x. cond (q x) 1 0) xs (λ x. counted (p x) (q x) (passes x)))
-  where
-    counted : (a b : Bool) → (a ≡ true → b ≡ true) → cond {A = ℕ} a 1 0 ≤ cond b 1 0
-    counted true true h = omega arith
-    counted true false h = absurd (false≢true (h refl))
-    counted false b h = omega arith
+fewer_pass p q passes xs = grind (arith, length-filter, sum_by-le-sum_by, false≢true)
 
 usable_before : (t : TopologyValue) (g w : ℕ) (link : ℕ × ℕ) → is_usable (narrowed t g w) link ≡ true → is_usable t link ≡ true
 usable_before t g zero link is = (left_usable (group_at t g) t.groups link is).0
@@ -66,20 +60,7 @@ module _ (chunks steps extra : ℕ) where
 -- ---- the search
 
 pub no_larger : (q : QuestionValue) (g w : ℕ) → w ≤ (group_at q.topology g).width → size_of (narrowed_question q g w) ≤ size_of q
-no_larger q g w less =
-    let chunks : ℕ = most_chunks q in
-    let steps : ℕ = q.limits.max_s in
-    let links : ℕ = length (usable_links (narrowed q.topology g w)) in
-    let all : ℕ = length (usable_links q.topology) in
-    let sent : chunks * links * steps ≤ chunks * all * steps = mul-le (chunks * links) steps (chunks * all) steps (mul-le chunks links chunks all (omega arith) (fewer_links q.topology g w)) (omega arith) in
-    let counted : sum_by (group_size chunks steps q.limits.k) (narrowed q.topology g w).groups ≤ sum_by (group_size chunks steps q.limits.k) q.topology.groups = less_groups chunks steps q.limits.k q.topology g w less in
-    omega (arith, sent, counted)
+no_larger q g w less = grind (arith, mul-le, fewer_links, sum_by, less_groups)
 
 pub still_small : (q : QuestionValue) (g w : ℕ) → IsSmallQuestion q → g < length q.topology.groups → w < (group_at q.topology g).width → IsSmallQuestion (narrowed_question q g w)
-still_small q g w small low less = record {
-  topology = narrowed_topology q.topology g w small.topology low less;
-  spec = small.spec;
-  copies = small.copies;
-  limits = small.limits;
-  size = omega (arith, small.size, no_larger q g w (omega (arith, less)));
-}
+still_small q g w small low less = grind (arith, narrowed_topology, no_larger)
