@@ -1,29 +1,13 @@
 -- The chunk counts that are allowed.
-use Rattle.std.proofs.Common.{◌≡◌, ℕ, ◌+◌, ◌-◌, ◌≤◌, Bool, true, false, cond, List, [], ◌∷◌, ◌++◌, map-id, refl, sym, ap, ◌∙◌, subst, arith, append-nil, ◌↔◌, IsTrue, filter, nat_le}
+use Rattle.std.proofs.Common.{◌≡◌, ℕ, ◌≤◌, Bool, true, List, [], ◌∷◌, refl, sym, ap, ◌∙◌, subst, arith, ◌↔◌, IsTrue, filter, nat_le}
 use Rattle.std.{specs.List.{range_with_len, Sorted.IsStrictlyIncreasing}, proofs.lemmas.{Bool.{and_parts, leb-true}, List.Kept.IsStrictlyIncreasing-filter}}
 use Rattle.std.proofs.lemmas.List.Elements.{All-filter, All-contains, filter_passes}
-use Rattle.std.proofs.lemmas.List.FromFn.{length-range_with_len, get_or-range_with_len, filter_of_map_range_with_len_more}
+use Rattle.std.proofs.lemmas.List.FromFn.{length-range_with_len, get_or-range_with_len}
 use Rattle.schedule.proofs.First.{Among-from_Contains, Contains-from_Among, among_kept}
 use Rattle.collective_spec.specs.{declared.kind.Kind.Kind, Kinds.allows}
 use Rattle.candidate_order.{specs.{Ranges.LimitsValue, Listed.AreAllowed}, proofs.Rows.Contains-range}
 use Rattle.send_encoding.proofs.Everywhere.{From, in_range}
 use Rattle.candidate_formula.specs.Counts.{allowed_up_to}
-
--- ---- one count more
-
-filter_more : (p : ℕ → Bool) (a n j : ℕ) → a + n ≡ j → filter p (range_with_len a (n + 1)) ≡ filter p (range_with_len a n) ++ cond (p j) (j ∷ []) []
-filter_more p a n j e =
-    ap (filter p) (sym (map-id (range_with_len a (n + 1)))) ∙ filter_of_map_range_with_len_more p (λ x. x) a n j e
-    ∙ ap (λ r. filter p r ++ cond (p j) (j ∷ []) []) (map-id (range_with_len a n))
-
-allowed_more : (kind : Kind) (nodes c : ℕ) → 1 ≤ c → allowed_up_to (c + 1 - 1) kind nodes ≡ allowed_up_to (c - 1) kind nodes ++ cond (allows kind nodes c) (c ∷ []) []
-allowed_more kind nodes c some = grind (arith, filter_more (allows kind nodes) 1 (c - 1) c)
-
-pub kept_more : (kind : Kind) (nodes c : ℕ) (before after : List ℕ) → 1 ≤ c → allows kind nodes c ≡ true → before ≡ allowed_up_to (c - 1) kind nodes → after ≡ before ++ c ∷ [] → after ≡ allowed_up_to (c + 1 - 1) kind nodes
-kept_more kind nodes c before after some ok b a = grind (arith, allowed_more kind nodes c some)
-
-pub passed_more : (kind : Kind) (nodes c : ℕ) (before : List ℕ) → 1 ≤ c → allows kind nodes c ≡ false → before ≡ allowed_up_to (c - 1) kind nodes → before ≡ allowed_up_to (c + 1 - 1) kind nodes
-passed_more kind nodes c before some not_allowed b = grind (arith, append-nil, allowed_more kind nodes c some)
 
 -- ---- all of them
 

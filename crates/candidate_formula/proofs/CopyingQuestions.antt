@@ -1,12 +1,11 @@
 -- The question that copies in place of one that is asked.
-use Rattle.std.proofs.Common.{◌≡◌, ◌≢◌, ℕ, ◌+◌, ◌*◌, ◌≤◌, Bool, true, sym, ap, ◌∙◌, subst, ◌↔◌, IsTrue, if◌then◌else◌, length, sum_by}
+use Rattle.std.proofs.Common.{arith, ◌≡◌, ◌≢◌, ℕ, ◌+◌, ◌*◌, ◌≤◌, Bool, true, sym, ap, ◌∙◌, ◌↔◌, if◌then◌else◌, length, sum_by}
 use Rattle.schedule.specs.{Links.{TopologyValue, IsTopology, usable_links, reversed_of}, Sends.ScheduleValue}
 use Rattle.collective_spec.specs.declared.kind.Kind.TheVariants as kind
 use Rattle.collective_spec.specs.{declared.{instance.Instance.Instance, spec.Spec.Spec}, Kinds.allows, Collectives.{IsSpec, adds_up, kind_in}}
 use Rattle.candidate_order.specs.{declared.candidate.Candidate.Candidate, Ranges.{LimitsValue, IsLimits}, Frontiers.{QuestionValue, IsWithin, instance_for}}
 use Rattle.candidate_order.specs.Copied.{copied_question}
 use Rattle.round_encoding.specs.Candidates.{group_size, size_limit}
-use Rattle.chunk_order.specs.Alike.{Ordered}
 use Rattle.candidate_formula.specs.{Formulas.{formula_for, Suits}, Sizes.size_of, Questions.{IsSmallQuestion, copying_question}}
 use Rattle.candidate_formula.proofs.{Copying.{copies, copied_keeps, same_chunks, same_instance}, Exact.{asked_formula, copied_formula}}
 
@@ -22,24 +21,11 @@ module _ (t : TopologyValue) (s : Spec) (limits : LimitsValue) where
   same_size = ap size_at (same_chunks s t.nodes limits.max_c)
 
   pub small_by_copying : IsTopology t → IsSpec t.nodes s → kind_in s ≢ kind.Allreduce → IsLimits limits → size_of plainly ≤ size_limit → IsSmallQuestion (copying_question t s limits)
-  small_by_copying topology is single ranges size = record {
-    topology = topology;
-    spec = copied_keeps t.nodes s is;
-    copies = copies s single;
-    limits = ranges;
-    size = subst (λ n. n ≤ size_limit) (sym same_size) size;
-  }
+  small_by_copying topology is single ranges size = grind (arith, copied_keeps, copies, same_size)
 
 -- what the same chunk counts are allowed for has the same candidates
 pub within_by : (t : TopologyValue) (limits : LimitsValue) (x : Candidate) (a b : Spec) → allows (kind_in a) t.nodes x.c ≡ allows (kind_in b) t.nodes x.c → IsWithin (record { topology = t; spec = a; limits = limits }) x → IsWithin (record { topology = t; spec = b; limits = limits }) x
-within_by t limits x a b same w = record {
-  some_steps = w.some_steps;
-  steps = w.steps;
-  all_rounds = w.all_rounds;
-  rounds = w.rounds;
-  chunks = w.chunks;
-  allowed = subst IsTrue same w.allowed;
-}
+within_by t limits x a b same w = grind arith
 
 -- the same formula stands for a reduction and for what copies over the links turned round
 pub reduced_formula : (q : QuestionValue) (x : Candidate) → adds_up q.spec ≡ true → kind_in q.spec ≢ kind.Allreduce → formula_for (copied_question q) x ≡ formula_for q x
@@ -51,8 +37,4 @@ reduced_formula q x adds single =
 
 -- and the same is asked of schedules
 pub copied_suits : (q : QuestionValue) (x : Candidate) (s : ScheduleValue) → Suits (copied_question q) x s ↔ Suits q x s
-copied_suits q x s =
-    let same = same_instance q.spec q.topology.nodes x.c in (
-      λ suits ordered. subst (λ (i : Instance). Ordered i.pre i.post s) same (suits ordered),
-      λ suits ordered. subst (λ (i : Instance). Ordered i.pre i.post s) (sym same) (suits ordered),
-    )
+copied_suits q x s = grind (arith, same_instance q.spec q.topology.nodes x.c)

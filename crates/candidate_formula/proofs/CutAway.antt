@@ -1,10 +1,10 @@
 -- What is cut away, over the links that are searched.
-use Rattle.std.{proofs.Common.{◌≡◌, ◌≢◌, Bool, true, false, sym, ap, ◌∙◌, if◌then◌else◌}, specs.Option.is_some}
+use Rattle.std.{proofs.Common.{arith, ◌≡◌, ◌≢◌, Bool, true, false, ap, if◌then◌else◌}, specs.Option.is_some}
 use Rattle.schedule.specs.Links.{TopologyValue, reversed_of}
-use Rattle.collective_spec.specs.{declared.instance.Instance.Instance, Collectives.{adds_up, kind_in}}
+use Rattle.collective_spec.specs.Collectives.{adds_up, kind_in}
 use Rattle.collective_spec.specs.declared.kind.Kind.TheVariants as kind
 use Rattle.candidate_order.specs.{declared.candidate.Candidate.Candidate, Copied.copied_question, Frontiers.QuestionValue}
-use Rattle.node_cuts.specs.{declared.sets.Sets.TheVariants.{Nothing, All}, Cuts.first_cut_of, Cutting.{sets_for, cut_in, is_cut}}
+use Rattle.node_cuts.specs.{declared.sets.Sets.TheVariants.{Nothing, All}, Cutting.{sets_for, cut_in, is_cut}}
 use Rattle.candidate_formula.{specs.Pruned.is_cut_away, proofs.Copying.{copies, same_instance}}
 
 -- whether a candidate is cut over such links
@@ -18,7 +18,4 @@ pub copied_cut : (q : QuestionValue) (x : Candidate) → adds_up q.spec ≡ fals
 copied_cut q x copied = ap (λ b. cut_over q x (if b then reversed_of q.topology else q.topology)) copied
 
 pub reduced_cut : (q : QuestionValue) (x : Candidate) → adds_up q.spec ≡ true → kind_in q.spec ≢ kind.Allreduce → is_cut_away (copied_question q) x ≡ is_cut_away q x
-reduced_cut q x adds single =
-    copied_cut (copied_question q) x (copies q.spec single)
-    ∙ ap (λ (i : Instance). is_some (first_cut_of (sets_for q.limits.pruning) (reversed_of q.topology) i.pre i.post x.r)) (same_instance q.spec q.topology.nodes x.c)
-    ∙ sym (ap (λ b. cut_over q x (if b then reversed_of q.topology else q.topology)) adds)
+reduced_cut q x adds single = grind (arith, copied_cut, copies, same_instance)

@@ -1,9 +1,9 @@
 -- The formula of a candidate of a small question is satisfiable exactly where the candidate is solvable.
-use Rattle.std.proofs.Common.{◌≡◌, ℕ, Bool, true, false, List, sym, ap, subst, ◌↔◌, if◌then◌else◌}
-use Rattle.schedule.specs.{Links.{TopologyValue, reversed_of}, Placed.PlacementValue, Sends.{ScheduleValue, IsInRange}, Solving.Solvable}
+use Rattle.std.proofs.Common.{arith, ◌≡◌, ℕ, Bool, true, false, List, ap, ◌↔◌, if◌then◌else◌}
+use Rattle.schedule.specs.{Links.{TopologyValue, reversed_of}, Placed.PlacementValue, Sends.ScheduleValue, Solving.Solvable}
 use Rattle.collective_spec.{specs.Collectives.adds_up, proofs.Sized.before_among}
-use Rattle.candidate_order.specs.{declared.candidate.Candidate.Candidate, Frontiers.{QuestionValue, IsWithin, Achieves, IsSolvedBy, IsSolvable, instance_for}}
-use Rattle.candidate_order.proofs.Achieved.{Achievable, achieved, solvable_by_one}
+use Rattle.candidate_order.specs.{declared.candidate.Candidate.Candidate, Frontiers.{QuestionValue, IsWithin, IsSolvedBy, IsSolvable, instance_for}}
+use Rattle.candidate_order.proofs.Achieved.{achieved, solvable_by_one}
 use Rattle.cnf_formula.specs.Formulas.{FormulaValue, Satisfies, Satisfiable}
 use Rattle.round_encoding.{specs.{Rounding.formula_of, Candidates.{IsCandidate, IsTightSolution}}, proofs.Exactly.exactly}
 use Rattle.chunk_order.{specs.Ordering.ordered_formula_of, proofs.Sufficing.{parts, exactly_solvable}}
@@ -31,10 +31,7 @@ plain_holds false t pre post steps rounds is values h = h
 
 -- a formula that is satisfiable exactly where what copies is solvable
 pub solvable_by : (q : QuestionValue) (x : Candidate) (f g : FormulaValue) → adds_up q.spec ≡ false → f ≡ g → Satisfiable g ↔ Solvable q.topology (instance_for q x).pre (instance_for q x).post x.s x.r → Satisfiable f ↔ IsSolvable q x
-solvable_by q x f g copies formula both = (
-  λ some. solvable_by_one q x (subst (λ b. Achievable b q x) (sym copies) (both.0 (subst Satisfiable formula some))),
-  λ some. subst Satisfiable (sym formula) (both.1 (subst (λ b. Achievable b q x) copies (achieved q x some))),
-)
+solvable_by q x f g copies formula both = grind (arith, solvable_by_one, achieved)
 
 pub exact_for : (q : QuestionValue) (x : Candidate) → adds_up q.spec ≡ false → IsCandidate q.topology (instance_for q x).pre (instance_for q x).post x.s x.r → Satisfiable (formula_for q x) ↔ IsSolvable q x
 exact_for q x copies is =
@@ -51,10 +48,4 @@ ordered_exact q x ok w =
 
 -- a tight solution of the instance solves the candidate
 pub tight_solves : (q : QuestionValue) (x : Candidate) (s : ScheduleValue) → adds_up q.spec ≡ false → IsTightSolution q.topology (instance_for q x).pre (instance_for q x).post s x.s x.r → IsSolvedBy q x s
-tight_solves q x s copies is =
-    let among = before_among q.spec q.topology.nodes x.c in
-    record {
-      valid = is.valid;
-      in_range = subst (λ n. IsInRange n q.topology.nodes s) among.of_chunks (subst (λ n. IsInRange (instance_for q x).pre.chunks n s) among.of_nodes is.in_range);
-      achieves = subst (λ b. Achieves b q x s) (sym copies) is.solves;
-    }
+tight_solves q x s copies is = grind (arith, before_among)

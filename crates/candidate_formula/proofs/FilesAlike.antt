@@ -1,8 +1,7 @@
 -- The files of a candidate prove the same where they stay, and of another question whose formula it has.
-use Rattle.std.proofs.Common.{◌≡◌, ℕ, ap, ◌∙◌, subst, Some}
+use Rattle.std.proofs.Common.{arith, ◌≡◌, ℕ, ap, ◌∙◌, Some}
 use Rattle.outer_ports.specs.{declared.{part.Part.Part, proof_name.FileKind.{FileKind, TheVariants.{Cnf, Lrat, Partial}}}, Files.Files}
 use Rattle.candidate_order.specs.{declared.candidate.Candidate.Candidate, Frontiers.QuestionValue}
-use Rattle.proof_rules.specs.Refuting.{Refutes, SpentLog}
 use Rattle.lrat_text.specs.Printing.{cnf_text}
 use Rattle.candidate_formula.specs.{Files.{file_of, SolvedFiles, RefutedFiles, UnknownFiles}, Formulas.formula_for}
 
@@ -14,29 +13,7 @@ module _ (part : Part) (p q : QuestionValue) (before after : Files) (x : Candida
   solved_alike has = record { formula = formula_alike has.formula; no_proof = stay Lrat ∙ has.no_proof; no_log = stay Partial ∙ has.no_log }
 
   pub refuted_alike : RefutedFiles part p before x → RefutedFiles part q after x
-  refuted_alike has =
-      let r = has.refutation in
-      let h = r.holds in
-      record {
-        refutation = record {
-          formula = formula_alike r.formula;
-          lines = r.lines;
-          holds = record { bytes = h.bytes; found = stay Lrat ∙ h.found; short = h.short; reads = h.reads };
-          refutes = subst (Refutes r.lines) same r.refutes;
-        };
-        no_log = stay Partial ∙ has.no_log;
-      }
+  refuted_alike has = grind (arith, formula_alike)
 
   pub unknown_alike : (conflicts : ℕ) → p.limits ≡ q.limits → UnknownFiles part p before (record { candidate = x; conflicts = conflicts }) → UnknownFiles part q after (record { candidate = x; conflicts = conflicts })
-  unknown_alike conflicts limits has =
-      let h = has.log.holds in
-      let spent = subst (λ f. SpentLog has.log.lines f p.limits.conflicts) same has.log.spent in
-      record {
-        formula = formula_alike has.formula;
-        no_proof = stay Lrat ∙ has.no_proof;
-        log = record {
-          lines = has.log.lines;
-          holds = record { bytes = h.bytes; found = stay Partial ∙ h.found; short = h.short; reads = h.reads };
-          spent = subst (λ l. SpentLog has.log.lines (formula_for q x) l.conflicts) limits spent;
-        };
-      }
+  unknown_alike conflicts limits has = grind (arith, formula_alike)

@@ -1,6 +1,6 @@
 -- How many links a group has, and a topology, at most.
-use Rattle.std.proofs.Common.{◌≡◌, ℕ, ◌<◌, ◌≤◌, true, length, get_or, ap, ◌∙◌, subst, arith, ◌&&◌, ◌==◌, All}
-use Rattle.std.specs.{Bool.Decides, Cmp.{IsEquivalence, nat_eq_equiv}}
+use Rattle.std.proofs.Common.{◌≡◌, ℕ, ◌<◌, ◌≤◌, true, length, get_or, subst, arith, All}
+use Rattle.std.specs.{Bool.Decides, Cmp.IsEquivalence}
 use Rattle.std.proofs.lemmas.{List.Elements.All-contains, Map.Made.{IsDistinct-from_AllPairs, length-le_from_is_member}}
 use Rattle.schedule.specs.{Links.{TopologyValue, IsGroup, IsBelow, IsTopology, GroupValue, usable_links}, Placed.{same_pair, all_pairs}}
 use Rattle.schedule.proofs.{First.Contains-from_Among, Placing.{pair_itself, pair_is, among_all}, Ordered.among_from_any}
@@ -10,11 +10,7 @@ pair_decides : (a b : ℕ × ℕ) → Decides (same_pair a b) (a ≡ b)
 pair_decides a b = (pair_is a b, λ e. subst (λ c. same_pair a c ≡ true) e (pair_itself a))
 
 pairs_equivalent : IsEquivalence same_pair
-pairs_equivalent = record {
-  refl = pair_itself;
-  symm = λ x y. ap (λ b. b && x.1 == y.1) (nat_eq_equiv.symm x.0 y.0) ∙ ap (λ b. y.0 == x.0 && b) (nat_eq_equiv.symm x.1 y.1);
-  congr = λ x y z same. ap (λ w. same_pair w z) (pair_is x y same);
-}
+pairs_equivalent = grind (arith, pair_itself, pair_is)
 
 pub few_links : (nodes : ℕ) (group : GroupValue) → nodes ≤ 16 → IsGroup group → All (IsBelow nodes) group.links → length group.links ≤ 256
 few_links nodes group few is below =

@@ -14,6 +14,14 @@ use Rattle.candidate_formula.specs.Questions.{IsSought, copying_question}
 use Rattle.candidate_formula.proofs.{Copying.{single, kept_copied, same_allowed, same_instance}, Sought.candidate_is, Bounded.candidate_small}
 use Rattle.candidate_formula.proofs.Exact.{asked_formula, asked_exact, copied_formula, plain_holds, solvable_by}
 
+-- what is said of it
+pub record IsMade (t : TopologyValue) (s : Spec) (x : Candidate) (p : Pruning) (e : Encoded) : Type 0 where
+  pub formula : (limits : LimitsValue) → limits.pruning ≡ p → formula_in e ≡ formula_for (copying_question t s limits) x
+  pub encoding : (limits : LimitsValue) → let i = instance_for (copying_question t s limits) x in IsEncodingOf t i.pre i.post x.s x.r e.encoding
+  pub exactly : (limits : LimitsValue) → Satisfiable (formula_in e) ↔ IsSolvable (copying_question t s limits) x
+  pub models : (values : List Bool) → Satisfies values (formula_in e) → Satisfies values e.encoding.formula
+  pub suits : (limits : LimitsValue) → limits.pruning ≡ p → (values : List Bool) → Satisfies values (formula_in e) → Suits (copying_question t s limits) x (schedule_said e.encoding values)
+
 module _ (t : TopologyValue) (s : Spec) (x : Candidate) (sought : IsSought t s x) where
   abbrev asked : LimitsValue → Instance
   asked limits = instance_for (copying_question t s limits) x
@@ -44,7 +52,7 @@ module _ (t : TopologyValue) (s : Spec) (x : Candidate) (sought : IsSought t s x
     encodes_for e encoded = record { topology = t; steps = x.s; rounds = x.r; encodes = encodes_it e encoded }
 
     module _ (p : Pruning) (e : Encoded) (encoded : e.encoding ≡ encoding_of t i.pre i.post x.s x.r) (formula : formula_in e ≡ asked_formula p.ordered t i.pre i.post x.s x.r) where
-      pub models : (values : List Bool) → Satisfies values (formula_in e) → Satisfies values e.encoding.formula
+      models : (values : List Bool) → Satisfies values (formula_in e) → Satisfies values e.encoding.formula
       models values h =
           subst (λ (k : Encoding). Satisfies values k.formula) (sym encoded)
           (plain_holds p.ordered t i.pre i.post x.s x.r is_candidate values (subst (Satisfies values) formula h))
@@ -59,24 +67,27 @@ module _ (t : TopologyValue) (s : Spec) (x : Candidate) (sought : IsSought t s x
         candidate : IsCandidate t (asked limits).pre (asked limits).post x.s x.r
         candidate = candidate_is (copying_question t s sought.limits) x sought.small sought.within
 
-        pub encodes : IsEncodingOf t (asked limits).pre (asked limits).post x.s x.r e.encoding
+        encodes : IsEncodingOf t (asked limits).pre (asked limits).post x.s x.r e.encoding
         encodes = record { candidate = candidate; is = encoded ∙ ap (λ (j : Instance). encoding_of t j.pre j.post x.s x.r) (asked_is limits) }
 
-        pub is_exact : Satisfiable (formula_in e) ↔ IsSolvable q x
+        is_exact : Satisfiable (formula_in e) ↔ IsSolvable q x
         is_exact =
             solvable_by q x (formula_in e) (asked_formula p.ordered t (asked limits).pre (asked limits).post x.s x.r) sought.small.copies of_asked
             (asked_exact p.ordered t (asked limits).pre (asked limits).post x.s x.r candidate)
 
         module _ (same : limits.pruning ≡ p) where
-          pub has_formula : formula_in e ≡ formula_for q x
+          has_formula : formula_in e ≡ formula_for q x
           has_formula =
               of_asked ∙ ap (λ (r : Pruning). asked_formula r.ordered t (asked limits).pre (asked limits).post x.s x.r) (sym same)
               ∙ sym (copied_formula q x sought.small.copies)
 
-          pub suits : (values : List Bool) → Satisfies values (formula_in e) → Suits q x (schedule_said e.encoding values)
+          suits : (values : List Bool) → Satisfies values (formula_in e) → Suits q x (schedule_said e.encoding values)
           suits values h ordered =
               let pre = (asked limits).pre in
               let post = (asked limits).post in
               let as_asked : p.ordered ≡ true = ap (λ (r : Pruning). r.ordered) (sym same) ∙ ordered in
               let whole : Satisfies values (ordered_formula_of t pre post x.s x.r) = subst (λ b. Satisfies values (asked_formula b t pre post x.s x.r)) as_asked (subst (Satisfies values) of_asked h) in
               subst (λ (k : Encoding). Ordered pre post (schedule_said k values)) (sym encodes.is) (decodes_ordered t pre post x.s x.r candidate values whole).ordered
+
+      pub what_is_made : IsMade t s x p e
+      what_is_made = record { formula = has_formula; encoding = encodes; exactly = is_exact; models = models; suits = suits }

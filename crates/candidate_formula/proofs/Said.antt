@@ -1,10 +1,10 @@
 -- The lines of a text without the faults are those with them.
-use Rattle.std.proofs.Common.{◌≡◌, ℕ, ◌+◌, Bool, true, false, List, [], ◌∷◌, length, map, Option, None, Some, Result, Ok, Err, ℤ, pos, refl, sym, ap, ◌∙◌, arith, ◌↔◌, ◌==◌, ◌&&◌, ◌||◌, not, if◌then◌else◌, filter, slice_index, nat_le, nat_lt, option_map, neg_ℤ, bytes_eq, codes}
+use Rattle.std.proofs.Common.{◌≡◌, ℕ, ◌+◌, Bool, true, false, List, [], ◌∷◌, length, map, Option, None, Some, Result, Ok, Err, ℤ, refl, sym, ap, ◌∙◌, arith, ◌↔◌, ◌==◌, ◌&&◌, ◌||◌, not, if◌then◌else◌, filter, slice_index, nat_le, nat_lt, option_map, neg_ℤ, bytes_eq, codes}
 use Rattle.std.{specs.{List.slice_split, Str.Parse.digits_value}, proofs.lemmas.Bool.Decides.nat_tests}
 use Rattle.text_lines.specs.{Text.{Row, rows_of}, Check.{◌>>=◌, refuse}}
 use Rattle.cnf_formula.specs.{Literals.LitValue, declared.line.LratLine.{LratLine, TheVariants.{Addition, Deletion}}}
-use Rattle.lrat_text.specs.declared.fault.LratTextFault.{LratTextFault, TheVariants.{BadToken, Truncated, NumberRange}}
-use Rattle.lrat_text.specs.Tokens.{Token, placed_from, tokens_from, content, is_number, number_from, id_of, has_minus, after_minus, literal_of, hint_of}
+use Rattle.lrat_text.specs.declared.fault.LratTextFault.{LratTextFault, TheVariants.{BadToken, NumberRange}}
+use Rattle.lrat_text.specs.Tokens.{Token, placed_from, tokens_from, content, is_number, number_from, id_of, literal_of, hint_of}
 use Rattle.lrat_text.specs.Reading.{up_to_zero, no_more, addition_of, deletion_of, behind_id, line_of, size_of}
 use Rattle.candidate_formula.specs.Lines.{in_front, lines_from, lines_of_text}
 use Rattle.candidate_formula.specs.ProofTexts.{words_in, is_passed}
@@ -31,14 +31,10 @@ mapped f (Ok x) = refl
 mapped f (Err fault) = refl
 
 literal_plain : (t : Token) → plain (literal_of t) ≡ literal_in t.bytes
-literal_plain t =
-    let make : ℕ → LitValue = λ var. record { var = var; positive = not (has_minus t) } in
-    mapped make (number_from t.place 2147483647 (after_minus t)) ∙ ap (option_map make) (number_plain t.place 2147483647 (after_minus t))
+literal_plain t = grind (arith, mapped, option_map, number_plain)
 
 hint_plain : (t : Token) → plain (hint_of t) ≡ hint_in t.bytes
-hint_plain t =
-    let make : ℕ → ℤ = λ id. if has_minus t then neg_ℤ (pos id) else pos id in
-    mapped make (number_from t.place 4294967295 (after_minus t)) ∙ ap (option_map make) (number_plain t.place 4294967295 (after_minus t))
+hint_plain t = grind (arith, neg_ℤ, mapped, option_map, number_plain)
 
 id_plain : (t : Token) → plain (id_of t) ≡ number_in 4294967295 t.bytes
 id_plain t = number_plain t.place 4294967295 t.bytes
@@ -67,10 +63,7 @@ front_plain false ts (Ok x) (Ok p) = refl
 module _ {A : Type 0} (read : Token → Result A LratTextFault) (plainly : List ℕ → Option A) (same : (t : Token) → plain (read t) ≡ plainly t.bytes) (lack : LratTextFault) where
   zero_plain : (ts : List Token) → option_map as_words (plain (up_to_zero read lack ts)) ≡ before_zero plainly (words ts)
   zero_plain [] = refl
-  zero_plain (t ∷ ts) =
-      front_plain (bytes_eq t.bytes (codes "0")) ts (read t) (up_to_zero read lack ts)
-      ∙ (ap (λ o. front (bytes_eq t.bytes (codes "0")) (words ts) o (option_map as_words (plain (up_to_zero read lack ts)))) (same t)
-      ∙ ap (front (bytes_eq t.bytes (codes "0")) (words ts) (plainly t.bytes)) (zero_plain ts))
+  zero_plain (t ∷ ts) = grind (arith, front_plain, bytes_eq, option_map, zero_plain ts)
 
   abbrev closing : Option (List A × List (List ℕ)) → Option (List A)
   closing o = elim o [
@@ -168,18 +161,11 @@ onto_plain (Ok line) (Ok lines) = refl
 
 row_plain : (lack : LratTextFault) (ts : List Token) (later : Result (List LratLine) LratTextFault) → plain (in_front (line_of lack ts) later) ≡ with_row (words ts) (plain later)
 row_plain lack [] later = refl
-row_plain lack (t ∷ ts) later = go (slice_index t.bytes 0 == 99)
-  where
-    go : (b : Bool) → plain (in_front (if b then None else Some (id_of t >>= (λ id. behind_id lack id ts))) later) ≡ (if b then plain later else onto (line_in (words (t ∷ ts))) (plain later))
-    go true = refl
-    go false = onto_plain (id_of t >>= (λ id. behind_id lack id ts)) later ∙ ap (λ o. onto o (plain later)) (line_plain lack t ts)
+row_plain lack (t ∷ ts) later = grind (arith, slice_index, onto_plain, line_plain)
 
 rows_plain : (place : ℕ) (rows : List Row) → plain (lines_from place rows) ≡ lines_in rows
 rows_plain place [] = refl
-rows_plain place (row ∷ rows) =
-    row_plain (if row.whole then BadToken (place + length row.bytes) else Truncated) (tokens_from place (content row)) (lines_from (place + size_of row) rows)
-    ∙ (ap (λ ws. with_row ws (plain (lines_from (place + size_of row) rows))) (row_words place row)
-    ∙ ap (with_row (words_in row)) (rows_plain (place + size_of row) rows))
+rows_plain place (row ∷ rows) = grind (arith, row_plain, row_words, rows_plain (place + size_of row) rows)
 
 pub said_plain : (bytes : List ℕ) → plain (lines_of_text bytes) ≡ lines_said bytes
 said_plain bytes = rows_plain 0 (rows_of bytes)

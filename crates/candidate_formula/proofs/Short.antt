@@ -16,9 +16,7 @@ id_short n small =
     length-decimal-le 10 n (omega arith) (omega (arith, ten, small)) (omega (arith, wide, small))
 
 literal_short : (l : LitValue) → IsLit l → length (literal_word l) ≤ 11
-literal_short l is =
-    let digits = id_short l.var (let small = is.small in omega (arith, small)) in
-    ⊎_elim (λ p. rw p (omega (arith, digits))) (λ n. rw n (omega (arith, digits))) (cases_Bool l.positive)
+literal_short l is = grind (arith, id_short, ⊎_elim, cases_Bool)
 
 hint_short : (h : ℤ) → IsHint h → length (hint_word h) ≤ 11
 hint_short (pos n) is = let digits = id_short n is.small in omega (arith, digits)
@@ -41,13 +39,7 @@ line_length id lits hints =
     rw (whole, parts) (simp (length-append, length) (omega arith))
 
 line_short : (l : ProofLineValue) → IsReadable (Addition l) → IsShortLine l → length (line (line_words (Addition l))) ≤ 50331675
-line_short l r short =
-    let id = id_short l.id r.0.small in
-    let lits = words_short literal_word IsLit literal_short l.lits r.1 in
-    let hints = words_short hint_word IsHint hint_short l.hints r.2 in
-    let few = short.lits in
-    let few_hints = short.hints in
-    omega (arith, line_length (decimal l.id) (map literal_word l.lits) (map hint_word l.hints), id, lits, hints, few, few_hints)
+line_short l r short = grind (arith, id_short l.id r.0.small, words_short literal_word IsLit literal_short l.lits r.1, words_short hint_word IsHint hint_short l.hints r.2, short.lits, short.hints, line_length)
 
 text_short : (lines : List ProofLineValue) → All IsReadable (map Addition lines) → All IsShortLine lines → length (lrat_text (map Addition lines)) ≤ length lines * 50331675
 text_short [] readable short = omega arith

@@ -12,23 +12,14 @@ pub few_sent : (c l s : ℕ) → c < 65536 → l ≤ 256 → s ≤ 8 → c * l *
 few_sent c l s chunks links steps = mul-le (c * l) s 16777216 8 (mul-le c l 65536 256 (omega (arith, chunks)) links) steps
 
 pub few_in_group : (n w e : ℕ) → n ≤ 134217728 → w ≤ 16 → e ≤ 8 → n * (w * (1 + e) + 1) ≤ 19461570560
-few_in_group n w e counted width extra =
-    let rounds : w * (1 + e) ≤ 144 = mul-le w (1 + e) 16 9 width (omega (arith, extra)) in
-    mul-le n (w * (1 + e) + 1) 134217728 145 counted (omega (arith, rounds))
+few_in_group n w e counted width extra = grind (arith, mul-le)
 
 module _ (t : TopologyValue) (is : IsTopology t) (chunks steps extra : ℕ) (c : chunks < 65536) (s : steps ≤ 8) (e : extra ≤ 8) where
   each_small : All (λ group. group_size chunks steps extra group ≤ 19461570560) t.groups
-  each_small = λ k d low.
-      let group = get_or t.groups k d in
-      let own = is.groups k d low in
-      few_in_group (length group.links * chunks * steps) group.width extra (few_counted (length group.links) chunks steps (few_links t.nodes group is.few own (is.nodes k d low)) c s) own.narrow e
+  each_small = grind (arith, few_in_group, few_counted, few_links)
 
   pub groups_small : sum_by (group_size chunks steps extra) t.groups ≤ 4982162063360
-  groups_small =
-      let all = sum_by-le (group_size chunks steps extra) 19461570560 t.groups each_small in
-      let limit = is.limit in
-      let bound : length t.groups * 19461570560 ≤ 4982162063360 = omega (arith, limit) in
-      omega (arith, all, bound)
+  groups_small = grind (arith, sum_by-le (group_size chunks steps extra) 19461570560 t.groups each_small, is.limit)
 
   -- in a loop, what is added so far and the next
   pub groups_more : (k : ℕ) (d : GroupValue) → k < length t.groups → sum_by (group_size chunks steps extra) (take k t.groups) + group_size chunks steps extra (get_or t.groups k d) ≤ 4982162063360

@@ -1,5 +1,7 @@
 -- A search over links that are turned round is as large.
-use Rattle.std.proofs.Common.{◌≡◌, ℕ, ◌+◌, ◌*◌, Bool, true, false, cond, List, [], ◌∷◌, ◌++◌, length, map, refl, sym, ap, ◌∙◌, arith, length-append, filter, sum_by}
+use Rattle.std.proofs.lemmas.Bool.Decides.{nat_tests}
+use Rattle.std.proofs.lemmas.Grind.{common_steps}
+use Rattle.std.proofs.Common.{◌≡◌, ℕ, ◌+◌, Bool, true, false, cond, List, [], ◌∷◌, ◌++◌, length, map, refl, sym, ap, ◌∙◌, arith, length-append, filter, sum_by}
 use Rattle.std.{specs.List.{flat_map, range_with_len}, proofs.lemmas.List.{length-map, Elements.filter-append, Sums.sum_by-cons}}
 use Rattle.schedule.specs.Links.{GroupValue, TopologyValue, is_usable, usable_links, turned, reversed_group, reversed_of}
 use Rattle.schedule.proofs.Turning.{turned_usable, one_if}
@@ -18,10 +20,6 @@ kept_first p x xs = elim (p x) as (λ b. length (cond b (x ∷ filter p xs) (fil
 
 kept_append : {X : Type 0} (p : X → Bool) (xs ys : List X) → kept p (xs ++ ys) ≡ kept p xs + kept p ys
 kept_append p xs ys = ap length (filter-append p xs ys) ∙ length-append (filter p xs) (filter p ys)
-
-kept_alike : {X : Type 0} (p q : X → Bool) → ((x : X) → p x ≡ q x) → (xs : List X) → kept p xs ≡ kept q xs
-kept_alike p q same [] = refl
-kept_alike p q same (x ∷ xs) = grind (arith, same x, kept_first, kept_alike p q same xs)
 
 -- the pairs of one, and those of many, with so many others
 abbrev row : ℕ → List ℕ → List (ℕ × ℕ)
@@ -52,14 +50,11 @@ kept_turned p xs (y ∷ ys) = grind (arith, kept_append, kept_column, kept_row, 
 as_many_links : (t : TopologyValue) → length (usable_links (reversed_of t)) ≡ length (usable_links t)
 as_many_links t =
     let range = range_with_len 0 t.nodes in
-    kept_alike (is_usable (reversed_of t)) (λ l. is_usable t (turned l)) (turned_usable t.groups) (grid range range) ∙ sym (kept_turned (is_usable t) range range)
+    (λ i. kept (λ l. turned_usable t.groups l i) (grid range range)) ∙ sym (kept_turned (is_usable t) range range)
 
 same_groups : (chunks steps extra : ℕ) (groups : List GroupValue) → sum_by (group_size chunks steps extra) (map reversed_group groups) ≡ sum_by (group_size chunks steps extra) groups
 same_groups chunks steps extra [] = refl
-same_groups chunks steps extra (g ∷ groups) =
-    let size : GroupValue → ℕ = group_size chunks steps extra in
-    let first : size (reversed_group g) ≡ size g = ap (λ n. n * chunks * steps * (g.width * (1 + extra) + 1)) (length-map g.links turned) in
-    omega (arith, sum_by-cons size (reversed_group g) (map reversed_group groups), sum_by-cons size g groups, first, same_groups chunks steps extra groups)
+same_groups chunks steps extra (g ∷ groups) = grind (arith, nat_tests, common_steps, length-map, sum_by-cons, same_groups chunks steps extra groups)
 
 pub copied_size : (q : QuestionValue) → size_of (copied_question q) ≡ size_of q
 copied_size q = grind (arith, same_size (reversed_of q.topology) q.spec q.limits, as_many_links q.topology, same_groups (most_chunks q) q.limits.max_s q.limits.k q.topology.groups)

@@ -11,18 +11,13 @@ use collective_spec::{Kind, allows};
 use std::alloc::Global;
 
 /// The counts up to a greatest one that such a collective may have.
-#[tactic(auto, using(crate::proofs::Allowed::kept_more, crate::proofs::Allowed::passed_more))]
 fn allowed_up_to(alloc: Global, greatest: u8, kind: Kind, nodes: u8) -> Result<Vec<u8>, OutOfMemory>
     requires { greatest ≤ 16 }
     ensures { IfOk result (λ counts. counts.items ≡ allowed_up_to greatest kind nodes) }
 {
-    let mut counts = Vec::new(alloc);
-    for c in 1..greatest + 1 {
-        if allows(kind, nodes, c) {
-            counts.push(c)?;
-        }
-    }
-    Ok(counts)
+    (1..greatest + 1)
+        .filter(|c| allows(kind, nodes, *c))
+        .collect(alloc)
 }
 
 /// The chunk counts within the limits that such a collective may have on so many nodes, ascending.

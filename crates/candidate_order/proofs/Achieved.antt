@@ -1,5 +1,5 @@
 -- A candidate is solvable if and only if some schedule of the size of its instance does what is asked.
-use Rattle.std.proofs.Common.{Bool, true, false}
+use Rattle.std.proofs.Common.{arith, Bool, true, false}
 use Rattle.schedule.specs.{Links.TopologyValue, Sends.{ScheduleValue, IsSchedule}, Solving.Solvable, Summing.SummedSolvable}
 use Rattle.collective_spec.specs.{declared.spec.Spec.{Spec, TheVariants.{Standard, Custom}}, Collectives.adds_up}
 use Rattle.candidate_order.specs.{declared.candidate.Candidate.Candidate, Ranges.LimitsValue}
@@ -35,6 +35,4 @@ pub achieved : (q : QuestionValue) (x : Candidate) → IsSolvable q x → IsAchi
 achieved q x some = shown q.topology q.limits x (adds_up q.spec) q.spec some.0 (some.1.valid, (some.1.in_range, some.1.achieves))
 
 pub solvable_by_one : (q : QuestionValue) (x : Candidate) → IsAchievable q x → IsSolvable q x
-solvable_by_one q x some =
-    let found = sized q.topology q.limits x (adds_up q.spec) q.spec some in
-    (found.0, record { valid = found.1.0; in_range = found.1.1.0; achieves = found.1.1.1 })
+solvable_by_one q x some = grind (arith, sized)

@@ -31,10 +31,7 @@ upto_some r1 c1 r2 c2 r3 c3 some1 some2 some3 (inl a) (inr b) =
     inl (cost_below_left r1 c1 r2 c2 r3 c3 some3 a (omega arith))
 upto_some r1 c1 r2 c2 r3 c3 some1 some2 some3 (inr a) (inl b) =
     inl (cost_below_right r1 c1 r2 c2 r3 c3 some1 (omega arith) b)
-upto_some r1 c1 r2 c2 r3 c3 some1 some2 some3 (inr a) (inr b) =
-    let up = cost_upto r1 c1 r2 c2 r3 c3 some2 (omega arith) (omega arith) in
-    let down = cost_upto r3 c3 r2 c2 r1 c1 some2 (omega arith) (omega arith) in
-    inr (omega arith, grind arith)
+upto_some r1 c1 r2 c2 r3 c3 some1 some2 some3 (inr a) (inr b) = grind (arith, cost_upto r1 c1 r2 c2 r3 c3 some2 (omega arith) (omega arith), cost_upto r3 c3 r2 c2 r1 c1 some2 (omega arith) (omega arith))
 
 -- a product with 0 in it
 factor_zero : (r c : ℕ) → 0 < c → r * c ≡ 0 → r ≡ 0
@@ -44,30 +41,19 @@ factor_zero (suc r) c some e = absurd (omega (arith, mul-pos {m = suc r} {n = c}
 -- where the last count is 0
 no_last : (r1 c1 r2 c2 r3 : ℕ) → UpTo r1 c1 r2 c2 → UpTo r2 c2 r3 0 → UpTo r1 c1 r3 0
 no_last r1 zero r2 zero r3 a b = grind arith
-no_last r1 zero r2 (suc c2) r3 a b =
-    let none : r1 ≡ 0 = factor_zero r1 (suc c2) (omega arith) (grind arith) in
-    inr (omega arith, inr (refl, omega arith))
+no_last r1 zero r2 (suc c2) r3 a b = grind (arith, factor_zero)
 no_last r1 (suc c1) zero zero r3 (inl a) b = absurd (omega arith)
-no_last r1 (suc c1) (suc r2) zero r3 (inl a) b =
-    let some : 0 < r3 = grind arith in
-    inl (omega (arith, mul-pos {m = r3} {n = suc c1} some (omega arith)))
+no_last r1 (suc c1) (suc r2) zero r3 (inl a) b = grind (arith, mul-pos)
 no_last r1 (suc c1) r2 zero r3 (inr a) b = grind arith
 no_last r1 (suc c1) r2 (suc c2) zero a b = grind arith
 no_last r1 (suc c1) r2 (suc c2) (suc r3) a b = inl (omega (arith, mul-pos {m = suc r3} {n = suc c1} (omega arith) (omega arith)))
 
 no_first : (r1 r2 c2 r3 c3 : ℕ) → UpTo r1 0 r2 c2 → UpTo r2 c2 r3 (suc c3) → UpTo r1 0 r3 (suc c3)
-no_first r1 r2 zero r3 c3 a b =
-    let none : r2 ≡ 0 = factor_zero r2 (suc c3) (omega arith) (grind arith) in
-    let first : r1 ≡ 0 = grind arith in
-    rw first (inr (omega arith, inl (omega arith)))
-no_first r1 r2 (suc c2) r3 c3 a b =
-    let first : r1 ≡ 0 = factor_zero r1 (suc c2) (omega arith) (grind arith) in
-    rw first (inr (omega arith, inl (omega arith)))
+no_first r1 r2 zero r3 c3 a b = grind (arith, factor_zero)
+no_first r1 r2 (suc c2) r3 c3 a b = grind (arith, factor_zero)
 
 no_middle : (r1 c1 r2 r3 c3 : ℕ) → UpTo r1 (suc c1) r2 0 → UpTo r2 0 r3 (suc c3) → UpTo r1 (suc c1) r3 (suc c3)
-no_middle r1 c1 r2 r3 c3 a b =
-    let none : r2 ≡ 0 = factor_zero r2 (suc c3) (omega arith) (grind arith) in
-    grind arith
+no_middle r1 c1 r2 r3 c3 a b = grind (arith, factor_zero)
 
 pub upto_trans : (r1 c1 r2 c2 r3 c3 : ℕ) → UpTo r1 c1 r2 c2 → UpTo r2 c2 r3 c3 → UpTo r1 c1 r3 c3
 upto_trans r1 c1 r2 c2 r3 zero a b = no_last r1 c1 r2 c2 r3 a b
@@ -78,9 +64,4 @@ upto_trans r1 (suc c1) r2 (suc c2) r3 (suc c3) a b =
 
 -- fractions of one count are the same where their rounds are
 pub same_rounds : (r s c : ℕ) → 0 < c → r * c ≡ s * c → r ≡ s
-same_rounds r s c some same =
-    elim (cases_order r s) [
-      | inl equal ↦ equal
-      | inr (inl below) ↦ absurd (omega (arith, mul-lt-mul_of_pos_right below some))
-      | inr (inr above) ↦ absurd (omega (arith, mul-lt-mul_of_pos_right above some))
-    ]
+same_rounds r s c some same = grind (arith, cases_order, mul-lt-mul_of_pos_right)

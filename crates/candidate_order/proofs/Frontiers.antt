@@ -1,5 +1,5 @@
 -- What a right frontier says, drawn out.
-use Rattle.std.proofs.Common.{◌≡◌, ◌∙◌, ◌<◌, ℕ, sym, subst, ap, true, false, inl, inr, List, [], length, arith, Contains, get_or, map}
+use Rattle.std.proofs.Common.{◌≡◌, ◌∙◌, ◌<◌, ℕ, sym, subst, ap, true, false, inl, inr, List, [], length, arith, Contains, get_or}
 use Rattle.std.proofs.lemmas.{Bool.cases_order, List.{get_or_default, get_or-map, length-map, Elements.All-contains}}
 use Rattle.list_laws.proofs.Members.{Contains-map}
 use Rattle.candidate_order.specs.{declared.{candidate.Candidate.Candidate, mark.Mark.TheVariants.{Optimal, Open}}, Costs.{NoWorse, Better, Before}}
@@ -10,12 +10,7 @@ pub none-contained : {X : Type 0} → (xs : List X) (x : X) → xs ≡ [] → Co
 none-contained xs x e h = absurd (let lt = rw e at h.1 in omega (arith, lt))
 
 pub bare_right : (q : QuestionValue) (f : FrontierValue) → RightFrontier q f → f.points ≡ [] → f.refuted ≡ [] → f.unknown ≡ [] → (x : Candidate) → IsWithin q x → ⊥
-bare_right q f right points refuted unknown x w =
-    elim (right.whole x w) [
-      | inl h ↦ (let lt = rw points at h.2 in absurd (omega (arith, lt)))
-      | inr (inl h) ↦ none-contained f.refuted x refuted h
-      | inr (inr h) ↦ none-contained (map (λ u. u.candidate) f.unknown) x (rw unknown) h
-    ]
+bare_right q f right points refuted unknown x w = grind (arith, none-contained)
 
 pub better_refuted : (q : QuestionValue) (f : FrontierValue) → RightFrontier q f → (p : PointValue) → Contains f.points p → p.mark ≡ Optimal → (x : Candidate) → IsWithin q x → Better x p.candidate → Contains f.refuted x
 better_refuted q f right p h e x w b = let point : IsPoint q f.refuted p = All-contains (IsPoint q f.refuted) f.points p right.points h in (point.optimal.0 e) x w b
@@ -67,7 +62,4 @@ pub point_solves : (q : QuestionValue) (f : FrontierValue) → RightFrontier q f
 point_solves q f right p h copies = subst (λ adding. Achieves adding q p.candidate p.schedule) copies (point_achieves q f right p h)
 
 pub open_not_all : (q : QuestionValue) (f : FrontierValue) → RightFrontier q f → (p : PointValue) → Contains f.points p → p.mark ≡ Open → ((x : Candidate) → IsWithin q x → Better x p.candidate → Contains f.refuted x) → ⊥
-open_not_all q f right p h opened all =
-    let point : IsPoint q f.refuted p = All-contains (IsPoint q f.refuted) f.points p right.points h in
-    let optimal : p.mark ≡ Optimal = point.optimal.1 all in
-    absurd cc
+open_not_all q f right p h opened all = grind (arith, All-contains (IsPoint q f.refuted) f.points p right.points h, (All-contains (IsPoint q f.refuted) f.points p right.points h).optimal.1 all)

@@ -27,10 +27,7 @@ Before-trans a b c some1 some2 some3 (inr (h, inl p)) (inr (k, inr q)) =
     inr (h ∙ k, inl (cost_below_left a.r a.c b.r b.c c.r c.c (omega arith) p (omega arith)))
 Before-trans a b c some1 some2 some3 (inr (h, inr p)) (inr (k, inl q)) =
     inr (h ∙ k, inl (cost_below_right a.r a.c b.r b.c c.r c.c (omega arith) (omega arith) q))
-Before-trans a b c some1 some2 some3 (inr (h, inr p)) (inr (k, inr q)) =
-    let up = cost_upto a.r a.c b.r b.c c.r c.c (omega arith) (omega arith) (omega arith) in
-    let down = cost_upto c.r c.c b.r b.c a.r a.c (omega arith) (omega arith) (omega arith) in
-    inr (h ∙ k, inr (omega arith, omega arith))
+Before-trans a b c some1 some2 some3 (inr (h, inr p)) (inr (k, inr q)) = grind (arith, cost_upto a.r a.c b.r b.c c.r c.c (omega arith) (omega arith) (omega arith), cost_upto c.r c.c b.r b.c a.r a.c (omega arith) (omega arith) (omega arith))
 
 same_candidate : (a b : Candidate) → a.s ≡ b.s → a.r ≡ b.r → a.c ≡ b.c → a ≡ b
 same_candidate a b steps rounds chunks = λ i. record { s = steps i; r = rounds i; c = chunks i }

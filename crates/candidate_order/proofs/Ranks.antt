@@ -1,5 +1,5 @@
 -- The order of the search is one that a sort can use, and sorted candidates of a step ascend by it.
-use Rattle.std.proofs.Common.{◌≡◌, ℕ, ◌+◌, ◌*◌, ◌<◌, ◌≤◌, ◌⊎◌, inl, inr, Bool, true, false, List, map, refl, sym, ap, ◌∙◌, subst, arith, All, AllPairs, Contains, IsPermutation}
+use Rattle.std.proofs.Common.{◌≡◌, ℕ, ◌+◌, ◌*◌, ◌<◌, ◌≤◌, ◌⊎◌, Bool, true, false, List, map, refl, sym, ap, ◌∙◌, subst, arith, All, AllPairs, Contains, IsPermutation}
 use Rattle.std.specs.{Cmp.IsStrictWeakOrder, Ordering.{nat_cmp, ordering_then, is_lt}, List.{IsDistinct, range_with_len}}
 use Rattle.std.{specs.List.Sorted.{IsSortedBy, IsStrictlyIncreasing}, proofs.lemmas.Bool.{false≢true, and_from, eq-eqb, Decides.nat_tests}}
 use Rattle.std.proofs.lemmas.List.Elements.{All-weaker, All-map, All-contains, All-contains_itself, All-from_get_or}
@@ -45,12 +45,7 @@ same_at a b = same_pair (a.r, a.c) (b.r, b.c)
 
 -- of two candidates of a step that differ, one comes before the other
 pub Before-from_comes : (a b : Candidate) → a.s ≡ b.s → 1 ≤ a.c → comes b a ≡ false → same_at a b ≡ false → Before a b
-Before-from_comes a b step some later differ =
-    elim (upto_from_comes a b later) [
-      | inl cost ↦ inr (step, inl cost)
-      | inr (same, inl count) ↦ inr (step, inr (same, count))
-      | inr (same, inr (count, rounds)) ↦ absurd (false≢true (sym differ ∙ and_from _ _ (eq-eqb a.r b.r (same_rounds a.r b.r a.c (omega arith) (rw (← count) at same))) (eq-eqb a.c b.c count)))
-    ]
+Before-from_comes a b step some later differ = grind (arith, upto_from_comes, false≢true, and_from, eq-eqb, same_rounds)
 
 -- the candidates of a step, as they are made
 abbrev pub made : ℕ → ℕ → List ℕ → List Candidate

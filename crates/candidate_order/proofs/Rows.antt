@@ -38,10 +38,7 @@ IsDistinct-rows (x ∷ xs) ys a b =
     distinct_append same_pair (map (λ y. (x, y)) ys) (rows xs ys) (IsDistinct-map eqb same_pair (λ y. (x, y)) (λ y z differ. and_right _ _ differ) ys b) (IsDistinct-rows xs ys a.1 b) (every_map (λ p. AllByRecursion (λ q. same_pair p q ≡ false) (rows xs ys)) (λ y. (x, y)) (λ y. rows_apart x y xs ys a.0) ys)
 
 pub IsDistinct-range : (a n : ℕ) → IsDistinct eqb (range_with_len a n)
-IsDistinct-range a n =
-    IsDistinct-from_apart eqb (range_with_len a n) (λ i j d before within.
-    let inside : j < n = omega (arith, length-range_with_len a n) in
-    ne_eqb _ _ (λ same. omega (arith, same, get_or-range_with_len a n i d (omega arith), get_or-range_with_len a n j d inside)))
+IsDistinct-range a n = grind (arith, IsDistinct-from_apart, length-range_with_len, ne_eqb, get_or-range_with_len)
 
 pub IsDistinct-increasing : (xs : List ℕ) → IsStrictlyIncreasing xs → IsDistinct eqb xs
 IsDistinct-increasing xs up =

@@ -1,10 +1,10 @@
 -- Two searches that give up nothing find points of the same candidates, and refute the same ones.
-use Rattle.std.proofs.{Common.{◌≡◌, List, [], inl, inr, ⊎_elim, sym, subst, ◌⊎◌, All, Contains}, lemmas.List.Elements.All-contains}
+use Rattle.std.proofs.{Common.{arith, ◌≡◌, List, [], inl, inr, ⊎_elim, sym, subst, ◌⊎◌, All, Contains}, lemmas.List.Elements.All-contains}
 use Rattle.list_laws.proofs.Each.{all_contained}
-use Rattle.schedule.proofs.First.{Among, Among-from_Contains, Contains-from_Among, map_among}
+use Rattle.schedule.proofs.First.{Among-from_Contains, Contains-from_Among, map_among}
 use Rattle.candidate_order.specs.{declared.candidate.Candidate.Candidate, Costs.{NoWorse, Before}}
-use Rattle.candidate_order.specs.Frontiers.{QuestionValue, PointValue, FrontierValue, solved, given_up, IsWithin, IsSolvable, IsPoint, RightFrontier, IsTried, IsWorthTrying, Searched}
-use Rattle.candidate_order.proofs.{Orders.{Before-trans, Before-total, has_chunk, HasChunk}, Frontiers.none-contained, Turns.{Settles, one_by_turns}}
+use Rattle.candidate_order.specs.Frontiers.{QuestionValue, PointValue, FrontierValue, solved, given_up, IsWithin, IsSolvable, IsPoint, RightFrontier, IsWorthTrying, Searched}
+use Rattle.candidate_order.proofs.{Orders.{Before-trans, has_chunk, HasChunk}, Frontiers.none-contained, Turns.one_by_turns}
 use Rattle.candidate_order.proofs.Unique.{candidates_apart, one_list_of_candidates}
 
 module _ (q : QuestionValue) where
@@ -24,12 +24,7 @@ module _ (q : QuestionValue) where
 
   -- what is worth trying is a point or refuted, where nothing is given up
   decided : (f : FrontierValue) → Searched q f → f.unknown ≡ [] → (x : Candidate) → IsWithin q x → IsWorthTrying f x → Contains (solved f) x ⊎ Contains f.refuted x
-  decided f searched none x within worth = by_list ((searched.tried x within).1 worth)
-    where
-      by_list : IsTried f x → Contains (solved f) x ⊎ Contains f.refuted x
-      by_list (inl point) = inl point
-      by_list (inr (inl refuted)) = inr refuted
-      by_list (inr (inr unknown)) = absurd (none-contained (given_up f) x (rw none) unknown)
+  decided f searched none x within worth = grind (arith, none-contained)
 
   module _ (f g : FrontierValue) (right_f : RightFrontier q f) (right_g : RightFrontier q g) (searched_f : Searched q f) (searched_g : Searched q g) where
     -- a point of the one is a point of the other, where the points of the other before it are points of the one
@@ -57,23 +52,10 @@ module _ (q : QuestionValue) where
 
 pub same_points : (q : QuestionValue) (f g : FrontierValue) → RightFrontier q f → Searched q f → RightFrontier q g → Searched q g → f.unknown ≡ [] → g.unknown ≡ [] → solved f ≡ solved g
 same_points q f g right_f searched_f right_g searched_g none_f none_g =
-    one_by_turns Before HasChunk candidates_apart Before-trans Before-total (solved f) (solved g)
-    (chunks f right_f) (chunks g right_g)
-    (settles f g right_f right_g searched_f searched_g none_g) (settles g f right_g right_f searched_g searched_f none_f)
+    one_by_turns Before HasChunk candidates_apart Before-trans (solved f) (solved g)
+    (λ x has. has_chunk q x (settled q f right_f x has).within) (λ x has. has_chunk q x (settled q g right_g x has).within)
+    (point_settles q f g right_f right_g searched_f searched_g none_g) (point_settles q g f right_g right_f searched_g searched_f none_f)
     searched_f.points_ascend searched_g.points_ascend
-  where
-    chunks : (h : FrontierValue) → RightFrontier q h → (x : Candidate) → Among x (solved h) → HasChunk x
-    chunks h right x among = has_chunk q x (settled q h right x (Contains-from_Among x (solved h) among)).within
-
-    settles : (a b : FrontierValue) → RightFrontier q a → RightFrontier q b → Searched q a → Searched q b → b.unknown ≡ [] → Settles Before (solved a) (solved b)
-    settles a b right_a right_b searched_a searched_b none x among earlier =
-        Among-from_Contains x (solved b) (point_settles q a b right_a right_b searched_a searched_b none x (Contains-from_Among x (solved a) among)
-        (λ y has before. Contains-from_Among y (solved a) (earlier y (Among-from_Contains y (solved b) has) before)))
 
 pub same_refuted : (q : QuestionValue) (f g : FrontierValue) → RightFrontier q f → Searched q f → RightFrontier q g → Searched q g → All (IsWithin q) f.refuted → All (IsWithin q) g.refuted → f.unknown ≡ [] → g.unknown ≡ [] → f.refuted ≡ g.refuted
-same_refuted q f g right_f searched_f right_g searched_g within_f within_g none_f none_g =
-    let same = same_points q f g right_f searched_f right_g searched_g none_f none_g in
-    one_list_of_candidates f.refuted g.refuted searched_f.refuted_ascend searched_g.refuted_ascend (λ x. (
-      λ has. refuted_settles q f g right_f right_g searched_f searched_g none_g same x (All-contains (IsWithin q) f.refuted x within_f has) has,
-      λ has. refuted_settles q g f right_g right_f searched_g searched_f none_f (sym same) x (All-contains (IsWithin q) g.refuted x within_g has) has,
-    ))
+same_refuted q f g right_f searched_f right_g searched_g within_f within_g none_f none_g = grind (arith, same_points q f g right_f searched_f right_g searched_g none_f none_g, one_list_of_candidates, refuted_settles, All-contains)

@@ -5,12 +5,12 @@ use Rattle.schedule.proofs.First.{Among, Among-from_Contains, Contains-from_Amon
 use Rattle.candidate_order.specs.{declared.candidate.Candidate.Candidate, Costs.Before}
 
 -- the two lists have the same items
-abbrev pub Same : {X : Type 0} → List X → List X → Type 0
+abbrev Same : {X : Type 0} → List X → List X → Type 0
 Same {X} xs ys = (z : X) → (Among z xs → Among z ys) × (Among z ys → Among z xs)
 
 module _ {X : Type 0} (R : X → X → Type 0) where
   -- the first stands before each later one
-  pub first_before : (x : X) (xs : List X) → AllPairs R (x ∷ xs) → (z : X) → Among z xs → R x z
+  first_before : (x : X) (xs : List X) → AllPairs R (x ∷ xs) → (z : X) → Among z xs → R x z
   first_before x xs ascending z among =
       let (k, low, is) = Contains-from_Among z xs among in
       subst (R x) is (ascending 0 (suc k) z (omega arith) (omega (arith, low)))
@@ -35,7 +35,7 @@ module _ {X : Type 0} (R : X → X → Type 0) (never_both : (a b : X) → R a b
           absurd (never_both x x itself itself)
       by_place (inr later) = later
 
-  pub same_lists : (xs ys : List X) → AllPairs R xs → AllPairs R ys → Same xs ys → xs ≡ ys
+  same_lists : (xs ys : List X) → AllPairs R xs → AllPairs R ys → Same xs ys → xs ≡ ys
   same_lists [] [] first second same = refl
   same_lists [] (y ∷ ys) first second same = absurd ((same y).1 (inl refl))
   same_lists (x ∷ xs) [] first second same = absurd ((same x).0 (inl refl))

@@ -1,7 +1,8 @@
 -- One candidate more in the record of an engine over another.
-use Rattle.std.proofs.Common.{◌≡◌, true, false, cond, [], ◌∷◌, ◌++◌, Some, None, refl, sym, ap, ◌∙◌, inl, inr, ⊎_elim, subst, Contains, Option, not}
-use Rattle.std.proofs.lemmas.{Bool.{cases_Bool, not_from_true, not_from_false}, List.{append-nil, Elements.Contains-push_cases}, Option.none-some}
-use Rattle.schedule.{specs.Solving.Solvable, proofs.First.{Among, Among-from_Contains, Contains-from_Among}}
+use Rattle.std.proofs.Common.{◌≡◌, Bool, true, false, cond, [], ◌∷◌, ◌++◌, Some, None, refl, sym, ap, ◌∙◌, ⊎_elim, subst, Contains, Option, not}
+use Rattle.std.proofs.lemmas.{Bool.{cases_Bool, not_from_false}, List.{append-nil, Elements.{Contains-push_cases, filter-append}}, Option.none-some}
+use Rattle.list_laws.proofs.Members.{Contains-filter}
+use Rattle.schedule.{specs.Solving.Solvable, proofs.First.{Among-from_Contains, Contains-from_Among, filter_among}}
 use Rattle.collective_spec.specs.Collectives.{adds_up, spec_instance}
 use Rattle.proof_rules.specs.Refuting.{Exhausted}
 use Rattle.cnf_formula.specs.Formulas.{FormulaValue}
@@ -23,60 +24,27 @@ module _ (sets : Sets) where
 
   -- ---- the record
 
-  uncut_push : (q : QuestionValue) (entries : RecordValue) (e : Candidate × Settled) → uncut_entries sets q (entries ++ e ∷ []) ≡ uncut_entries sets q entries ++ cond (not (is_cut sets q e.0)) (e ∷ []) []
-  uncut_push q [] e = refl
-  uncut_push q (y ∷ ys) e =
-      let rest = uncut_push q ys e in
-      ⊎_elim
-      (λ (kept : not (is_cut sets q y.0) ≡ true). rw (kept, rest) refl)
-      (λ (left : not (is_cut sets q y.0) ≡ false). rw (left, rest) refl)
-      (cases_Bool (not (is_cut sets q y.0)))
+  abbrev stays : QuestionValue → Candidate × Settled → Bool
+  stays q e = not (is_cut sets q e.0)
 
   pub uncut_cut : (q : QuestionValue) (entries : RecordValue) (x : Candidate) (kind : Settled) → is_cut sets q x ≡ true → uncut_entries sets q (entries ++ (x, kind) ∷ []) ≡ uncut_entries sets q entries
   uncut_cut q entries x kind cut =
-      uncut_push q entries (x, kind) ∙ ap (λ b. uncut_entries sets q entries ++ cond b ((x, kind) ∷ []) []) (not_from_true (is_cut sets q x) cut) ∙ append-nil (uncut_entries sets q entries)
+      filter-append (stays q) entries ((x, kind) ∷ []) ∙ ap (λ b. uncut_entries sets q entries ++ cond (not b) ((x, kind) ∷ []) []) cut ∙ append-nil (uncut_entries sets q entries)
 
   pub uncut_more : (q : QuestionValue) (entries : RecordValue) (x : Candidate) (kind : Settled) → is_cut sets q x ≡ false → uncut_entries sets q (entries ++ (x, kind) ∷ []) ≡ uncut_entries sets q entries ++ (x, kind) ∷ []
   uncut_more q entries x kind none =
-      uncut_push q entries (x, kind) ∙ ap (λ b. uncut_entries sets q entries ++ cond b ((x, kind) ∷ []) []) (not_from_false (is_cut sets q x) none)
+      filter-append (stays q) entries ((x, kind) ∷ []) ∙ ap (λ b. uncut_entries sets q entries ++ cond (not b) ((x, kind) ∷ []) []) none
 
   -- ---- what an engine owes
-
-  entry_was_there : (q : QuestionValue) (entries : RecordValue) (e : Candidate × Settled) → Among e (uncut_entries sets q entries) → Among e entries
-  entry_was_there q [] e among = among
-  entry_was_there q (y ∷ ys) e among =
-      ⊎_elim
-      (λ (kept : not (is_cut sets q y.0) ≡ true).
-      let now : Among e (y ∷ uncut_entries sets q ys) = rw kept at among in
-      ⊎_elim (λ (here : y ≡ e). inl here) (λ (later : Among e (uncut_entries sets q ys)). inr (entry_was_there q ys e later)) now)
-      (λ (left : not (is_cut sets q y.0) ≡ false).
-      let now : Among e (uncut_entries sets q ys) = rw left at among in
-      inr (entry_was_there q ys e now))
-      (cases_Bool (not (is_cut sets q y.0)))
-
-  entry_stays : (q : QuestionValue) (entries : RecordValue) (e : Candidate × Settled) → is_cut sets q e.0 ≡ false → Among e entries → Among e (uncut_entries sets q entries)
-  entry_stays q [] e none among = among
-  entry_stays q (y ∷ ys) e none among =
-      ⊎_elim
-      (λ (here : y ≡ e).
-      let kept : not (is_cut sets q y.0) ≡ true = not_from_false (is_cut sets q y.0) (ap (λ (entry : Candidate × Settled). is_cut sets q entry.0) here ∙ none) in
-      rw kept (inl here))
-      (λ (later : Among e ys).
-      let rest : Among e (uncut_entries sets q ys) = entry_stays q ys e none later in
-      ⊎_elim
-      (λ (kept : not (is_cut sets q y.0) ≡ true). rw kept (inr rest))
-      (λ (left : not (is_cut sets q y.0) ≡ false). rw left rest)
-      (cases_Bool (not (is_cut sets q y.0))))
-      among
 
   pub still_new : (q : QuestionValue) (entries inner : RecordValue) (x : Candidate) → inner ≡ uncut_entries sets q entries → IsNew entries x → IsNew inner x
   still_new q entries inner x kept fresh kind there =
       let now : Contains (uncut_entries sets q entries) (x, kind) = subst (λ es. Contains es (x, kind)) kept there in
-      fresh kind (Contains-from_Among (x, kind) entries (entry_was_there q entries (x, kind) (Among-from_Contains (x, kind) (uncut_entries sets q entries) now)))
+      fresh kind (Contains-from_Among (x, kind) entries (filter_among (stays q) (x, kind) entries (Among-from_Contains (x, kind) (uncut_entries sets q entries) now)).0)
 
   left_inside : (q : QuestionValue) (entries inner : RecordValue) (e : Candidate × Settled) → inner ≡ uncut_entries sets q entries → is_cut sets q e.0 ≡ false → Contains entries e → Contains inner e
   left_inside q entries inner e kept none there =
-      subst (λ es. Contains es e) (sym kept) (Contains-from_Among e (uncut_entries sets q entries) (entry_stays q entries e none (Among-from_Contains e entries there)))
+      subst (λ es. Contains es e) (sym kept) (Contains-filter (stays q) entries e (not_from_false (is_cut sets q e.0) none) there)
 
   pub right_by : (q : QuestionValue) (entries inner : RecordValue) → inner ≡ uncut_entries sets q entries → adds_up q.spec ≡ false → ((x : Candidate) → Contains inner (x, settled.Refuted) → IsSolvable q x → ⊥)
       → (x : Candidate) → Contains entries (x, settled.Refuted) → IsSolvable q x → ⊥

@@ -1,7 +1,9 @@
 -- What some schedule does after a fault, one does before it, of fewer chunks and in no fewer rounds.
+use Rattle.std.proofs.lemmas.Bool.Decides.{nat_tests}
+use Rattle.std.proofs.lemmas.Grind.{common_steps}
 use Rattle.std.proofs.Common.{ℕ, ◌+◌, ◌*◌, ◌≤◌, Bool, true, false, subst, sym, arith}
 use Rattle.schedule.specs.{Links.TopologyValue, Placed.PlacementValue, Judging.group_at, Solving.Solvable, Summing.SummedSolvable}
-use Rattle.collective_spec.specs.{declared.spec.Spec.Spec, Collectives.{chunks_of, spec_instance, spec_demand, ends_of, layout_after, adds_up}, Layouts.stands}
+use Rattle.collective_spec.specs.{declared.spec.Spec.Spec, Collectives.{chunks_of, spec_instance, spec_demand, layout_after, adds_up}, Layouts.stands}
 use Rattle.collective_spec.specs.Patterns.{in_copies}
 use Rattle.collective_spec.proofs.Chunks.{chunks_more}
 use Rattle.collective_spec.specs.declared.spec.Spec.TheVariants as spec
@@ -32,9 +34,7 @@ summed_before t g w demand steps rounds less solvable =
 
 module _ (t : TopologyValue) (nodes c d steps rounds more_rounds : ℕ) (fewer : c ≤ d) (longer : rounds ≤ more_rounds) (few : more_rounds ≤ steps + 8) where
   pub solvable_carried : (s : Spec) → Solvable t (spec_instance s nodes d).pre (spec_instance s nodes d).post steps rounds → Solvable t (spec_instance s nodes c).pre (spec_instance s nodes c).post steps more_rounds
-  solvable_carried (spec.Standard collective) solvable =
-      let ends = ends_of collective in
-      solvable_fewer t (chunks_of collective.kind nodes c) (chunks_of collective.kind nodes d) nodes (stands ends.0 nodes) (stands ends.1 nodes) steps rounds more_rounds (chunks_more (spec.Standard collective) nodes c d fewer) longer few solvable
+  solvable_carried (spec.Standard collective) solvable = grind (arith, nat_tests, common_steps, solvable_fewer, chunks_more)
   solvable_carried (spec.Custom p) solvable =
       solvable_fewer t (p.base * c) (p.base * d) nodes (in_copies p.base p.before) (in_copies p.base p.after) steps rounds more_rounds (chunks_more (spec.Custom p) nodes c d fewer) longer few solvable
 

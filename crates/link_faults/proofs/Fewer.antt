@@ -1,12 +1,12 @@
 -- A schedule of more chunks, cut down to the first of them: it does for these what it did, also with rounds to spare.
 use Rattle.std.proofs.Common.{◌≡◌, ℕ, zero, suc, ◌+◌, ◌<◌, ◌≤◌, ◌*◌, ◌-◌, Bool, true, false, ◌||◌, ◌&&◌, eqb, ltb, cond, List, [], ◌∷◌, length, get_or, sum, refl, sym, ap, ◌∙◌, subst, ⊎_elim, arith, filter, All}
 use Rattle.std.{specs.List.{list_any, AllByRecursion}, proofs.lemmas.{Nat.mul-le, List.Kept.AllPairs-filter}}
-use Rattle.std.proofs.lemmas.Bool.{false≢true, and_parts, and_from, or_cases, cases_Bool, ltb-true, lt-ltb, false_from_ne_true}
+use Rattle.std.proofs.lemmas.Bool.{false≢true, and_parts, and_from, cases_Bool, ltb-true, lt-ltb, false_from_ne_true}
 use Rattle.std.proofs.lemmas.List.Elements.{All-filter, filter_passes, All-from_recursion, All-weaker, recursion_from_All}
 use Rattle.schedule.specs.{declared.hop.Hop.Hop, Links.{TopologyValue, has_link, is_usable}, Placed.{PlacementValue, holds, placed, same_pair, all_pairs}}
 use Rattle.schedule.specs.{Sends.{ScheduleValue, IsSchedule, IsInRange, IsRound, IsStep, hop_before, is_hop_below, link_of}, Running.{after, brings}}
 use Rattle.schedule.specs.{Fitting.{Fits, load, rounds_at}, Solving.Solvable}
-use Rattle.schedule.proofs.{First.each_filter, Placing.{IsBelow, all_below, holds-placed, pair_is}, Stepping.{chunks-after, nodes-after}}
+use Rattle.schedule.proofs.{First.{among_each, each_among, each_weaker, filter_among}, Ordered.among_from_any, Placing.{IsBelow, all_below, holds-placed, pair_is}, Stepping.{chunks-after, nodes-after}}
 use Rattle.inversion.proofs.Firsts.{counted_kept}
 use Rattle.round_encoding.proofs.Rounds.{sum_cons}
 
@@ -91,30 +91,14 @@ any_first chunks Q p q (h ∷ hops) same none each =
     ap (λ b. list_any p (cond b (h ∷ first_sends chunks hops) (first_sends chunks hops))) other ∙ rest ∙ ap (λ b. b || list_any q hops) (sym (none h other)))
     (cases_Bool (ltb h.chunk chunks))
 
--- what holds of the pairs of a placement holds of one that it holds
-pub held_is : (P : ℕ × ℕ → Type 0) (pair : ℕ × ℕ) (pairs : List (ℕ × ℕ)) → AllByRecursion P pairs → list_any (same_pair pair) pairs ≡ true → P pair
-held_is P pair [] each found = absurd (false≢true found)
-held_is P pair (x ∷ pairs) each found =
-    ⊎_elim
-    (λ (here : same_pair pair x ≡ true). subst P (sym (pair_is pair x here)) each.0)
-    (λ (later : list_any (same_pair pair) pairs ≡ true). held_is P pair pairs each.1 later)
-    (or_cases _ _ found)
-
 -- what holds of all pairs of more chunks that pass a test holds of those of fewer
 pub each_fewer : (P : ℕ × ℕ → Type 0) (chunks wide nodes : ℕ) (test : ℕ × ℕ → Bool) → chunks ≤ wide → All P (placed wide nodes test).pairs → AllByRecursion (λ pair. IsBelow chunks nodes pair × P pair) (placed chunks nodes test).pairs
 each_fewer P chunks wide nodes test more each =
-    both (λ pair. test pair ≡ true) (IsBelow chunks nodes) (placed chunks nodes test).pairs
-    (recursion_from_All (λ pair. test pair ≡ true) (placed chunks nodes test).pairs (filter_passes test (all_pairs chunks nodes)))
-    (each_filter (IsBelow chunks nodes) test (all_pairs chunks nodes) (all_below chunks nodes))
-  where
-    of_pair : (pair : ℕ × ℕ) → test pair ≡ true → IsBelow chunks nodes pair → P pair
-    of_pair pair passes below =
-        let held : holds (placed wide nodes test) pair ≡ true = holds-placed wide nodes test pair (omega (arith, below.0, more)) below.1 ∙ passes in
-        held_is P pair (placed wide nodes test).pairs (recursion_from_All P (placed wide nodes test).pairs each) held
-
-    both : (A B : ℕ × ℕ → Type 0) (pairs : List (ℕ × ℕ)) → AllByRecursion (λ pair. test pair ≡ true) pairs → AllByRecursion (IsBelow chunks nodes) pairs → AllByRecursion (λ pair. IsBelow chunks nodes pair × P pair) pairs
-    both A B [] passes below = tt
-    both A B (pair ∷ pairs) passes below = ((below.0, of_pair pair passes.0 below.0), both A B pairs passes.1 below.1)
+    each_among (λ pair. IsBelow chunks nodes pair × P pair) (placed chunks nodes test).pairs (λ pair among.
+    let (there, passes) = filter_among test pair (all_pairs chunks nodes) among in
+    let below : IsBelow chunks nodes pair = among_each (IsBelow chunks nodes) pair (all_pairs chunks nodes) (all_below chunks nodes) there in
+    let held : holds (placed wide nodes test) pair ≡ true = holds-placed wide nodes test pair (omega (arith, below.0, more)) below.1 ∙ passes in
+    (below, among_each P pair (placed wide nodes test).pairs (recursion_from_All P (placed wide nodes test).pairs each) (among_from_any pair (placed wide nodes test).pairs held)))
 
 module _ (chunks wide nodes : ℕ) (test : ℕ × ℕ → Bool) (spare : ℕ) (s : ScheduleValue) (more : chunks ≤ wide) (range : IsInRange wide nodes s) where
   -- the first chunks are held where they were
@@ -162,12 +146,8 @@ solvable_fewer t chunks wide nodes before aim steps rounds more_rounds more long
         fits = fits_down t chunks spare s solves.fits;
         delivers = subst (λ n. All (λ pair. holds (after (placed chunks nodes before) (cut_down chunks spare s) n) pair ≡ true) (placed chunks nodes aim).pairs) (sym same)
             (All-from_recursion (λ pair. holds (after (placed chunks nodes before) (cut_down chunks spare s) (length s.rounds)) pair ≡ true) (placed chunks nodes aim).pairs
-            (arrived s spare solvable.in_range (placed chunks nodes aim).pairs (each_fewer (λ pair. holds (after (placed wide nodes before) s (length s.rounds)) pair ≡ true) chunks wide nodes aim more solves.delivers)));
+            (each_weaker (λ pair. IsBelow chunks nodes pair × (holds (after (placed wide nodes before) s (length s.rounds)) pair ≡ true)) (λ pair. holds (after (placed chunks nodes before) (cut_down chunks spare s) (length s.rounds)) pair ≡ true)
+            (λ pair h. same_held chunks wide nodes before spare s more solvable.in_range (length s.rounds) pair.0 pair.1 h.0.0 h.0.1 ∙ h.1)
+            (placed chunks nodes aim).pairs (each_fewer (λ pair. holds (after (placed wide nodes before) s (length s.rounds)) pair ≡ true) chunks wide nodes aim more solves.delivers)));
       };
     }
-  where
-    arrived : (s : ScheduleValue) (spare : ℕ) → IsInRange wide nodes s → (pairs : List (ℕ × ℕ)) → AllByRecursion (λ pair. IsBelow chunks nodes pair × (holds (after (placed wide nodes before) s (length s.rounds)) pair ≡ true)) pairs
-        → AllByRecursion (λ pair. holds (after (placed chunks nodes before) (cut_down chunks spare s) (length s.rounds)) pair ≡ true) pairs
-    arrived s spare range [] each = tt
-    arrived s spare range (pair ∷ pairs) each =
-        (same_held chunks wide nodes before spare s more range (length s.rounds) pair.0 pair.1 each.0.0.0 each.0.0.1 ∙ each.0.1, arrived s spare range pairs each.1)

@@ -1,8 +1,9 @@
 -- What links and groups are left after a fault, and what they carry.
-use Rattle.std.proofs.Common.{◌≡◌, ℕ, zero, suc, ◌+◌, ◌≤◌, ◌*◌, Bool, true, false, ◌||◌, ◌&&◌, eqb, cond, List, [], ◌∷◌, length, get_or, refl, sym, ap, ◌∙◌, ⊎_elim, arith, not, slice_set}
-use Rattle.std.{specs.List.{list_any, AllByRecursion}, proofs.lemmas.Bool.{false≢true, and_parts, cases_Bool, or_cases, or_left, or_right, lt-ltb, not-true}}
+use Rattle.std.proofs.Common.{◌≡◌, ℕ, zero, suc, ◌≤◌, ◌*◌, Bool, true, false, ◌||◌, ◌&&◌, eqb, cond, List, [], ◌∷◌, length, get_or, map, refl, sym, ap, ◌∙◌, ⊎_elim, arith, not, slice_set}
+use Rattle.std.{specs.List.{list_any, AllByRecursion}, proofs.lemmas.Bool.{false≢true, and_parts, cases_Bool, lt-ltb, not-true}}
 use Rattle.std.proofs.{lemmas.{List.Sums.sum_by-cons, Map.Views.any-filter_same}, Math.Bool.and-false}
-use Rattle.schedule.{specs.{declared.hop.Hop.Hop, Links.{GroupValue, has_link}, Placed.same_pair, Sends.link_of, Fitting.load}, proofs.Placing.pair_is}
+use Rattle.schedule.specs.{declared.hop.Hop.Hop, Links.{GroupValue, has_link}, Placed.same_pair, Sends.link_of, Fitting.load}
+use Rattle.schedule.proofs.{First.{among_each, among_kept, among_map, any_among, any_found, each_among, filter_among, map_among}, Placing.pair_is}
 use Rattle.link_faults.specs.Narrowed.{without_links, has_links, left_of}
 
 -- a link is left in a group exactly where it was there and is not gone
@@ -19,20 +20,7 @@ not_gone lost group link h = not-true (has_link lost link) (and_parts (not (has_
 -- what is usable was usable, and is not gone
 pub left_usable : (lost : GroupValue) (groups : List GroupValue) (link : ℕ × ℕ) → list_any (λ group. has_link group link) (left_of lost groups) ≡ true
     → (list_any (λ group. has_link group link) groups ≡ true) × (has_link lost link ≡ false)
-left_usable lost [] link h = absurd (false≢true h)
-left_usable lost (group ∷ groups) link h =
-    ⊎_elim
-    (λ (kept : has_links (without_links lost group) ≡ true).
-    let some : (has_link (without_links lost group) link || list_any (λ group. has_link group link) (left_of lost groups)) ≡ true = rw kept at h in
-    ⊎_elim
-    (λ (here : has_link (without_links lost group) link ≡ true). (or_left _ _ (was_there lost group link here), not_gone lost group link here))
-    (λ (later : list_any (λ group. has_link group link) (left_of lost groups) ≡ true).
-    let rest = left_usable lost groups link later in (or_right _ _ rest.0, rest.1))
-    (or_cases _ _ some))
-    (λ (dropped : has_links (without_links lost group) ≡ false).
-    let later : list_any (λ group. has_link group link) (left_of lost groups) ≡ true = rw dropped at h in
-    let rest = left_usable lost groups link later in (or_right _ _ rest.0, rest.1))
-    (cases_Bool (has_links (without_links lost group)))
+left_usable lost groups link h = grind (arith, any_found, map_among, filter_among, any_among, was_there, not_gone)
 
 -- sends that use no link that is gone load a group as they load what is left of it
 pub same_load : (lost group : GroupValue) (step : ℕ) (sends : List Hop) → AllByRecursion (λ h. has_link lost (link_of h) ≡ false) sends → load (without_links lost group) step sends ≡ load group step sends
@@ -40,20 +28,20 @@ same_load lost group step [] none = refl
 same_load lost group step (h ∷ sends) none =
     let here : has_link (without_links lost group) (link_of h) ≡ has_link group (link_of h) = left_link lost group (link_of h) ∙ ap (λ b. not b && has_link group (link_of h)) none.0 in
     let rest : load (without_links lost group) step sends ≡ load group step sends = same_load lost group step sends none.1 in
-    sum_by-cons (λ x. cond (eqb x.step step && has_link (without_links lost group) (link_of x)) 1 0) h sends
-    ∙ ap (λ b. cond (eqb h.step step && b) 1 0 + load (without_links lost group) step sends) here
-    ∙ ap (λ n. cond (eqb h.step step && has_link group (link_of h)) 1 0 + n) rest
-    ∙ sym (sum_by-cons (λ x. cond (eqb x.step step && has_link group (link_of x)) 1 0) h sends)
+    omega (
+      arith,
+      rest,
+      ap (λ b. cond {A = ℕ} (eqb h.step step && b) 1 0) here,
+      sum_by-cons (λ x. cond (eqb x.step step && has_link (without_links lost group) (link_of x)) 1 0) h sends,
+      sum_by-cons (λ x. cond (eqb x.step step && has_link group (link_of x)) 1 0) h sends,
+    )
 
 -- a group without links carries nothing
 pub no_load : (group : GroupValue) (step : ℕ) (sends : List Hop) → has_links group ≡ false → load group step sends ≡ 0
 no_load group step [] none = refl
 no_load group step (h ∷ sends) none =
-    let empty : has_link group (link_of h) ≡ false = without_links group.links none in
-    sum_by-cons (λ x. cond (eqb x.step step && has_link group (link_of x)) 1 0) h sends
-    ∙ ap (λ b. cond (eqb h.step step && b) 1 0 + load group step sends) empty
-    ∙ ap (λ b. cond {A = ℕ} b 1 0 + load group step sends) (and-false (eqb h.step step))
-    ∙ ap (λ n. 0 + n) (no_load group step sends none)
+    let empty : (eqb h.step step && has_link group (link_of h)) ≡ false = ap (λ b. eqb h.step step && b) (without_links group.links none) ∙ and-false (eqb h.step step) in
+    omega (arith, no_load group step sends none, ap (λ b. cond {A = ℕ} b 1 0) empty, sum_by-cons (λ x. cond (eqb x.step step && has_link group (link_of x)) 1 0) h sends)
   where
     without_links : (links : List (ℕ × ℕ)) → has_links (record { links = links; width = group.width }) ≡ false → list_any (same_pair (link_of h)) links ≡ false
     without_links [] e = refl
@@ -62,18 +50,16 @@ no_load group step (h ∷ sends) none =
 -- where what is left of each group carries no more than its width in so many rounds, so does the group
 pub left_within : (lost : GroupValue) (step rounds : ℕ) (sends : List Hop) (groups : List GroupValue) → AllByRecursion (λ h. has_link lost (link_of h) ≡ false) sends
     → AllByRecursion (λ group. load group step sends ≤ group.width * rounds) (left_of lost groups) → AllByRecursion (λ group. load group step sends ≤ group.width * rounds) groups
-left_within lost step rounds sends [] none within = tt
-left_within lost step rounds sends (group ∷ groups) none within =
-    let same : load (without_links lost group) step sends ≡ load group step sends = same_load lost group step sends none in
+left_within lost step rounds sends groups none within = each_among (λ group. load group step sends ≤ group.width * rounds) groups (λ group there.
+    let left : GroupValue = without_links lost group in
+    let same : load left step sends ≡ load group step sends = same_load lost group step sends none in
     ⊎_elim
-    (λ (kept : has_links (without_links lost group) ≡ true).
-    let both : AllByRecursion (λ group. load group step sends ≤ group.width * rounds) (without_links lost group ∷ left_of lost groups) = rw kept at within in
-    let here : load (without_links lost group) step sends ≤ group.width * rounds = both.0 in
-    (omega (arith, here, same), left_within lost step rounds sends groups none both.1))
-    (λ (dropped : has_links (without_links lost group) ≡ false).
-    let rest : AllByRecursion (λ group. load group step sends ≤ group.width * rounds) (left_of lost groups) = rw dropped at within in
-    (omega (arith, no_load (without_links lost group) step sends dropped, same), left_within lost step rounds sends groups none rest))
-    (cases_Bool (has_links (without_links lost group)))
+    (λ (kept : has_links left ≡ true).
+    let among = among_kept has_links left (map (without_links lost) groups) (among_map (without_links lost) group groups there) kept in
+    let here : load left step sends ≤ left.width * rounds = among_each (λ group. load group step sends ≤ group.width * rounds) left (left_of lost groups) within among in
+    omega (arith, here, same))
+    (λ (dropped : has_links left ≡ false). omega (arith, no_load left step sends dropped, same))
+    (cases_Bool (has_links left)))
 
 -- ---- a group with another width
 

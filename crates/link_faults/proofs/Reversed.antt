@@ -1,5 +1,5 @@
 -- Narrowing a topology and turning its links round, in either order, is the same.
-use Rattle.std.proofs.Common.{◌≡◌, ℕ, zero, suc, Bool, true, false, ◌||◌, eqb, ltb, cond, List, [], ◌∷◌, length, get_or, map, refl, ap, ◌∙◌, ◌≢◌, filter, not, slice_set, All}
+use Rattle.std.proofs.Common.{arith, ◌≡◌, ℕ, zero, suc, Bool, true, false, ltb, cond, List, [], ◌∷◌, length, get_or, map, refl, ap, ◌∙◌, ◌≢◌, filter, not, slice_set, All}
 use Rattle.std.{specs.List.list_any, proofs.{lemmas.List.{length-map, Elements.All-weaker}, Math.Bool.and_comm}}
 use Rattle.schedule.specs.{Links.{GroupValue, TopologyValue, has_link, turned, reversed_group, reversed_of}, Placed.same_pair, Judging.group_at}
 use Rattle.collective_spec.specs.declared.kind.Kind.TheVariants as kind
@@ -10,9 +10,7 @@ use Rattle.inversion.proofs.Copied.{solvable_exactly}
 
 any_turned : (link : ℕ × ℕ) (links : List (ℕ × ℕ)) → list_any (same_pair (turned link)) (map turned links) ≡ list_any (same_pair link) links
 any_turned link [] = refl
-any_turned link (l ∷ links) =
-    ap (λ b. b || list_any (same_pair (turned link)) (map turned links)) (and_comm (eqb link.1 l.1) (eqb link.0 l.0))
-    ∙ ap (λ b. same_pair link l || b) (any_turned link links)
+any_turned link (l ∷ links) = grind (arith, and_comm, any_turned link links)
 
 links_turned : (lost : GroupValue) (links : List (ℕ × ℕ)) → filter (λ link. not (has_link (reversed_group lost) link)) (map turned links) ≡ map turned (filter (λ link. not (has_link lost link)) links)
 links_turned lost [] = refl

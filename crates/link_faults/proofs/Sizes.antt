@@ -1,26 +1,17 @@
 -- A search over the links that a fault left is no larger than over those that were given.
-use Rattle.std.proofs.Common.{◌≡◌, ℕ, zero, suc, ◌+◌, ◌*◌, ◌<◌, ◌≤◌, Bool, true, false, cond, List, [], ◌∷◌, length, get_or, refl, sym, ◌∙◌, ⊎_elim, arith, filter, not, slice_set, sum_by}
-use Rattle.std.proofs.lemmas.{Bool.cases_Bool, Nat.mul-le, List.Sums.sum_by-cons}
+use Rattle.std.proofs.Common.{◌≡◌, ℕ, zero, suc, ◌+◌, ◌*◌, ◌<◌, ◌≤◌, Bool, true, false, cond, List, [], ◌∷◌, length, get_or, refl, sym, ◌∙◌, arith, filter, not, slice_set, sum_by}
+use Rattle.std.proofs.lemmas.{Bool.false≢true, Nat.mul-le, List.Sums.{count_by-le-length, length-filter, sum_by-cons, sum_by-le-sum_by}}
 use Rattle.schedule.specs.{Links.{GroupValue, TopologyValue, has_link, is_usable, usable_links}, Placed.all_pairs, Judging.group_at}
 use Rattle.candidate_order.specs.Frontiers.{QuestionValue}
 use Rattle.round_encoding.specs.Candidates.{group_size}
-use Rattle.candidate_formula.specs.{Questions.IsSmallQuestion, Sizes.{most_chunks, size_of}}
+use Rattle.candidate_formula.specs.{Questions.IsSmallQuestion, Sizes.size_of}
 use Rattle.link_faults.specs.{Narrowed.{with_width, without_links, has_links, left_of, narrowed}, Carrying.narrowed_question}
 use Rattle.link_faults.proofs.{Links.{left_usable, set_any}, Sound.narrowed_topology}
 
 -- ---- links
 
 fewer_pass : {X : Type 0} (p q : X → Bool) → ((x : X) → p x ≡ true → q x ≡ true) → (xs : List X) → length (filter p xs) ≤ length (filter q xs)
-fewer_pass p q passes [] = omega arith
-fewer_pass p q passes (x ∷ xs) =
-    let rest : length (filter p xs) ≤ length (filter q xs) = fewer_pass p q passes xs in
-    ⊎_elim
-    (λ (is : p x ≡ true). rw (is, passes x is) (omega (arith, rest)))
-    (λ (is : p x ≡ false).
-    let more : length (filter p xs) ≤ length (cond (q x) (x ∷ filter q xs) (filter q xs)) =
-    elim (q x) as (λ b. length (filter p xs) ≤ length (cond b (x ∷ filter q xs) (filter q xs))) [ true ↦ omega (arith, rest) | false ↦ rest ] in
-    rw is more)
-    (cases_Bool (p x))
+fewer_pass p q passes xs = grind (arith, length-filter, sum_by-le-sum_by, false≢true)
 
 usable_before : (t : TopologyValue) (g w : ℕ) (link : ℕ × ℕ) → is_usable (narrowed t g w) link ≡ true → is_usable t link ≡ true
 usable_before t g zero link is = (left_usable (group_at t g) t.groups link is).0
@@ -38,11 +29,9 @@ less_left size lost less [] = omega arith
 less_left size lost less (group ∷ groups) =
     let left : List GroupValue = left_of lost groups in
     let rest : sum_by size left ≤ sum_by size groups = less_left size lost less groups in
-    let here : size (without_links lost group) ≤ size group = less group in
-    let whole : sum_by size (group ∷ groups) ≡ size group + sum_by size groups = sum_by-cons size group groups in
-    let kept : sum_by size (without_links lost group ∷ left) ≡ size (without_links lost group) + sum_by size left = sum_by-cons size (without_links lost group) left in
+    let whole = sum_by-cons size group groups in
     elim (has_links (without_links lost group)) as (λ b. sum_by size (cond b (without_links lost group ∷ left) left) ≤ sum_by size (group ∷ groups))
-    [ true ↦ omega (arith, rest, here, whole, kept) | false ↦ omega (arith, rest, whole) ]
+    [ true ↦ omega (arith, rest, less group, whole, sum_by-cons size (without_links lost group) left) | false ↦ omega (arith, rest, whole) ]
 
 less_set : (size : GroupValue → ℕ) (groups : List GroupValue) (g : ℕ) (d y : GroupValue) → size y ≤ size (get_or groups g d) → sum_by size (slice_set groups g y) ≤ sum_by size groups
 less_set size [] g d y less = omega arith
@@ -55,14 +44,8 @@ module _ (chunks steps extra : ℕ) where
       let links : ℕ = length (without_links lost group).links in
       let all : ℕ = length group.links in
       let rounds : ℕ = group.width * (1 + extra) + 1 in
-      let few : links ≤ all = kept (λ link. not (has_link lost link)) group.links in
+      let few : links ≤ all = omega (arith, length-filter (λ link. not (has_link lost link)) group.links, count_by-le-length (λ link. not (has_link lost link)) group.links) in
       mul-le (links * chunks * steps) rounds (all * chunks * steps) rounds (mul-le (links * chunks) steps (all * chunks) steps (mul-le links chunks all chunks few (omega arith)) (omega arith)) (omega arith)
-    where
-      kept : (p : ℕ × ℕ → Bool) (links : List (ℕ × ℕ)) → length (filter p links) ≤ length links
-      kept p [] = omega arith
-      kept p (l ∷ links) =
-          let rest : length (filter p links) ≤ length links = kept p links in
-          elim (p l) as (λ b. length (cond b (l ∷ filter p links) (filter p links)) ≤ length (l ∷ links)) [ true ↦ omega (arith, rest) | false ↦ omega (arith, rest) ]
 
   less_width : (group : GroupValue) (w : ℕ) → w ≤ group.width → group_size chunks steps extra (with_width w group) ≤ group_size chunks steps extra group
   less_width group w less =
@@ -77,20 +60,7 @@ module _ (chunks steps extra : ℕ) where
 -- ---- the search
 
 pub no_larger : (q : QuestionValue) (g w : ℕ) → w ≤ (group_at q.topology g).width → size_of (narrowed_question q g w) ≤ size_of q
-no_larger q g w less =
-    let chunks : ℕ = most_chunks q in
-    let steps : ℕ = q.limits.max_s in
-    let links : ℕ = length (usable_links (narrowed q.topology g w)) in
-    let all : ℕ = length (usable_links q.topology) in
-    let sent : chunks * links * steps ≤ chunks * all * steps = mul-le (chunks * links) steps (chunks * all) steps (mul-le chunks links chunks all (omega arith) (fewer_links q.topology g w)) (omega arith) in
-    let counted : sum_by (group_size chunks steps q.limits.k) (narrowed q.topology g w).groups ≤ sum_by (group_size chunks steps q.limits.k) q.topology.groups = less_groups chunks steps q.limits.k q.topology g w less in
-    omega (arith, sent, counted)
+no_larger q g w less = grind (arith, mul-le, fewer_links, sum_by, less_groups)
 
 pub still_small : (q : QuestionValue) (g w : ℕ) → IsSmallQuestion q → g < length q.topology.groups → w < (group_at q.topology g).width → IsSmallQuestion (narrowed_question q g w)
-still_small q g w small low less = record {
-  topology = narrowed_topology q.topology g w small.topology low less;
-  spec = small.spec;
-  copies = small.copies;
-  limits = small.limits;
-  size = omega (arith, small.size, no_larger q g w (omega (arith, less)));
-}
+still_small q g w small low less = grind (arith, narrowed_topology, no_larger)

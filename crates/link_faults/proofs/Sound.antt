@@ -1,25 +1,18 @@
 -- What a fault leaves is a topology.
-use Rattle.std.proofs.Common.{◌≡◌, ℕ, zero, suc, ◌<◌, ◌≤◌, Bool, true, false, cond, List, [], ◌∷◌, length, refl, sym, ap, subst, ⊎_elim, arith, ◌≢◌, filter, not, slice_set, All}
-use Rattle.std.{specs.List.AllByRecursion, proofs.lemmas.{Bool.{cases_Bool, ltb-true, lt-ltb}, List.{length-set, Kept.AllPairs-filter}}}
+use Rattle.std.proofs.lemmas.Bool.Decides.{nat_tests}
+use Rattle.std.proofs.lemmas.Grind.{common_steps}
+use Rattle.std.proofs.Common.{◌≡◌, ℕ, zero, suc, ◌<◌, ◌≤◌, Bool, true, List, [], ◌∷◌, length, refl, sym, subst, arith, ◌≢◌, filter, not, slice_set, All}
+use Rattle.std.{specs.List.AllByRecursion, proofs.lemmas.{Bool.{ltb-true, lt-ltb}, List.{length-map, length-set, Kept.AllPairs-filter, Sums.{count_by-le-length, length-filter}}}}
 use Rattle.std.proofs.lemmas.List.Elements.{All-filter, All-from_recursion, recursion_from_All}
-use Rattle.schedule.specs.{Links.{GroupValue, TopologyValue, IsBelow, IsGroup, IsLink, IsTopology, has_link}, Judging.group_at}
+use Rattle.schedule.{specs.{Links.{GroupValue, TopologyValue, IsBelow, IsGroup, IsLink, IsTopology, has_link}, Judging.group_at}, proofs.First.{among_each, each_among, filter_among, map_among}}
 use Rattle.link_faults.specs.Narrowed.{with_width, without_links, has_links, left_of, groups_after, narrowed}
 
 pub left_each : (P : GroupValue → Type 0) (lost : GroupValue) → ((group : GroupValue) → P group → has_links (without_links lost group) ≡ true → P (without_links lost group))
     → (groups : List GroupValue) → AllByRecursion P groups → AllByRecursion P (left_of lost groups)
-left_each P lost kept [] each = tt
-left_each P lost kept (group ∷ groups) each =
-    ⊎_elim
-    (λ (some : has_links (without_links lost group) ≡ true). rw some (kept group each.0 some, left_each P lost kept groups each.1))
-    (λ (none : has_links (without_links lost group) ≡ false). rw none (left_each P lost kept groups each.1))
-    (cases_Bool (has_links (without_links lost group)))
+left_each P lost kept groups each = grind (arith, each_among, filter_among, map_among, among_each)
 
 pub left_few : (lost : GroupValue) (groups : List GroupValue) → length (left_of lost groups) ≤ length groups
-left_few lost [] = omega arith
-left_few lost (group ∷ groups) =
-    let rest : length (left_of lost groups) ≤ length groups = left_few lost groups in
-    elim (has_links (without_links lost group)) as (λ b. length (cond b (without_links lost group ∷ left_of lost groups) (left_of lost groups)) ≤ length (group ∷ groups))
-    [ true ↦ omega (arith, rest) | false ↦ omega (arith, rest) ]
+left_few lost groups = grind (arith, length-filter, count_by-le-length, length-map)
 
 pub each_set : {X : Type 0} (P : X → Type 0) (xs : List X) (k : ℕ) (y : X) → P y → AllByRecursion P xs → AllByRecursion P (slice_set xs k y)
 each_set P [] k y new each = tt
@@ -52,25 +45,12 @@ narrowed_topology t g zero ok low less =
       nodes = All-from_recursion nodes_of (left_of lost t.groups)
           (left_each nodes_of lost (λ group is some. All-filter (λ link. not (has_link lost link)) (IsBelow t.nodes) group.links is) t.groups (recursion_from_All nodes_of t.groups ok.nodes));
     }
-narrowed_topology t g (suc w) ok low less =
-    let group = group_at t g in
-    let none : GroupValue = record { links = []; width = 0 } in
-    let nodes_of : GroupValue → Type 0 = λ group. All (IsBelow t.nodes) group.links in
-    let new : GroupValue = with_width (suc w) group in
-    record {
-      some = ok.some;
-      few = ok.few;
-      limit = omega (arith, ok.limit, length-set t.groups g new);
-      groups = All-from_recursion IsGroup (slice_set t.groups g new) (each_set IsGroup t.groups g new (narrower_group group (suc w) (ok.groups g none low) (omega arith) less) (recursion_from_All IsGroup t.groups ok.groups));
-      nodes = All-from_recursion nodes_of (slice_set t.groups g new) (each_set nodes_of t.groups g new (ok.nodes g none low) (recursion_from_All nodes_of t.groups ok.nodes));
-    }
+narrowed_topology t g (suc w) ok low less = grind (arith, nat_tests, common_steps, length-set, All-from_recursion, slice_set, each_set, narrower_group, recursion_from_All)
 
 -- ---- in the words of the code
 
 pub left_with : (lost group : GroupValue) (links : List (ℕ × ℕ)) (width : ℕ) → IsGroup group → links ≡ (without_links lost group).links → width ≡ group.width → 0 < length links → IsGroup (record { links = links; width = width })
-left_with lost group links width ok are is some =
-    subst (λ ls. IsGroup (record { links = ls; width = width })) (sym are) (subst (λ w. IsGroup (record { links = (without_links lost group).links; width = w })) (sym is)
-    (left_group lost group ok (lt-ltb 0 (length (without_links lost group).links) (omega (arith, some, ap length are)))))
+left_with lost group links width ok are is some = grind (arith, left_group, lt-ltb)
 
 pub groups_gone : (t : TopologyValue) (g w : ℕ) → w ≡ 0 → groups_after t g w ≡ left_of (group_at t g) t.groups
 groups_gone t g zero is = refl

@@ -1,9 +1,9 @@
 -- Sums of fewer chunks: the bags of the first chunks are what they were.
 use Rattle.std.proofs.Common.{◌≡◌, ℕ, zero, suc, ◌+◌, ◌-◌, ◌<◌, ◌≤◌, Bool, true, false, eqb, ltb, cond, List, [], ◌∷◌, length, map, refl, sym, ap, ◌∙◌, subst, ⊎_elim, arith, filter, fold, All}
-use Rattle.std.{specs.List.AllByRecursion, proofs.lemmas.{Bool.{and_parts, cases_Bool, lt-ltb}, List.Elements.All-from_recursion}}
+use Rattle.std.proofs.lemmas.{Bool.{and_parts, cases_Bool, lt-ltb}, List.Elements.All-from_recursion}
 use Rattle.schedule.specs.{declared.hop.Hop.Hop, Links.TopologyValue, Placed.{placed, same_pair}, Sends.ScheduleValue}
 use Rattle.schedule.specs.{Bags.{Bag, Bags, added, contributions, one_of_each}, Summing.{arriving, bags_after, goes_to, SummedSolvable}}
-use Rattle.schedule.proofs.Placing.{IsBelow, pair_is}
+use Rattle.schedule.proofs.{First.each_weaker, Placing.{IsBelow, pair_is}}
 use Rattle.link_faults.proofs.Fewer.{with_spare, length_spare, sum_spare, first_sends, cut_down, valid_down, range_down, fits_down, each_fewer}
 
 -- what arrives at a first chunk
@@ -62,11 +62,8 @@ summed_fewer t chunks wide nodes aim steps rounds more_rounds more longer few so
         fits = fits_down t chunks spare s sums.fits;
         sums = subst (λ n. All (λ pair. bags_after (contributions t.nodes) (first_sends chunks s.sends) n pair ≡ one_of_each t.nodes) (placed chunks nodes aim).pairs) (sym same)
             (All-from_recursion (λ pair. bags_after (contributions t.nodes) (first_sends chunks s.sends) (length s.rounds) pair ≡ one_of_each t.nodes) (placed chunks nodes aim).pairs
-            (summed s (placed chunks nodes aim).pairs (each_fewer (λ pair. bags_after (contributions t.nodes) s.sends (length s.rounds) pair ≡ one_of_each t.nodes) chunks wide nodes aim more sums.sums)));
+            (each_weaker (λ pair. IsBelow chunks nodes pair × (bags_after (contributions t.nodes) s.sends (length s.rounds) pair ≡ one_of_each t.nodes)) (λ pair. bags_after (contributions t.nodes) (first_sends chunks s.sends) (length s.rounds) pair ≡ one_of_each t.nodes)
+            (λ pair h. bags_first chunks (contributions t.nodes) s.sends (length s.rounds) pair.0 pair.1 h.0.0 ∙ h.1)
+            (placed chunks nodes aim).pairs (each_fewer (λ pair. bags_after (contributions t.nodes) s.sends (length s.rounds) pair ≡ one_of_each t.nodes) chunks wide nodes aim more sums.sums)));
       };
     }
-  where
-    summed : (s : ScheduleValue) (pairs : List (ℕ × ℕ)) → AllByRecursion (λ pair. IsBelow chunks nodes pair × (bags_after (contributions t.nodes) s.sends (length s.rounds) pair ≡ one_of_each t.nodes)) pairs
-        → AllByRecursion (λ pair. bags_after (contributions t.nodes) (first_sends chunks s.sends) (length s.rounds) pair ≡ one_of_each t.nodes) pairs
-    summed s [] each = tt
-    summed s (pair ∷ pairs) each = (bags_first chunks (contributions t.nodes) s.sends (length s.rounds) pair.0 pair.1 each.0.0.0 ∙ each.0.1, summed s pairs each.1)

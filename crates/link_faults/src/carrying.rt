@@ -16,10 +16,5 @@ pub fn carries(a: Candidate, b: Candidate) -> bool
 pub fn is_carried(old: &[Candidate], candidate: Candidate) -> bool
     ensures { result ≡ is_carried old.now candidate }
 {
-    for one in old {
-        if carries(*one, candidate) {
-            return true;
-        }
-    }
-    false
+    old.iter().any(|one| carries(*one, candidate))
 }

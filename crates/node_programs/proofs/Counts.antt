@@ -1,5 +1,5 @@
 -- How many operations send to each node, counted one after the other.
-use Rattle.std.proofs.Common.{◌≡◌, ℕ, zero, suc, ◌+◌, ◌<◌, ◌≤◌, Bool, false, cond, eqb, List, [], ◌∷◌, ◌++◌, length, map, get_or, take, replicate, inl, inr, refl, sym, ap, ◌∙◌, arith}
+use Rattle.std.proofs.Common.{◌≡◌, ℕ, ◌+◌, ◌<◌, ◌≤◌, List, [], ◌∷◌, ◌++◌, length, map, get_or, take, replicate, sym, ap, ◌∙◌, arith}
 use Rattle.std.{specs.List.range_with_len, proofs.lemmas.{Bool.{cases_lt, eq-eqb}, Simd.map-map}}
 use Rattle.std.proofs.lemmas.List.{length-replicate, length-take, get_or-replicate, get_or_past, take_more}
 use Rattle.std.proofs.lemmas.List.FromFn.{fill_by_all, get_or-map-range_with_len, length-map-range_with_len}
@@ -17,46 +17,24 @@ counts_none nodes = fill_by_all (λ node. 0) (replicate nodes 0) nodes 0 (length
 sends_more : (node : ℕ) (ops : List Op) (op : Op) → sends_to node (ops ++ op ∷ []) ≡ sends_to node ops + sends_to node (op ∷ [])
 sends_more node [] op = omega arith
 sends_more node (Take chunk from step how ∷ ops) op = sends_more node ops op
-sends_more node (Send chunk to step ∷ ops) op = more (eqb to node) (sends_more node ops op)
-  where
-    more : (b : Bool) → sends_to node (ops ++ op ∷ []) ≡ sends_to node ops + sends_to node (op ∷ [])
-        → cond b (sends_to node (ops ++ op ∷ []) + 1) (sends_to node (ops ++ op ∷ [])) ≡ cond b (sends_to node ops + 1) (sends_to node ops) + sends_to node (op ∷ [])
-    more b rest = grind arith
+sends_more node (Send chunk to step ∷ ops) op = grind (arith, sends_more node ops op)
 
 sends_few : (node : ℕ) (ops : List Op) → sends_to node ops ≤ length ops
 sends_few node [] = omega arith
 sends_few node (Take chunk from step how ∷ ops) = omega (arith, sends_few node ops)
-sends_few node (Send chunk to step ∷ ops) = few (eqb to node) (sends_few node ops)
-  where
-    few : (b : Bool) → sends_to node ops ≤ length ops → cond b (sends_to node ops + 1) (sends_to node ops) ≤ suc (length ops)
-    few b rest = grind arith
+sends_few node (Send chunk to step ∷ ops) = grind (arith, sends_few node ops)
 
 count_at : (nodes : ℕ) (ops : List Op) (node : ℕ) → node < nodes → get_or (send_counts nodes ops) node 0 ≡ sends_to node ops
 count_at nodes ops node low = get_or-map-range_with_len (λ k. sends_to k ops) 0 nodes node node 0 low (omega arith)
 
 -- no count is above the number of operations
 pub counts_few : (nodes i : ℕ) (ops : List Op) (node : ℕ) → get_or (send_counts nodes (take i ops)) node 0 ≤ i
-counts_few nodes i ops node =
-    elim (cases_lt node nodes) [
-      | inl low ↦ omega (arith, count_at nodes (take i ops) node low, sends_few node (take i ops), length-take i ops)
-      | inr high ↦ omega (arith, get_or_past (send_counts nodes (take i ops)) node 0 (omega (arith, high, length-map-range_with_len (λ k. sends_to k (take i ops)) 0 nodes)))
-    ]
+counts_few nodes i ops node = grind (arith, cases_lt, count_at, sends_few, length-take, get_or_past, length-map-range_with_len)
 
 counts_pushed : (nodes : ℕ) (ops : List Op) (op : Op) → with_send (send_counts nodes ops) op ≡ send_counts nodes (ops ++ op ∷ [])
 counts_pushed nodes ops (Take chunk from step how) =
     map_alike (λ node. sends_to node ops) (λ node. sends_to node (ops ++ Take chunk from step how ∷ [])) (λ node. omega (arith, sends_more node ops (Take chunk from step how))) (range_with_len 0 nodes)
-counts_pushed nodes ops (Send chunk to step) =
-    set_each nodes to (λ node. sends_to node ops) (λ node. sends_to node (ops ++ Send chunk to step ∷ [])) 0 elsewhere (get_or (send_counts nodes ops) to 0 + 1) here
-  where
-    elsewhere : (k : ℕ) → eqb k to ≡ false → sends_to k ops ≡ sends_to k (ops ++ Send chunk to step ∷ [])
-    elsewhere k apart =
-        let none : sends_to k (Send chunk to step ∷ []) ≡ 0 = ap (λ b. cond b 1 zero) (flipped k to apart) in
-        omega (arith, sends_more k ops (Send chunk to step), none)
-
-    here : to < nodes → get_or (send_counts nodes ops) to 0 + 1 ≡ sends_to to (ops ++ Send chunk to step ∷ [])
-    here low =
-        let one : sends_to to (Send chunk to step ∷ []) ≡ 1 = ap (λ b. cond b 1 zero) (eq-eqb to to refl) in
-        omega (arith, count_at nodes ops to low, sends_more to ops (Send chunk to step), one)
+counts_pushed nodes ops (Send chunk to step) = grind (arith, set_each, flipped, sends_more, eq-eqb, count_at)
 
 -- one operation more is counted
 pub counts_more : (nodes i : ℕ) (ops : List Op) (d : Op) (old new : List ℕ) → i < length ops → old ≡ send_counts nodes (take i ops) → new ≡ with_send old (get_or ops i d) → new ≡ send_counts nodes (take (i + 1) ops)

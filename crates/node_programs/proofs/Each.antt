@@ -9,11 +9,7 @@ each_front P [] ys each = tt
 each_front P (x ∷ xs) ys each = (each.0, each_front P xs ys each.1)
 
 pub flipped : (a b : ℕ) → eqb a b ≡ false → eqb b a ≡ false
-flipped a b apart =
-    ⊎_elim
-    (λ (same : b ≡ a). absurd (differ a b apart (sym same)))
-    (λ (is : eqb b a ≡ false). is)
-    (same_or_not b a)
+flipped a b apart = grind (arith, ⊎_elim, differ, same_or_not)
 
 module _ {X : Type 0} (n v : ℕ) (f g : ℕ → X) (d : X) (other : (k : ℕ) → eqb k v ≡ false → f k ≡ g k) where
   at_other : (k : ℕ) → k < n → eqb k v ≡ false → get_or (map f (range_with_len 0 n)) k d ≡ g k

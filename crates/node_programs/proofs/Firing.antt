@@ -1,9 +1,9 @@
 -- The machine as it is kept: what an event makes of it, and that it stays right.
-use Rattle.std.proofs.Common.{◌≡◌, ℕ, zero, suc, ◌+◌, ◌*◌, ◌<◌, ◌≤◌, Bool, false, cond, eqb, List, [], ◌∷◌, ◌++◌, length, map, get_or, set, drop, Some, None, inl, inr, refl, sym, ap, subst, ◌∙◌, arith, get_or-set_same, get_or-set_other, option_and_then, slice_get}
+use Rattle.std.proofs.Common.{◌≡◌, ℕ, zero, suc, ◌+◌, ◌*◌, ◌<◌, ◌≤◌, false, cond, eqb, List, [], ◌∷◌, length, map, get_or, set, drop, Some, inl, inr, refl, sym, ap, subst, ◌∙◌, arith, get_or-set_same, get_or-set_other, option_and_then, slice_get}
 use Rattle.std.{specs.{Prelude.unwrap_or, List.AllByRecursion}, proofs.lemmas.{Bool.{and_from, eq-eqb}, List.{get_or-map, length-set, map-append, map-set}}}
 use Rattle.std.proofs.lemmas.Nat.{mul-add-lt}
 use Rattle.node_programs.specs.{declared.{op.Op.{Op, TheVariants.{Send, Take}}, message.Message.Message as Parcel}, Below.IsOpBelow}
-use Rattle.node_programs.specs.Machines.{Message, State, event, after_op}
+use Rattle.node_programs.specs.Machines.{Message, State, event}
 use Rattle.node_programs.proofs.Events.{after_take, taken}
 use Rattle.node_programs.specs.Queues.{IsMachine, QueueValue, message_in, messages_in, no_queue, queue_of, sends_to, with_message, without_first}
 use Rattle.bag_runs.specs.{declared.mode.Mode.Mode, Stores.{StoreValue, bag_in, received, with_bag}, Kept.counted}
@@ -34,12 +34,7 @@ module _ {X : Type 0} (P : X → Type 0) where
 
 sends_head : (ops : List Op) (chunk to step other : ℕ) → slice_get ops 0 ≡ Some (Send chunk to step) → sends_to other ops ≡ sends_to other (drop 1 ops) + cond (eqb to other) 1 zero
 sends_head [] chunk to step other is = absurd cc
-sends_head (op ∷ ops) chunk to step other is =
-    let same : op ≡ Send chunk to step = cc in
-    ap (λ o. sends_to other (o ∷ ops)) same ∙ counted_if (eqb to other)
-  where
-    counted_if : (b : Bool) → cond b (sends_to other ops + 1) (sends_to other ops) ≡ sends_to other ops + cond b 1 zero
-    counted_if b = grind arith
+sends_head (op ∷ ops) chunk to step other is = grind arith
 
 takes_head : (ops : List Op) (chunk from step : ℕ) (how : Mode) (other : ℕ) → slice_get ops 0 ≡ Some (Take chunk from step how) → sends_to other ops ≡ sends_to other (drop 1 ops)
 takes_head [] chunk from step how other is = absurd cc
@@ -55,10 +50,7 @@ module _ (chunks nodes : ℕ) (programs : List (List Op)) (queues : List QueueVa
   next_below node op is = head_each (IsOpBelow chunks nodes) (get_or programs node []) op (each_at (IsOpBelow chunks nodes) programs node kept.in_range) is
 
   pub room_for : (node chunk to step : ℕ) → node < nodes → slice_get (get_or programs node []) 0 ≡ Some (Send chunk to step) → 0 < (queue_of queues nodes node to).room
-  room_for node chunk to step inside is =
-      let below = next_below node (Send chunk to step) is in
-      let counts : cond (eqb to to) 1 zero ≡ 1 = ap (λ b. cond b 1 zero) (eq-eqb to to refl) in
-      omega (arith, kept.room node to inside below.1, sends_head (get_or programs node []) chunk to step to is, counts)
+  room_for node chunk to step inside is = grind (arith, next_below node (Send chunk to step) is, ap (λ b. cond b 1 zero) (eq-eqb to to refl), sends_head)
 
   module _ (node : ℕ) (inside : node < nodes) where
     abbrev ops : List Op
@@ -75,11 +67,7 @@ module _ (chunks nodes : ℕ) (programs : List (List Op)) (queues : List QueueVa
     left_beside u apart = get_or-set_other programs node u (drop 1 ops) [] (differ u node apart)
 
     fewer : ((v : ℕ) → sends_to v (drop 1 ops) ≤ sends_to v ops) → (u v : ℕ) → sends_to v (get_or moved u []) ≤ sends_to v (get_or programs u [])
-    fewer less u v =
-        elim (same_or_not u node) [
-          | inl same ↦ omega (arith, ap (λ k. sends_to v (get_or moved k [])) same ∙ ap (sends_to v) left_here, ap (λ k. sends_to v (get_or programs k [])) same, less v)
-          | inr apart ↦ omega (arith, ap (sends_to v) (left_beside u apart))
-        ]
+    fewer less u v = grind (arith, same_or_not, left_here, left_beside)
 
     -- one queue changed, with room for what is still sent through it
     kept_event : (from to : ℕ) (q : QueueValue) → from < nodes → to < nodes → ((v : ℕ) → sends_to v (drop 1 ops) ≤ sends_to v ops) → sends_to to (get_or moved from []) ≤ q.room
@@ -142,17 +130,7 @@ module _ (programs : List (List Op)) (store : StoreValue) (queues : List QueueVa
   pub state_sent : (chunk to step : ℕ) (bag : List ℕ) (left : List (List Op)) (new : List QueueValue) → node * store.nodes + to < length queues → left ≡ set programs node (drop 1 (get_or programs node []))
       → new ≡ set queues (node * store.nodes + to) (with_message (get_or queues (node * store.nodes + to) no_queue) (record { chunk = chunk; step = step; bag = bag }))
       → counted store.nodes bag ≡ bag_in store chunk node → slice_get (get_or programs node []) 0 ≡ Some (Send chunk to step) → event s node ≡ Some (state_of left store new)
-  state_sent chunk to step bag left new inside is_left is_new is_bag next =
-      let place : ℕ = node * store.nodes + to in
-      let m : Parcel = record { chunk = chunk; step = step; bag = bag } in
-      let message : List ℕ → Message = λ b. record { chunk = chunk; step = step; bag = b } in
-      ap (option_and_then (after_op s node)) next ∙ ap (λ (x : State). Some x) (sym (same_state left (set programs node (drop 1 (get_or programs node []))) store (map (messages_in store.nodes) new) _ is_left
-      (ap (map (messages_in store.nodes)) is_new
-      ∙ map-set (messages_in store.nodes) queues place (with_message (get_or queues place no_queue) m)
-      ∙ ap (set (map (messages_in store.nodes) queues) place)
-      (map-append (message_in store.nodes) (get_or queues place no_queue).messages (m ∷ [])
-      ∙ ap (λ b. messages_in store.nodes (get_or queues place no_queue) ++ message b ∷ []) is_bag
-      ∙ ap (λ ms. ms ++ message (bag_in store chunk node) ∷ []) (sym (queue_at store.nodes queues place inside))))))
+  state_sent chunk to step bag left new inside is_left is_new is_bag next = grind (arith, option_and_then, same_state, map-set, map-append, queue_at)
 
   module _ (chunk from step : ℕ) (how : Mode) (bag : List ℕ) (inside : from * store.nodes + node < length queues) where
     abbrev place : ℕ
@@ -164,17 +142,11 @@ module _ (programs : List (List Op)) (store : StoreValue) (queues : List QueueVa
     state_got : (left : List (List Op)) (kept : StoreValue) (new : List QueueValue) → left ≡ set programs node (drop 1 (get_or programs node []))
         → kept ≡ with_bag store chunk node (received how (bag_in store chunk node) (counted store.nodes bag))
         → new ≡ set queues place (without_first (get_or queues place no_queue)) → state_of left kept new ≡ after
-    state_got left kept new is_left is_kept is_new =
-        ap (λ x. state_of left x new) is_kept
-        ∙ same_state left (set programs node (drop 1 (get_or programs node []))) (with_bag store chunk node (received how (bag_in store chunk node) (counted store.nodes bag))) (map (messages_in store.nodes) new) _ is_left
-        (ap (map (messages_in store.nodes)) is_new ∙ map-set (messages_in store.nodes) queues place (without_first (get_or queues place no_queue)))
+    state_got left kept new is_left is_kept is_new = grind (arith, same_state, map-set)
 
     event_got : slice_get (get_or programs node []) 0 ≡ Some (Take chunk from step how) → slice_get (get_or queues place no_queue).messages 0 ≡ Some (record { chunk = chunk; step = step; bag = bag })
         → event s node ≡ Some after
-    event_got next head =
-        ap (option_and_then (after_op s node)) next
-        ∙ ap (taken s node chunk from step how) (queue_at store.nodes queues place inside ∙ head_mapped store.nodes (get_or queues place no_queue).messages (record { chunk = chunk; step = step; bag = bag }) head)
-        ∙ ap (λ b. cond b (Some after) None) (and_from _ _ (eq-eqb chunk chunk refl) (eq-eqb step step refl))
+    event_got next head = grind (arith, option_and_then, taken, queue_at, head_mapped, and_from, eq-eqb)
 
     pub state_taken : (left : List (List Op)) (kept : StoreValue) (new : List QueueValue) → slice_get (get_or programs node []) 0 ≡ Some (Take chunk from step how)
         → slice_get (get_or queues place no_queue).messages 0 ≡ Some (record { chunk = chunk; step = step; bag = bag })

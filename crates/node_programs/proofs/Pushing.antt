@@ -1,7 +1,7 @@
 -- Operations pushed behind those of a node, and how the programs of a schedule come about step by step.
-use Rattle.std.proofs.Common.{◌≡◌, ℕ, ◌+◌, ◌<◌, ◌≤◌, Bool, true, false, ◌&&◌, cond, eqb, List, [], ◌∷◌, ◌++◌, length, map, get_or, set, take, refl, sym, ap, ◌∙◌, subst, append_assoc, arith, filter}
+use Rattle.std.proofs.Common.{◌≡◌, ℕ, ◌+◌, ◌<◌, ◌≤◌, Bool, true, false, cond, eqb, List, [], ◌∷◌, ◌++◌, length, map, get_or, set, take, refl, sym, ap, ◌∙◌, subst, append_assoc, arith, filter}
 use Rattle.std.{specs.List.{flat_map, range_with_len}, proofs.lemmas.{Bool.eq-eqb, List.{append-nil, map-append, take_all}}}
-use Rattle.std.proofs.lemmas.List.{Elements.filter_more, FromFn.{get_or-map-range_with_len}}
+use Rattle.std.proofs.lemmas.List.{Elements.filter_more, FromFn.get_or-map-range_with_len}
 use Rattle.list_laws.proofs.Ranges.{flat_map-range_more}
 use Rattle.schedule.specs.{declared.hop.Hop.Hop, Sends.ScheduleValue}
 use Rattle.node_programs.{specs.{declared.op.Op.Op, Programs.ops_at}, proofs.Each.{flipped, set_each}}
@@ -18,11 +18,7 @@ for_node v node op = cond (eqb v node) (op ∷ []) []
 
 -- one operation pushed behind those of a node
 pushed : (nodes v : ℕ) (begun : ℕ → List Op) (op : Op) → set (each nodes begun) v (get_or (each nodes begun) v [] ++ op ∷ []) ≡ each nodes (λ node. begun node ++ for_node v node op)
-pushed nodes v begun op =
-    set_each nodes v begun (λ node. begun node ++ for_node v node op) []
-    (λ k apart. sym (ap (λ b. begun k ++ cond b (op ∷ []) []) (flipped k v apart) ∙ append-nil (begun k)))
-    (get_or (each nodes begun) v [] ++ op ∷ [])
-    (λ inside. ap (λ ops. ops ++ op ∷ []) (get_or-map-range_with_len begun 0 nodes v v [] inside (omega arith)) ∙ ap (λ b. begun v ++ cond b (op ∷ []) []) (sym (eq-eqb v v refl)))
+pushed nodes v begun op = grind (arith, set_each, flipped, append-nil, get_or-map-range_with_len, eq-eqb)
 
 -- ---- an operation for each of a step's sends
 
@@ -52,15 +48,7 @@ module _ (op_of : Hop → Op) (node_of : Hop → ℕ) where
 
   pub pushed_more : (old now new : List (List Op)) (hops : List Hop) (i : ℕ) (d : Hop) → Pushed old now (take i hops) → i < length hops
       → new ≡ set now (node_of (get_or hops i d)) (get_or now (node_of (get_or hops i d)) [] ++ op_of (get_or hops i d) ∷ []) → Pushed old new (take (i + 1) hops)
-  pushed_more old now new hops i d so_far inside more nodes begun from =
-      let h : Hop = get_or hops i d in
-      let then : ℕ → List Op = λ node. begun node ++ among (take i hops) node in
-      more
-      ∙ ap (λ ps. set ps (node_of h) (get_or ps (node_of h) [] ++ op_of h ∷ [])) (so_far nodes begun from)
-      ∙ pushed nodes (node_of h) then (op_of h)
-      ∙ map_alike (λ node. then node ++ for_node (node_of h) node (op_of h)) (λ node. begun node ++ among (take (i + 1) hops) node)
-      (λ node. append_assoc (begun node) (among (take i hops) node) (for_node (node_of h) node (op_of h)) ∙ ap (λ ops. begun node ++ ops) (sym (among_more hops i node d inside)))
-      (range_with_len 0 nodes)
+  pushed_more old now new hops i d so_far inside more nodes begun from = grind (arith, pushed, map_alike, append_assoc, among_more)
 
   pub pushed_all : (old new : List (List Op)) (hops : List Hop) (i : ℕ) → Pushed old new (take i hops) → length hops ≤ i → Pushed old new hops
   pushed_all old new hops i so_far past = let P : List Hop → Type 0 = λ hs. Pushed old new hs in subst P (take_all i hops past) so_far
@@ -80,16 +68,4 @@ StepPushed adding old new hops = (nodes : ℕ) (begun : ℕ → List Op) → old
 
 pub step_pushed : (s : ScheduleValue) (adding n nodes : ℕ) (hops : List Hop) (now next : List (List Op)) → hops ≡ filter (λ h. eqb h.step (n + 1)) s.sends
     → now ≡ each nodes (first_steps s adding n) → StepPushed adding now next hops → next ≡ each nodes (first_steps s adding (n + 1))
-step_pushed s adding n nodes hops now next is so_far pushed_both =
-    pushed_both nodes (first_steps s adding n) so_far
-    ∙ map_alike (λ node. (first_steps s adding n node ++ among send_of (λ h. h.from) hops node) ++ among (take_of adding) (λ h. h.to) hops node) (first_steps s adding (n + 1)) at (range_with_len 0 nodes)
-  where
-    of_step : (p : Hop → Bool) → filter p hops ≡ filter (λ h. eqb h.step (n + 1) && p h) s.sends
-    of_step p = ap (filter p) is ∙ filter_both (λ h. eqb h.step (n + 1)) p (λ h. eqb h.step (n + 1) && p h) (λ h. refl) s.sends
-
-    at : (node : ℕ) → (first_steps s adding n node ++ among send_of (λ h. h.from) hops node) ++ among (take_of adding) (λ h. h.to) hops node ≡ first_steps s adding (n + 1) node
-    at node =
-        append_assoc (first_steps s adding n node) (among send_of (λ h. h.from) hops node) (among (take_of adding) (λ h. h.to) hops node)
-        ∙ ap (λ hs. first_steps s adding n node ++ (map send_of hs ++ among (take_of adding) (λ h. h.to) hops node)) (of_step (λ h. eqb h.from node))
-        ∙ ap (λ hs. first_steps s adding n node ++ (map send_of (filter (λ h. eqb h.step (n + 1) && eqb h.from node) s.sends) ++ map (take_of adding) hs)) (of_step (λ h. eqb h.to node))
-        ∙ sym (steps_more s adding n node)
+step_pushed s adding n nodes hops now next is so_far pushed_both = grind (arith, map_alike, filter_both, append_assoc, steps_more)

@@ -1,7 +1,8 @@
 -- What the costs of candidates say of one another.
-use Rattle.std.proofs.Common.{◌≡◌, ◌*◌, ◌-◌, ◌<◌, ◌≤◌, inl, inr, ℕ, List, length, map, subst, ap, sym, ◌∙◌, refl, arith, All, AllPairs, Any, slice_index_or}
-use Rattle.std.proofs.lemmas.{Bool.cases_order, List.{get_or-map, get_or_default, length-map, Elements.All-map}}
-use Rattle.std.proofs.lemmas.Option.{slice_get_within, slice_get-get_or, get_or_from_slice_get}
+use Rattle.std.proofs.Common.{◌≡◌, ◌*◌, ◌-◌, ◌<◌, ◌≤◌, inl, inr, ℕ, List, [], ◌∷◌, length, map, subst, sym, refl, arith, All, AllPairs, Any, Contains, slice_index_or}
+use Rattle.std.proofs.lemmas.{Bool.cases_order, List.{get_or-map, length-map}, Option.{slice_get_within, slice_get-get_or, get_or_from_slice_get}}
+use Rattle.list_laws.proofs.Members.{Contains-map}
+use Rattle.schedule.proofs.First.{Among-from_Contains, Contains-from_Among, map_among}
 use Rattle.candidate_order.specs.{declared.{candidate.Candidate.Candidate, mark.Mark.TheVariants.{Optimal, Open}}, Costs.{NoWorse, Better, Before}}
 use Rattle.candidate_order.specs.Frontiers.{QuestionValue, PointValue, UnknownValue, IsWithin}
 use Rattle.candidate_order.proofs.{Costing.{cost_upto, cost_below_right}, Orders.{Before-trans, has_chunk, Before-irrefl}}
@@ -42,39 +43,37 @@ last_no_worse xs i j x d falls some steps upto below h =
     ]
 
 -- where costs fall and no point has more steps, the last is no worse where any is
-pub settled_by_last : (points : List PointValue) (x : Candidate) → CostsFall (map (λ p. p.candidate) points) → All (λ y. 1 ≤ y.c) (map (λ p. p.candidate) points) → All (λ y. y.s ≤ x.s) (map (λ p. p.candidate) points) → (LastSettles points x → Any (λ p. NoWorse p.candidate x) points) × (Any (λ p. NoWorse p.candidate x) points → LastSettles points x)
-settled_by_last points x falls some steps =
-    let xs = map (λ (p : PointValue). p.candidate) points in
-    let last = length points - 1 in (
-      λ h. (last, h.0, slice_get_within points last h.0 h.1, get_or_from_slice_get points last h.0 h.0 h.1, h.2),
-      λ h. (
-          let below : last < length points = omega (arith, h.2) in
-          let p = slice_index_or points last h.1 in
-          let here : slice_index_or xs h.0 x ≡ h.1.candidate = get_or-map (λ (p : PointValue). p.candidate) points h.0 h.1 x h.2 ∙ ap (λ (p : PointValue). p.candidate) h.3 in
-          let there : slice_index_or xs last x ≡ p.candidate = get_or-map (λ (p : PointValue). p.candidate) points last h.1 x below in
-          let size : length xs ≡ length points = length-map points (λ (p : PointValue). p.candidate) in
-          let no_worse = last_no_worse xs h.0 last x x falls some steps (omega (arith, h.2)) (omega arith) (subst (λ y. NoWorse y x) (sym here) h.4) in
-          (p, slice_get-get_or points last h.1 below, subst (λ y. NoWorse y x) there no_worse)
-          ),
-    )
+pub no_worse_last : (points : List PointValue) (x y : Candidate) → CostsFall (map (λ p. p.candidate) points) → All (λ z. 1 ≤ z.c) (map (λ p. p.candidate) points) → All (λ z. z.s ≤ x.s) (map (λ p. p.candidate) points) → Contains (map (λ p. p.candidate) points) y → NoWorse y x → LastSettles points x
+no_worse_last [] x y falls some steps (i, below, at) h = absurd (omega arith)
+no_worse_last (first ∷ rest) x y falls some steps (i, below, at) h =
+    let points = first ∷ rest in
+    let last = length points - 1 in
+    let inside : last < length points = omega arith in
+    let p = slice_index_or points last first in
+    let size : length (map (λ (p : PointValue). p.candidate) points) ≡ length points = length-map points (λ (p : PointValue). p.candidate) in
+    let there : slice_index_or (map (λ (p : PointValue). p.candidate) points) last y ≡ p.candidate = get_or-map (λ (p : PointValue). p.candidate) points last first y inside in
+    let no_worse = last_no_worse (map (λ (p : PointValue). p.candidate) points) i last x y falls some steps (omega (arith, below, size)) (omega (arith, size)) (subst (λ z. NoWorse z x) (sym at) h) in
+    (p, slice_get-get_or points last first inside, subst (λ z. NoWorse z x) there no_worse)
+
+pub last_there : (points : List PointValue) (x : Candidate) → LastSettles points x → (p : Candidate) × Contains (map (λ p. p.candidate) points) p × NoWorse p x
+last_there points x (p, at, h) =
+    let last = length points - 1 in
+    (p.candidate, Contains-map (λ (p : PointValue). p.candidate) points p (last, slice_get_within points last p at, get_or_from_slice_get points last p p at), h)
 
 -- no candidate that was given up is better, or some is
-unrivalled : (us : List UnknownValue) (x : Candidate) → (Any (λ u. Better u.candidate x) us → ⊥) → IsUnrivalled (map (λ u. u.candidate) us) x
-unrivalled us x none =
-    All-map (λ u. Better u x → ⊥) (λ u. u.candidate) us (λ k d below h. none (k, slice_index_or us k d, below, get_or_default us k (slice_index_or us k d) d below, h))
-
-rivalled : (us : List UnknownValue) (x : Candidate) → Any (λ u. Better u.candidate x) us → IsUnrivalled (map (λ u. u.candidate) us) x → ⊥
-rivalled us x some none =
-    let u = some.1 in
-    let at = get_or-map (λ (u : UnknownValue). u.candidate) us some.0 u x some.2 ∙ ap (λ (u : UnknownValue). u.candidate) some.3 in
-    none some.0 x (omega (arith, some.2, length-map us (λ (u : UnknownValue). u.candidate))) (subst (λ y. Better y x) (sym at) some.4)
-
 pub marked_optimal : (us : List UnknownValue) (x : Candidate) → (Any (λ u. Better u.candidate x) us → ⊥) → IsMark (map (λ u. u.candidate) us) x Optimal
-marked_optimal us x none = record { optimal = (λ _. unrivalled us x none, λ _. refl); or_open = inl refl }
+marked_optimal us x none = record { optimal = (λ _. unrivalled, λ _. refl); or_open = inl refl } where
+  unrivalled : IsUnrivalled (map (λ u. u.candidate) us) x
+  unrivalled y at better =
+      let (u, among, is) = map_among (λ (u : UnknownValue). u.candidate) y us (Among-from_Contains y (map (λ u. u.candidate) us) at) in
+      let (k, below, there) = Contains-from_Among u us among in
+      none (k, u, below, there, subst (λ z. Better z x) (sym is) better)
 
 pub marked_open : (us : List UnknownValue) (x : Candidate) → Any (λ u. Better u.candidate x) us → IsMark (map (λ u. u.candidate) us) x Open
-marked_open us x some =
-    record { optimal = (λ same. absurd cc, λ none. absurd (rivalled us x some none)); or_open = inr refl }
+marked_open us x (k, u, below, there, better) = record {
+  optimal = (λ same. absurd cc, λ none. absurd (none u.candidate (Contains-map (λ (u : UnknownValue). u.candidate) us u (k, below, there)) better));
+  or_open = inr refl;
+}
 
 pub better_first : (x y : Candidate) → Better x y → Before x y
 better_first x y (h, inl fewer) = inl fewer

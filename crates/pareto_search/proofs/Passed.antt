@@ -1,65 +1,56 @@
--- One candidate more is passed.
-use Rattle.std.proofs.{Common.{◌≡◌, inl, inr, Some, List, [], ◌∷◌, ◌++◌, subst, ap, sym, refl, All, Contains, ◌↔◌}, lemmas.List.Quantifiers.all_pairs_push}
-use Rattle.std.proofs.lemmas.List.Elements.{All-push, All-pop, All-weaker, Contains-append_left, Contains-push, Contains-push_cases}
-use Rattle.candidate_order.specs.{declared.{candidate.Candidate.Candidate, mark.Mark.Mark}, Costs.{NoWorse, Better, Before}}
-use Rattle.candidate_order.specs.Frontiers.{QuestionValue, IsWithin}
+-- One candidate more is in the record.
+use Rattle.std.proofs.Common.{◌≡◌, ◌⊎◌, inl, inr, ⊎_elim, refl, List, [], ◌∷◌, ◌++◌, subst, ap, sym, Contains}
+use Rattle.std.proofs.lemmas.List.Elements.{Contains-append_left, Contains-push, Contains-push_cases}
+use Rattle.candidate_order.specs.{declared.{candidate.Candidate.Candidate, mark.Mark.Mark}, Costs.{Better, Before}, Frontiers.{QuestionValue, IsWithin}}
 use Rattle.candidate_order.proofs.Orders.{Before-irrefl}
-use Rattle.engine_rules.specs.{declared.settled.Settled.Settled, Outcomes.RecordValue}
-use Rattle.pareto_search.{specs.inner.Passing.{IsBefore, IsUpTo, IsSettled, IsMark}, proofs.{Costs.{Before-asym, better_first}, Records.Ascends}}
-
--- no point before the candidate is no worse
-abbrev pub Worth : List Candidate → Candidate → Type 0
-Worth points x = All (λ p. Before p x → NoWorse p x → ⊥) points
+use Rattle.engine_rules.specs.{declared.settled.Settled.{Settled, TheVariants.Solved}, Outcomes.RecordValue}
+use Rattle.pareto_search.{specs.inner.Passing.{IsBefore, IsUpTo, IsWorth, IsJudged, IsMark}, proofs.Costs.{Before-asym, better_first}}
 
 module _ (q : QuestionValue) (here : Candidate) (within : IsWithin q here) where
-  never_twice : (x : Candidate) → IsBefore q here x → x ≡ here → ⊥
-  never_twice x before same = Before-irrefl here (subst (λ y. Before y here) same before.1)
+  -- what is passed does not come after the candidate
+  not_after : (x : Candidate) → IsUpTo q here x → Before here x → ⊥
+  not_after x (inl before) after = Before-asym q x here before.0 within before.1 after
+  not_after x (inr same) after = Before-irrefl here (subst (Before here) same after)
 
-  -- a point that comes later counts for none that came before
-  worth_more : (points : List Candidate) (x : Candidate) → IsUpTo q here x → Worth points x → Worth (points ++ here ∷ []) x
-  worth_more points x (inl before) worth =
-      All-push (λ p. Before p x → NoWorse p x → ⊥) points here worth (λ after _. Before-asym q x here before.0 within before.1 after)
-  worth_more points x (inr same) worth =
-      All-push (λ p. Before p x → NoWorse p x → ⊥) points here worth (λ after _. Before-irrefl here (subst (λ y. Before here y) same after))
+  module _ (entries : RecordValue) (kind : Settled) where
+    stays : (e : Candidate × Settled) → Contains entries e → Contains (entries ++ (here, kind) ∷ []) e
+    stays e at = Contains-append_left entries ((here, kind) ∷ []) e at
 
-  worth_fewer : (points : List Candidate) (x : Candidate) → Worth (points ++ here ∷ []) x → Worth points x
-  worth_fewer points x worth =
-      (All-pop (λ p. Before p x → NoWorse p x → ⊥) (points ++ here ∷ []) points (Some here) refl worth).0
+    was_or_is : (x : Candidate) (k : Settled) → Contains (entries ++ (here, kind) ∷ []) (x, k) → Contains entries (x, k) ⊎ (here ≡ x)
+    was_or_is x k at =
+        ⊎_elim inl (λ same. inr (ap (λ (e : Candidate × Settled). e.0) same)) (Contains-push_cases entries (here, kind) (x, k) at)
 
-  -- the candidate is settled, since no point is no worse
-  pub tried_more : (entries : RecordValue) (points : List Candidate) (kind : Settled) → Worth points here → ((x : Candidate) → IsBefore q here x → IsSettled entries x ↔ Worth points x) → (x : Candidate) → IsUpTo q here x → IsSettled (entries ++ (here, kind) ∷ []) x ↔ Worth points x
-  tried_more entries points kind worth tried x (inl before) = (
-    λ h. elim (Contains-push_cases entries (here, kind) (x, h.0) h.1) [
-      | inl was ↦ (tried x before).0 (h.0, was)
-      | inr same ↦ absurd (never_twice x before (ap (λ (e : Candidate × Settled). e.0) (sym same)))
-    ],
-    λ w. let was = (tried x before).1 w in (was.0, Contains-append_left entries ((here, kind) ∷ []) (x, was.0) was.1),
-  )
-  tried_more entries points kind worth tried x (inr same) = (
-    λ _. subst (Worth points) (sym same) worth,
-    λ _. (kind, subst (λ y. Contains (entries ++ (here, kind) ∷ []) (y, kind)) (sym same) (Contains-push entries (here, kind))),
-  )
+    worth_more : (x : Candidate) → IsUpTo q here x → IsWorth entries x → IsWorth (entries ++ (here, kind) ∷ []) x
+    worth_more x upto worth p at before h = ⊎_elim
+        (λ was. worth p was before h)
+        (λ (same : here ≡ p). not_after x upto (subst (λ y. Before y x) (sym same) before))
+        (was_or_is p Solved at)
 
-  -- and is a point
-  pub tried_point : (entries : RecordValue) (points : List Candidate) (kind : Settled) → Worth points here → ((x : Candidate) → IsBefore q here x → IsSettled entries x ↔ Worth points x) → (x : Candidate) → IsUpTo q here x → IsSettled (entries ++ (here, kind) ∷ []) x ↔ Worth (points ++ here ∷ []) x
-  tried_point entries points kind worth tried x upto =
-      let more = tried_more entries points kind worth tried x upto in
-      (λ h. worth_more points x upto (more.0 h), λ w. more.1 (worth_fewer points x w))
-
-  pub ascends_more : (entries : RecordValue) (kind : Settled) → Ascends entries → All (λ e. IsBefore q here e.0) entries → Ascends (entries ++ (here, kind) ∷ [])
-  ascends_more entries kind up before =
-      all_pairs_push (λ a b. Before a.0 b.0) entries (here, kind) up (λ k d below. (before k d below).1)
-
-  pub passed_more : (entries : RecordValue) (kind : Settled) → All (λ e. IsBefore q here e.0) entries → All (λ e. IsUpTo q here e.0) (entries ++ (here, kind) ∷ [])
-  passed_more entries kind before =
-      All-push (λ e. IsUpTo q here e.0) entries (here, kind) (All-weaker (λ e. IsBefore q here e.0) (λ e. IsUpTo q here e.0) (λ e h. inl h) entries before) (inr refl)
+    -- the candidate is settled, since no point is no worse
+    pub judged_more : IsWorth entries here → ((x : Candidate) → IsBefore q here x → IsJudged entries x) → (x : Candidate) → IsUpTo q here x → IsJudged (entries ++ (here, kind) ∷ []) x
+    judged_more worth judged x (inr same) =
+        subst (IsJudged (entries ++ (here, kind) ∷ [])) (sym same) (inl ((kind, Contains-push entries (here, kind)), worth_more here (inr refl) worth))
+    judged_more worth judged x (inl before) = by_cases (judged x before)
+      where
+        by_cases : IsJudged entries x → IsJudged (entries ++ (here, kind) ∷ []) x
+        by_cases (inl ((k, at), still)) = inl ((k, stays (x, k) at), worth_more x (inl before) still)
+        by_cases (inr (never, (p, at, first, h))) = inr (
+          λ settled. ⊎_elim
+              (λ was. never (settled.0, was))
+              (λ (same : here ≡ x). Before-irrefl here (subst (λ y. Before y here) (sym same) before.1))
+              (was_or_is x settled.0 settled.1),
+          (p, stays (p, Solved) at, first, h),
+        )
 
   -- a candidate that is given up is no better than the points before it
   pub mark_stays : (unknown : List Candidate) (x : Candidate) (mark : Mark) → IsBefore q here x → IsMark unknown x mark → IsMark (unknown ++ here ∷ []) x mark
   mark_stays unknown x mark before is = record {
     optimal = (
-      λ e. All-push (λ u. Better u x → ⊥) unknown here (is.optimal.0 e) (λ better. Before-asym q x here before.0 within before.1 (better_first here x better)),
-      λ none. is.optimal.1 (All-pop (λ u. Better u x → ⊥) (unknown ++ here ∷ []) unknown (Some here) refl none).0,
+      λ e u at better. ⊎_elim
+          (λ was. is.optimal.0 e u was better)
+          (λ (same : here ≡ u). not_after x (inl before) (better_first here x (subst (λ y. Better y x) (sym same) better)))
+          (Contains-push_cases unknown here u at),
+      λ none. is.optimal.1 (λ u at. none u (Contains-append_left unknown (here ∷ []) u at)),
     );
     or_open = is.or_open;
   }

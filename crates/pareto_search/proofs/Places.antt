@@ -1,7 +1,6 @@
 -- The places in the list of a step's candidates, and what comes before them.
-use Rattle.std.proofs.Common.{◌≡◌, ◌+◌, ◌<◌, ◌≤◌, ℕ, inl, inr, Option, None, List, [], ◌∷◌, ◌++◌, length, get_or, take, subst, ap, sym, ◌∙◌, arith, All, AllPairs, Contains, ◌↔◌, slice_index_or}
-use Rattle.std.proofs.lemmas.{Bool.{cases_order, and_parts, leb-true}, List.{get_or-take, get_or_default, length-take, take_more, take_all}}
-use Rattle.std.proofs.lemmas.List.Elements.{All-weaker, Contains-get_or, Contains-push_cases, Contains-append_left, Contains-push}
+use Rattle.std.proofs.Common.{◌≡◌, ◌+◌, ◌<◌, ◌≤◌, ℕ, inl, inr, ⊎_elim, Option, None, List, length, get_or, subst, ap, sym, ◌∙◌, arith, All, AllPairs, Contains, ◌↔◌, slice_index_or}
+use Rattle.std.proofs.lemmas.{Bool.{cases_eq, cases_order, and_parts, leb-true}, List.{get_or_default, Elements.{All-weaker, Contains-get_or}}}
 use Rattle.schedule.specs.Sends.{ScheduleValue}
 use Rattle.collective_spec.specs.{Collectives.kind_in, declared.kind.Kind.Kind}
 use Rattle.candidate_order.specs.{declared.candidate.Candidate.Candidate, Costs.Before, Ranges.LimitsValue, Listed.{Within, IsListed, IsCount, AreAllowed}}
@@ -16,95 +15,74 @@ pub replaced : (q : QuestionValue) (suits : Candidate → ScheduleValue → Type
 replaced q suits passed now entries f same was = record {
   ascends = was.ascends;
   were_passed = λ k d below. (same (slice_index_or entries k d).0).0 (was.were_passed k d below);
-  solved_are = was.solved_are;
-  refuted_are = was.refuted_are;
-  unknown_are = was.unknown_are;
-  points = was.points;
-  refuted = was.refuted;
-  unknown = was.unknown;
-  answered = λ x h. was.answered x ((same x).1 h);
-  tried = λ x h. was.tried x ((same x).1 h);
+  lists = was.lists;
+  said = was.said;
+  judged = λ x h. was.judged x ((same x).1 h);
 }
 
 module _ (q : QuestionValue) (step : ℕ) (xs : List Candidate) (list : IsStep q step xs) where
-  in_front : (i : ℕ) (x : Candidate) → Contains (take i xs) x → (j : ℕ) × (j < i) × (j < length xs) × (get_or xs j x ≡ x)
-  in_front i x (j, below, at) =
-      let size = length-take i xs in
-      let first : j < i = omega (arith, below, size) in
-      (j, first, omega (arith, below, size), sym (get_or-take i xs j x first) ∙ at)
-
-  pub before_here : (i : ℕ) (here : Candidate) → i < length xs → here ≡ get_or xs i here → (x : Candidate) → IsThrough q step (take i xs) x ↔ IsBefore q here x
-  before_here i here below at x = (there, back) where
+  module _ (i : ℕ) (here : Candidate) (below : i < length xs) (at : here ≡ get_or xs i here) (x : Candidate) where
     is : (here.s ≡ step) × IsWithin q here
     is = (list.members here).0 (i, below, sym at)
 
-    there : IsThrough q step (take i xs) x → IsBefore q here x
-    there (inl (within, fewer)) = (within, inl (omega (arith, is.0)))
-    there (inr h) =
-        let front = in_front i x h in
-        let first : Before (get_or xs front.0 x) (get_or xs i x) = list.ascends front.0 i x front.1 below in
-        let last : get_or xs i x ≡ here = get_or_default xs i x here below ∙ sym at in
-        (((list.members x).0 (front.0, front.2, front.3)).1, rw (front.3, last) at first)
+    last : get_or xs i x ≡ here
+    last = get_or_default xs i x here below ∙ sym at
 
-    back : IsBefore q here x → IsThrough q step (take i xs) x
-    back (within, inl fewer) = inl (within, omega (arith, is.0))
-    back (within, inr (same, h)) =
-        let inside = (list.members x).1 (same ∙ is.0, within) in
-        let at_inside = inside.2 in
-        elim (cases_order inside.0 i) [
+    through_before : IsThrough q step xs i x → IsBefore q here x
+    through_before (inl (within, fewer)) = (within, inl (omega (arith, is.0)))
+    through_before (inr (j, front, inside, there)) =
+        let first : Before (get_or xs j x) (get_or xs i x) = list.ascends j i x front below in
+        (((list.members x).0 (j, inside, there)).1, rw (there, last) at first)
+
+    before_through : IsBefore q here x → IsThrough q step xs i x
+    before_through (within, inl fewer) = inl (within, omega (arith, is.0))
+    before_through (within, inr (same, h)) =
+        let (j, inside, there) = (list.members x).1 (same ∙ is.0, within) in
+        elim (cases_order j i) [
           | inl equal ↦ (
-              let twice : x ≡ here = sym at_inside ∙ (ap (λ j. get_or xs j x) equal ∙ (get_or_default xs i x here below ∙ sym at)) in
+              let twice : x ≡ here = sym there ∙ (ap (λ k. get_or xs k x) equal ∙ last) in
               absurd (Before-irrefl here (subst (λ y. Before y here) twice (inr (same, h))))
               )
-          | inr (inl front) ↦ inr (inside.0, omega (arith, length-take i xs, inside.1), get_or-take i xs inside.0 x front ∙ at_inside)
+          | inr (inl front) ↦ inr (j, front, inside, there)
           | inr (inr behind) ↦ (
-              let later : Before (get_or xs i x) (get_or xs inside.0 x) = list.ascends i inside.0 x behind inside.1 in
-              let last : get_or xs i x ≡ here = get_or_default xs i x here below ∙ sym at in
-              absurd (Before-asym q x here within is.1 (inr (same, h)) (rw (last, at_inside) at later))
+              let later : Before (get_or xs i x) (get_or xs j x) = list.ascends i j x behind inside in
+              absurd (Before-asym q x here within is.1 (inr (same, h)) (rw (last, there) at later))
               )
         ]
 
-  pub up_to_here : (i : ℕ) (here : Candidate) → i < length xs → here ≡ get_or xs i here → (x : Candidate) → IsUpTo q here x ↔ IsThrough q step (take (i + 1) xs) x
-  up_to_here i here below at x = (there, back) where
-    more : take (i + 1) xs ≡ take i xs ++ here ∷ []
-    more = take_more xs i here below ∙ ap (λ y. take i xs ++ y ∷ []) (sym at)
+    pub before_here : IsThrough q step xs i x ↔ IsBefore q here x
+    before_here = (through_before, before_through)
 
-    there : IsUpTo q here x → IsThrough q step (take (i + 1) xs) x
-    there (inl before) =
-        elim ((before_here i here below at x).1 before) [
-          | inl fewer ↦ inl fewer
-          | inr front ↦ inr (subst (λ ys. Contains ys x) (sym more) (Contains-append_left (take i xs) (here ∷ []) x front))
-        ]
-    there (inr same) =
-        inr (subst (λ ys. Contains ys x) (sym more) (subst (Contains (take i xs ++ here ∷ [])) (sym same) (Contains-push (take i xs) here)))
+    upto_through : IsUpTo q here x → IsThrough q step xs (i + 1) x
+    upto_through (inl before) = ⊎_elim inl (λ front. inr (front.0, omega (arith, front.1), front.2, front.3)) (before_through before)
+    upto_through (inr same) = inr (i, omega arith, below, last ∙ sym same)
 
-    back : IsThrough q step (take (i + 1) xs) x → IsUpTo q here x
-    back (inl fewer) = inl ((before_here i here below at x).0 (inl fewer))
-    back (inr h) =
-        elim (Contains-push_cases (take i xs) here x (subst (λ ys. Contains ys x) more h)) [
-          | inl front ↦ inl ((before_here i here below at x).0 (inr front))
-          | inr same ↦ inr (sym same)
+    through_upto : IsThrough q step xs (i + 1) x → IsUpTo q here x
+    through_upto (inl fewer) = inl (through_before (inl fewer))
+    through_upto (inr (j, front, inside, there)) =
+        elim (cases_eq j i) [
+          | inl equal ↦ inr (sym there ∙ (ap (λ k. get_or xs k x) equal ∙ last))
+          | inr other ↦ inl (through_before (inr (j, omega (arith, front, other), inside, there)))
         ]
 
-  pub none_yet : (x : Candidate) → HasFewerSteps q step x ↔ IsThrough q step (take 0 xs) x
-  none_yet x =
-      (λ fewer. inl fewer, λ h. elim h [ inl fewer ↦ fewer | inr front ↦ absurd (omega (arith, (in_front 0 x front).1)) ])
+    pub up_to_here : IsUpTo q here x ↔ IsThrough q step xs (i + 1) x
+    up_to_here = (upto_through, through_upto)
 
-  pub whole_step : (x : Candidate) → IsThrough q step (take (length xs) xs) x ↔ HasFewerSteps q (step + 1) x
+  pub none_yet : (x : Candidate) → HasFewerSteps q step x ↔ IsThrough q step xs 0 x
+  none_yet x = (inl, ⊎_elim (λ fewer. fewer) (λ front. absurd (omega (arith, front.1))))
+
+  pub whole_step : (x : Candidate) → IsThrough q step xs (length xs) x ↔ HasFewerSteps q (step + 1) x
   whole_step x = (there, back) where
-    all : take (length xs) xs ≡ xs
-    all = take_all (length xs) xs (omega arith)
-
-    there : IsThrough q step (take (length xs) xs) x → HasFewerSteps q (step + 1) x
+    there : IsThrough q step xs (length xs) x → HasFewerSteps q (step + 1) x
     there (inl (within, fewer)) = (within, omega arith)
-    there (inr h) =
-        let inside = (list.members x).0 (subst (λ ys. Contains ys x) all h) in
-        (inside.1, omega (arith, inside.0))
+    there (inr (j, front, inside, at)) =
+        let member = (list.members x).0 (j, inside, at) in
+        (member.1, omega (arith, member.0))
 
-    back : HasFewerSteps q (step + 1) x → IsThrough q step (take (length xs) xs) x
+    back : HasFewerSteps q (step + 1) x → IsThrough q step xs (length xs) x
     back (within, below) =
         elim (cases_order x.s step) [
-          | inl same ↦ inr (subst (λ ys. Contains ys x) (sym all) ((list.members x).1 (same, within)))
+          | inl same ↦ (let (j, inside, at) = (list.members x).1 (same, within) in inr (j, inside, inside, at))
           | inr (inl fewer) ↦ inl (within, fewer)
           | inr (inr more) ↦ absurd (omega arith)
         ]

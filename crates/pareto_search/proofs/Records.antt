@@ -1,9 +1,10 @@
 -- A record that ascends: each candidate stands there once, and in the list of its kind.
-use Rattle.std.proofs.Common.{◌≡◌, inl, inr, Bool, true, List, [], ◌∷◌, ◌++◌, length, map, subst, ap, sym, ◌∙◌, refl, arith, All, AllPairs, Contains, filter, slice_index_or}
-use Rattle.std.{specs.List.Sorted.IsPermutation, proofs.lemmas.{Bool.cases_order, List.{get_or-map, get_or_default, length-map, map-append}}}
-use Rattle.std.proofs.lemmas.List.{Elements.{All-map, All-filter, All-contains_itself, filter_passes, filter-append}, Kept.AllPairs-filter}
+use Rattle.std.proofs.Common.{◌≡◌, inl, inr, Bool, true, false, cond, List, [], ◌∷◌, ◌++◌, length, map, subst, ap, sym, ◌∙◌, refl, arith, AllPairs, Contains, filter}
+use Rattle.std.{specs.List.Sorted.IsPermutation, proofs.lemmas.{Bool.cases_order, List.{append-nil, get_or-map, get_or_default, length-map, map-append}}}
+use Rattle.std.proofs.lemmas.List.{Elements.filter-append, Kept.AllPairs-filter}
 use Rattle.std.proofs.lemmas.List.Sorted.{IsPermutation-refl, IsPermutation-sym, IsPermutation-cons, IsPermutation-trans, IsPermutation-append_left, IsPermutation-middle}
 use Rattle.list_laws.proofs.Members.{Contains-filter, Contains-map}
+use Rattle.schedule.proofs.First.{Among-from_Contains, Contains-from_Among, filter_among, map_among}
 use Rattle.candidate_order.{specs.{declared.candidate.Candidate.Candidate, Costs.Before}, proofs.Orders.Before-irrefl}
 use Rattle.engine_rules.specs.{declared.settled.Settled.{Settled, TheVariants.{Solved, Refuted, Unknown}}, Outcomes.RecordValue}
 use Rattle.pareto_search.specs.inner.Passing.{is_same, of_kind}
@@ -31,26 +32,29 @@ same_kind Refuted = refl
 same_kind Unknown = refl
 
 -- a candidate of a kind is in the record with that kind
-pub of_kind-settled : (kind : Settled) (entries : RecordValue) → All (λ x. Contains entries (x, kind)) (of_kind kind entries)
-of_kind-settled kind entries =
-    let test : Candidate × Settled → Bool = λ e. is_same kind e.1 in
-    All-map (λ x. Contains entries (x, kind)) (λ e. e.0) (filter test entries) (λ i d below.
-    let e = slice_index_or (filter test entries) i d in
-    let same = kind_from_same kind e.1 (filter_passes test entries i d below) in
-    let inside = All-filter test (Contains entries) entries (All-contains_itself entries) i d below in
-    subst (λ k. Contains entries (e.0, k)) (sym same) inside)
+pub of_kind-settled : (kind : Settled) (entries : RecordValue) (x : Candidate) → Contains (of_kind kind entries) x → Contains entries (x, kind)
+of_kind-settled kind entries x at =
+    let (e, among, is) = map_among (λ (e : Candidate × Settled). e.0) x (filter (λ e. is_same kind e.1) entries) (Among-from_Contains x (of_kind kind entries) at) in
+    let (there, passes) = filter_among (λ (e : Candidate × Settled). is_same kind e.1) e entries among in
+    let same : e ≡ (x, kind) = λ i. (is i, sym (kind_from_same kind e.1 passes) i) in
+    subst (Contains entries) same (Contains-from_Among e entries there)
 
 pub Contains-of_kind : (kind : Settled) (entries : RecordValue) (x : Candidate) → Contains entries (x, kind) → Contains (of_kind kind entries) x
 Contains-of_kind kind entries x h =
     Contains-map (λ e. e.0) _ (x, kind) (Contains-filter (λ e. is_same kind e.1) entries (x, kind) (same_kind kind) h)
 
-pub of_kind-append : (kind : Settled) (xs ys : RecordValue) → of_kind kind (xs ++ ys) ≡ of_kind kind xs ++ of_kind kind ys
-of_kind-append kind xs ys =
-    let test : Candidate × Settled → Bool = λ e. is_same kind e.1 in
+-- the candidates of a kind where the record has one entry more
+pub lists_more : (k kind : Settled) (entries : RecordValue) (x : Candidate) (xs : List Candidate) → xs ≡ of_kind k entries → cond (is_same k kind) (xs ++ x ∷ []) xs ≡ of_kind k (entries ++ (x, kind) ∷ [])
+lists_more k kind entries x xs same =
+    let test : Candidate × Settled → Bool = λ e. is_same k e.1 in
     let fst : Candidate × Settled → Candidate = λ e. e.0 in
-    ap (map fst) (filter-append test xs ys) ∙ map-append fst (filter test xs) (filter test ys)
+    at (is_same k kind) ∙ sym (ap (map fst) (filter-append test entries ((x, kind) ∷ [])) ∙ map-append fst (filter test entries) (filter test ((x, kind) ∷ [])))
+  where
+    at : (b : Bool) → cond b (xs ++ x ∷ []) xs ≡ of_kind k entries ++ map (λ (e : Candidate × Settled). e.0) (cond b ((x, kind) ∷ []) [])
+    at true = ap (λ ys. ys ++ x ∷ []) same
+    at false = same ∙ sym (append-nil (of_kind k entries))
 
-abbrev pub Ascends : RecordValue → Type 0
+abbrev Ascends : RecordValue → Type 0
 Ascends entries = AllPairs (λ a b. Before a.0 b.0) entries
 
 pub of_kind-ascends : (kind : Settled) (entries : RecordValue) → Ascends entries → AllPairs Before (of_kind kind entries)
@@ -68,19 +72,16 @@ one_kind entries x k l up (i, below_i, at_i) (j, below_j, at_j) =
     ]
 
 -- the candidates of each kind, with their kinds, are the record
+abbrev with_kind : Settled → RecordValue → RecordValue
+with_kind kind entries = map (λ x. (x, kind)) (of_kind kind entries)
+
 abbrev pub by_kind : RecordValue → RecordValue
-by_kind entries = map (λ x. (x, Solved)) (of_kind Solved entries) ++ map (λ x. (x, Refuted)) (of_kind Refuted entries) ++ map (λ x. (x, Unknown)) (of_kind Unknown entries)
+by_kind entries = with_kind Solved entries ++ with_kind Refuted entries ++ with_kind Unknown entries
 
 pub by_kind-shuffles : (entries : RecordValue) → IsPermutation entries (by_kind entries)
 by_kind-shuffles [] = IsPermutation-refl []
-by_kind-shuffles ((x, Solved) ∷ entries) = IsPermutation-cons (x, Solved) entries (by_kind entries) (by_kind-shuffles entries)
-by_kind-shuffles ((x, Refuted) ∷ entries) =
-    let solved : RecordValue = map (λ x. (x, Solved)) (of_kind Solved entries) in
-    let refuted : RecordValue = map (λ x. (x, Refuted)) (of_kind Refuted entries) in
-    let unknown : RecordValue = map (λ x. (x, Unknown)) (of_kind Unknown entries) in
-    IsPermutation-trans _ _ _ (IsPermutation-cons (x, Refuted) entries (by_kind entries) (by_kind-shuffles entries)) (IsPermutation-sym _ _ (IsPermutation-append_left unknown _ _ (IsPermutation-middle solved (x, Refuted) refuted)))
-by_kind-shuffles ((x, Unknown) ∷ entries) =
-    let solved : RecordValue = map (λ x. (x, Solved)) (of_kind Solved entries) in
-    let refuted : RecordValue = map (λ x. (x, Refuted)) (of_kind Refuted entries) in
-    let unknown : RecordValue = map (λ x. (x, Unknown)) (of_kind Unknown entries) in
-    IsPermutation-trans _ _ _ (IsPermutation-cons (x, Unknown) entries (by_kind entries) (by_kind-shuffles entries)) (IsPermutation-sym _ _ (IsPermutation-middle (solved ++ refuted) (x, Unknown) unknown))
+by_kind-shuffles ((x, Solved) ∷ es) = IsPermutation-cons (x, Solved) es (by_kind es) (by_kind-shuffles es)
+by_kind-shuffles ((x, Refuted) ∷ es) = IsPermutation-trans _ _ _ (IsPermutation-cons (x, Refuted) es (by_kind es) (by_kind-shuffles es))
+    (IsPermutation-sym _ _ (IsPermutation-append_left (with_kind Unknown es) _ _ (IsPermutation-middle (with_kind Solved es) (x, Refuted) (with_kind Refuted es))))
+by_kind-shuffles ((x, Unknown) ∷ es) = IsPermutation-trans _ _ _ (IsPermutation-cons (x, Unknown) es (by_kind es) (by_kind-shuffles es))
+    (IsPermutation-sym _ _ (IsPermutation-middle (with_kind Solved es ++ with_kind Refuted es) (x, Unknown) (with_kind Unknown es)))

@@ -2,10 +2,11 @@
 
 ghost use Rattle.std.specs.Prelude.{◌≡◌, ◌↔◌, [], Any, IsTrue, OnOk};
 ghost use Rattle.candidate_order.specs.{Costs.Better, Frontiers.given_up};
-ghost use Rattle.pareto_search.specs.inner.Passing.{LastSettles, IsMark, with_point, with_refuted, with_unknown};
+ghost use Rattle.pareto_search.specs.inner.Passing.{LastSettles, IsAdded, IsMark};
 
-use candidate_order::{Candidate, Frontier, Mark, OutOfMemory, Point, Unknown, better, no_worse};
-use schedule::Schedule;
+use candidate_order::{
+    Candidate, Frontier, Mark, OutOfMemory, Outcome, Point, Unknown, better, no_worse,
+};
 use std::alloc::Global;
 use std::marker::Model;
 
@@ -57,37 +58,21 @@ impl Findings {
         }
     }
 
-    /// Adds a point, with its mark.
-    pub(crate) fn add_point(
-        &mut self,
-        candidate: Candidate,
-        schedule: Schedule,
-    ) -> Result<(), OutOfMemory>
-        ensures { OnOk result ((mark : Mark) × IsMark (given_up self.old) candidate mark × (self.new ≡ with_point self.old (record { candidate = candidate; schedule = schedule; mark = mark }))) }
+    /// Adds what came of a candidate: a point with its mark, one that no schedule solves, or one
+    /// that was given up.
+    pub(crate) fn add(&mut self, candidate: Candidate, outcome: Outcome) -> Result<(), OutOfMemory>
+        ensures { OnOk result (IsAdded candidate outcome self.old self.new) }
     {
-        let mark = self.mark_of(candidate);
-        self.points.push(Point::new(candidate, schedule, mark))?;
-        Ok(())
-    }
-
-    /// Adds a candidate that no schedule solves.
-    pub(crate) fn add_refuted(&mut self, candidate: Candidate) -> Result<(), OutOfMemory>
-        ensures { OnOk result (self.new ≡ with_refuted self.old candidate) }
-    {
-        self.refuted.push(candidate)?;
-        Ok(())
-    }
-
-    /// Adds a candidate that was given up after so many conflicts.
-    pub(crate) fn add_unknown(
-        &mut self,
-        candidate: Candidate,
-        conflicts: u32,
-    ) -> Result<(), OutOfMemory>
-        ensures { OnOk result (self.new ≡ with_unknown self.old (record { candidate = candidate; conflicts = conflicts })) }
-    {
-        self.unknown.push(Unknown::new(candidate, conflicts))?;
-        Ok(())
+        match outcome {
+            Outcome::Solved(schedule) => {
+                let mark = self.mark_of(candidate);
+                Ok(self.points.push(Point::new(candidate, schedule, mark))?)
+            }
+            Outcome::Refuted => Ok(self.refuted.push(candidate)?),
+            Outcome::Unknown { conflicts } => {
+                Ok(self.unknown.push(Unknown::new(candidate, conflicts))?)
+            }
+        }
     }
 
     /// The frontier of all that was found.

@@ -8,7 +8,7 @@ ghost use Rattle.candidate_order.specs.{Listed.AreAllowed, Frontiers.IsWithin};
 ghost use Rattle.pareto_search.specs.{inner.Passing.{HasFewerSteps, IsBefore, IsUpTo, HasPassed}, Recorded.StaysWithin};
 
 use crate::findings::Findings;
-use candidate_order::{Candidate, Limits, Outcome, list};
+use candidate_order::{Candidate, Limits, list};
 use engine_rules::{Engine, EngineFault};
 use std::alloc::Global;
 
@@ -34,11 +34,9 @@ pub(crate) fn try_candidate<T, E: Engine<T>>(
     if findings.settles(candidate) {
         return Ok(());
     }
-    match engine.settle(store, candidate)? {
-        Outcome::Solved(schedule) => Ok(findings.add_point(candidate, schedule)?),
-        Outcome::Refuted => Ok(findings.add_refuted(candidate)?),
-        Outcome::Unknown { conflicts } => Ok(findings.add_unknown(candidate, conflicts)?),
-    }
+    let outcome = engine.settle(store, candidate)?;
+    findings.add(candidate, outcome)?;
+    Ok(())
 }
 
 /// Passes the candidates of `step` steps, after all that have fewer.

@@ -4,7 +4,7 @@ use Rattle.std.{specs.List.range_with_len, proofs.lemmas.Grind.flat_map-append}
 use Rattle.schedule.specs.{Sends.ScheduleValue, Placed.PlacementValue, Links.TopologyValue, Bags.{Bags, contributions, held_at_2, of_placement}, Running.run_of}
 use Rattle.schedule.specs.{JoinedRuns.joined_run, Judging.verdict_of, declared.verdict.Verdict.Verdict}
 use Rattle.inversion.specs.{declared.verdict.SumVerdict.SumVerdict, Saying.{says_solves, says_sums}}
-use Rattle.collective_spec.specs.{declared.{instance.Instance.Instance, spec.Spec.Spec}, Collectives.{chunks_in, spec_demand, spec_instance}}
+use Rattle.collective_spec.specs.{declared.{instance.Instance.Instance, spec.Spec.Spec}, Collectives.spec_demand}
 use Rattle.bag_runs.{specs.Stores.{StoreValue, stored}, proofs.Tables.table_cell}
 use Rattle.node_programs.specs.{Machines.State, Ended.machine_of}
 use Rattle.text_lines.specs.Text.{line, text_of}
@@ -28,15 +28,6 @@ more_where x order false = refl
 body_is : (x : Shown) (order : Option ℕ) → body_lines x order ≡ lines_with x.names (shown_steps x) (shown_verdict x) (showing.machine_of x) (if holds_as_shown x then order else None)
 body_is x order = ap (λ more. numbered_steps 0 (shown_steps x) ++ (shown_verdict x ∷ more)) (more_where x order (holds_as_shown x))
 
--- equal in each part
-same_lines : (names : List (List ℕ)) (a b : List (List (List (List ℕ)))) (v w : List (List ℕ)) (m n : State) (g h : Bool) (order : Option ℕ) → a ≡ b → v ≡ w → m ≡ n → g ≡ h
-    → lines_with names a v m (if g then order else None) ≡ lines_with names b w n (if h then order else None)
-same_lines names a b v w m n g h order p q r s =
-    ap (λ steps. lines_with names steps v m (if g then order else None)) p
-    ∙ ap (λ verdict. lines_with names b verdict m (if g then order else None)) q
-    ∙ ap (λ machine. lines_with names b w machine (if g then order else None)) r
-    ∙ ap (λ holds. lines_with names b w n (if holds then order else None)) s
-
 -- ---- a point that copies
 
 module _ (x : Shown) (copied : is_copied x ≡ true) where
@@ -54,13 +45,13 @@ module _ (x : Shown) (copied : is_copied x ≡ true) where
       let pre = (instance_at x).pre in
       let adding : adding_of x ≡ 0 = ap (λ b. if b then 0 else steps_that_add x.point.mark (length x.point.schedule.rounds)) copied in
       let bags : start_bags x ≡ of_placement pre = ap (λ b. if b then of_placement pre else contributions (nodes_of x)) copied in
-      ap (λ n. machine_of (chunks_at x) (nodes_of x) (start_bags x) x.point.schedule n) adding
-      ∙ ap (λ b. machine_of (chunks_at x) (nodes_of x) b x.point.schedule 0) bags
-      ∙ ap (λ chunks. machine_of chunks (nodes_of x) (of_placement pre) x.point.schedule 0) (sym (pre_chunks x.question.spec (nodes_of x) x.point.candidate.c))
-      ∙ ap (λ nodes. machine_of pre.chunks nodes (of_placement pre) x.point.schedule 0) (sym (pre_nodes x.question.spec (nodes_of x) x.point.candidate.c))
+      let chunks = pre_chunks x.question.spec (nodes_of x) x.point.candidate.c in
+      let nodes = pre_nodes x.question.spec (nodes_of x) x.point.candidate.c in
+      λ i. machine_of (sym chunks i) (sym nodes i) (bags i) x.point.schedule (adding i)
 
   pub body_copied : (order : Option ℕ) → body_lines x order ≡ placed_lines x.names (instance_at x).pre x.point.schedule (copied_verdict x) order
-  body_copied order = body_is x order ∙ same_lines x.names _ _ _ _ _ _ _ _ order steps_copied verdict_copied machine_copied holds_copied
+  body_copied order =
+      body_is x order ∙ (λ i. lines_with x.names (steps_copied i) (verdict_copied i) (machine_copied i) (if holds_copied i then order else None))
 
 -- ---- a point that adds up
 
@@ -69,10 +60,6 @@ same_on f g zero a top le e = refl
 same_on f g (suc n) a top le e =
     ap (λ y. y ∷ map f (range_with_len (a + 1) n)) (e a (omega (arith, le)))
     ∙ ap (λ ys. g a ∷ ys) (same_on f g n (a + 1) top (omega (arith, le)) e)
-
-same_each : {X Y : Type 0} (f g : X → Y) (xs : List X) → ((x : X) → f x ≡ g x) → map f xs ≡ map g xs
-same_each f g [] e = refl
-same_each f g (x ∷ xs) e = ap (λ y. y ∷ map f xs) (e x) ∙ ap (λ ys. g x ∷ ys) (same_each f g xs e)
 
 -- the lines of the bags that a store keeps
 module _ (x : Shown) (bags : Bags) where
@@ -93,7 +80,7 @@ module _ (x : Shown) (adds : is_copied x ≡ false) where
   steps_added : shown_steps x ≡ stored_steps x.names (chunks_at x) (nodes_of x) (contributions (nodes_of x)) x.point.schedule (adding_of x)
   steps_added =
       ap (λ b. if b then map (held_lines x.names) (run_of (instance_at x).pre x.point.schedule) else map (bag_lines x) (joined_run (contributions (nodes_of x)) x.point.schedule (adding_of x))) adds
-      ∙ same_each (bag_lines x) (λ bags. store_lines x.names (stored (chunks_at x) (nodes_of x) bags)) (joined_run (contributions (nodes_of x)) x.point.schedule (adding_of x)) (bags_shown x)
+      ∙ (λ i. map (λ bags. bags_shown x bags i) (joined_run (contributions (nodes_of x)) x.point.schedule (adding_of x)))
 
   verdict_added : shown_verdict x ≡ sum_words x.names (summed_verdict x)
   verdict_added = ap (λ b. if b then verdict_words x.names (copied_verdict x) else sum_words x.names (summed_verdict x)) adds
@@ -107,7 +94,8 @@ module _ (x : Shown) (adds : is_copied x ≡ false) where
       ap (λ b. machine_of (chunks_at x) (nodes_of x) b x.point.schedule (adding_of x)) bags
 
   pub body_added : (order : Option ℕ) → body_lines x order ≡ stored_lines x.names (chunks_at x) (nodes_of x) (contributions (nodes_of x)) x.point.schedule (adding_of x) (summed_verdict x) order
-  body_added order = body_is x order ∙ same_lines x.names _ _ _ _ _ _ _ _ order steps_added verdict_added machine_added holds_added
+  body_added order =
+      body_is x order ∙ (λ i. lines_with x.names (steps_added i) (verdict_added i) (machine_added i) (if holds_added i then order else None))
 
   pub adding_is : adding_of x ≡ steps_that_add x.point.mark (length x.point.schedule.rounds)
   adding_is = ap (λ b. if b then 0 else steps_that_add x.point.mark (length x.point.schedule.rounds)) adds
@@ -133,51 +121,36 @@ whole_text number n x order a b c d none same p q r =
 
 -- ---- what the calls for a point give
 
--- its instance
-pub instance_is : (x : Shown) (i : Instance) (spec : Spec) (nodes c : ℕ) → spec ≡ x.question.spec → nodes ≡ nodes_of x → c ≡ x.point.candidate.c → i ≡ spec_instance spec nodes c → i ≡ instance_at x
-instance_is x i spec nodes c e n m is = is ∙ ap (λ s. spec_instance s nodes c) e ∙ ap (λ k. spec_instance x.question.spec k c) n ∙ ap (spec_instance x.question.spec (nodes_of x)) m
+-- what is made of its collective, its nodes and its chunk count
+pub made_of : {X : Type 0} (make : Spec → ℕ → ℕ → X) (x : Shown) (made : X) (spec : Spec) (nodes c : ℕ) → spec ≡ x.question.spec → nodes ≡ nodes_of x → c ≡ x.point.candidate.c → made ≡ make spec nodes c → made ≡ make x.question.spec (nodes_of x) x.point.candidate.c
+made_of make x made spec nodes c e n m is = is ∙ (λ i. make (e i) (n i) (m i))
 
--- and its chunks
-pub chunks_are : (x : Shown) (chunks : ℕ) (spec : Spec) (nodes c : ℕ) → spec ≡ x.question.spec → nodes ≡ nodes_of x → c ≡ x.point.candidate.c → chunks ≡ chunks_in spec nodes c → chunks ≡ chunks_at x
-chunks_are x chunks spec nodes c e n m is = is ∙ ap (λ s. chunks_in s nodes c) e ∙ ap (λ k. chunks_in x.question.spec k c) n ∙ ap (chunks_in x.question.spec (nodes_of x)) m
-
--- and what is demanded
+-- what is demanded
 abbrev pub demand_at : Shown → PlacementValue
 demand_at x = spec_demand x.question.spec (nodes_of x) x.point.candidate.c
 
-pub demand_is : (x : Shown) (demand : PlacementValue) (spec : Spec) (nodes c : ℕ) → spec ≡ x.question.spec → nodes ≡ nodes_of x → c ≡ x.point.candidate.c → demand ≡ spec_demand spec nodes c → demand ≡ demand_at x
-demand_is x demand spec nodes c e n m is = is ∙ ap (λ s. spec_demand s nodes c) e ∙ ap (λ k. spec_demand x.question.spec k c) n ∙ ap (spec_demand x.question.spec (nodes_of x)) m
+-- the store at the start, as it counts its own chunks and nodes
+pub start_kept : (x : Shown) (start : StoreValue) (chunks nodes : ℕ) → chunks ≡ chunks_at x → nodes ≡ nodes_of x → start ≡ stored chunks nodes (contributions nodes) → start ≡ stored (chunks_at x) (nodes_of x) (contributions (nodes_of x))
+start_kept x start chunks nodes own_chunks own_nodes is = is ∙ (λ i. stored (own_chunks i) (own_nodes i) (contributions (own_nodes i)))
+
+pub start_itself : (x : Shown) (start : StoreValue) → start ≡ stored (chunks_at x) (nodes_of x) (contributions (nodes_of x)) → start ≡ stored start.chunks start.nodes (contributions (nodes_of x))
+start_itself x start made = made ∙ sym (λ i. stored (made i).chunks (made i).nodes (contributions (nodes_of x)))
 
 pub copied_lines : (x : Shown) → is_copied x ≡ true → (names : List (List ℕ)) (t : TopologyValue) (i : Instance) (pre post : PlacementValue) (s : ScheduleValue) (v : Verdict) (order : Option ℕ)
     → names ≡ x.names → t ≡ x.question.topology → i ≡ instance_at x → pre ≡ i.pre → post ≡ i.post → s ≡ x.point.schedule → v ≡ verdict_of t pre post s → text_of (placed_lines names pre s v order) ≡ text_of (body_lines x order)
 copied_lines x copied names t i pre post s v order n u own p q e judged =
     let first : pre ≡ (instance_at x).pre = p ∙ ap (λ (j : Instance). j.pre) own in
     let last : post ≡ (instance_at x).post = q ∙ ap (λ (j : Instance). j.post) own in
-    let verdict : v ≡ copied_verdict x =
-    judged ∙ ap (λ k. verdict_of k pre post s) u ∙ ap (λ k. verdict_of x.question.topology k post s) first
-    ∙ ap (λ k. verdict_of x.question.topology (instance_at x).pre k s) last ∙ ap (verdict_of x.question.topology (instance_at x).pre (instance_at x).post) e in
-    ap (λ k. text_of (placed_lines k pre s v order)) n
-    ∙ ap (λ k. text_of (placed_lines x.names k s v order)) first
-    ∙ ap (λ k. text_of (placed_lines x.names (instance_at x).pre k v order)) e
-    ∙ ap (λ k. text_of (placed_lines x.names (instance_at x).pre x.point.schedule k order)) verdict
-    ∙ sym (ap text_of (body_copied x copied order))
+    let verdict : v ≡ copied_verdict x = judged ∙ (λ k. verdict_of (u k) (first k) (last k) (e k)) in
+    (λ k. text_of (placed_lines (n k) (first k) (e k) (verdict k) order)) ∙ sym (ap text_of (body_copied x copied order))
 
 pub added_lines : (x : Shown) → is_copied x ≡ false → (names : List (List ℕ)) (start : StoreValue) (chunks nodes adding : ℕ) (s : ScheduleValue) (v : SumVerdict) (order : Option ℕ) (a d : List ℕ)
     → names ≡ x.names → chunks ≡ chunks_at x → nodes ≡ nodes_of x → adding ≡ steps_that_add x.point.mark (length x.point.schedule.rounds) → s ≡ x.point.schedule → v ≡ summed_verdict x → start ≡ stored chunks nodes (contributions nodes)
     → ((bags : Bags) → start ≡ stored start.chunks start.nodes bags → d ≡ a ++ text_of (stored_lines names start.chunks start.nodes bags s adding v order)) → d ≡ a ++ text_of (body_lines x order)
 added_lines x adds names start chunks nodes adding s v order a d n g w k e judged is done =
     let bags : Bags = contributions (nodes_of x) in
-    let made : start ≡ stored (chunks_at x) (nodes_of x) bags = is ∙ ap (λ c. stored c nodes (contributions nodes)) g ∙ ap (λ m. stored (chunks_at x) m (contributions m)) w in
-    let own_chunks : start.chunks ≡ chunks_at x = ap (λ st. st.chunks) made in
-    let own_nodes : start.nodes ≡ nodes_of x = ap (λ st. st.nodes) made in
-    let from : start ≡ stored start.chunks start.nodes bags = made ∙ sym (ap (λ c. stored c start.nodes bags) own_chunks ∙ ap (λ m. stored (chunks_at x) m bags) own_nodes) in
+    let made : start ≡ stored (chunks_at x) (nodes_of x) bags = start_kept x start chunks nodes g w is in
     let adds_so : adding ≡ adding_of x = k ∙ sym (adding_is x adds) in
-    done bags from
-    ∙ ap (λ t. a ++ text_of t)
-    (ap (λ names. stored_lines names start.chunks start.nodes bags s adding v order) n
-    ∙ ap (λ c. stored_lines x.names c start.nodes bags s adding v order) own_chunks
-    ∙ ap (λ m. stored_lines x.names (chunks_at x) m bags s adding v order) own_nodes
-    ∙ ap (λ p. stored_lines x.names (chunks_at x) (nodes_of x) bags p adding v order) e
-    ∙ ap (λ m. stored_lines x.names (chunks_at x) (nodes_of x) bags x.point.schedule m v order) adds_so
-    ∙ ap (λ o. stored_lines x.names (chunks_at x) (nodes_of x) bags x.point.schedule (adding_of x) o order) judged
-    ∙ sym (body_added x adds order))
+    done bags (start_itself x start made)
+    ∙ (λ i. a ++ text_of (stored_lines (n i) (made i).chunks (made i).nodes bags (e i) (adds_so i) (judged i) order))
+    ∙ ap (λ lines. a ++ text_of lines) (sym (body_added x adds order))

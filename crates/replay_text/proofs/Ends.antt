@@ -6,7 +6,7 @@ use Rattle.bag_runs.{specs.Stores.{StoreValue, stored}, proofs.JoinedSteps.addin
 use Rattle.inversion.specs.Judging.{last_bags, sum_verdict_of}
 use Rattle.allreduce_join.{specs.Judging.{joined_bags, joined_verdict_of}, proofs.OneVerdict.{judged_adding, judged_everywhere}}
 use Rattle.replay_text.specs.{Showing.{Shown, adding_of, chunks_at, is_copied, is_joined, nodes_of, summed_verdict}, Points.{IsShowable, last_store_of}}
-use Rattle.replay_text.proofs.{Bodies.{adding_is, demand_at}, Ordered.mapped_twice}
+use Rattle.replay_text.proofs.{Bodies.{adding_is, demand_at, start_itself, start_kept}, Ordered.mapped_twice}
 
 -- ---- in a run
 
@@ -20,9 +20,8 @@ module _ (chunks nodes : ℕ) (bags : Bags) (s : ScheduleValue) (adding : ℕ) (
   run_last : (last : StoreValue) → last ≡ get_or run (length rounds) last → last ≡ stored chunks nodes (joined_after bags s adding (length s.rounds))
   run_last last read =
       read
-      ∙ (ap (λ r. get_or run (length r) last) same
-      ∙ (ap (λ r. get_or r (length s.rounds) last) after_each
-      ∙ get_or-map-range_with_len (λ n. stored chunks nodes (joined_after bags s adding n)) 0 (length s.rounds + 1) (length s.rounds) (length s.rounds) last (omega arith) (omega arith)))
+      ∙ (λ i. get_or (after_each i) (length (same i)) last)
+      ∙ get_or-map-range_with_len (λ n. stored chunks nodes (joined_after bags s adding n)) 0 (length s.rounds + 1) (length s.rounds) (length s.rounds) last (omega arith) (omega arith)
 
 -- ---- in that of the point
 
@@ -32,38 +31,22 @@ module _ (x : Shown) (start : StoreValue) (chunks nodes adding : ℕ) (s : Sched
   bags_of = contributions (nodes_of x)
 
   made : start ≡ stored (chunks_at x) (nodes_of x) bags_of
-  made = is ∙ ap (λ c. stored c nodes (contributions nodes)) own_chunks ∙ ap (λ n. stored (chunks_at x) n (contributions n)) own_nodes
-
-  start_chunks : start.chunks ≡ chunks_at x
-  start_chunks = ap (λ (store : StoreValue). store.chunks) made
-
-  start_nodes : start.nodes ≡ nodes_of x
-  start_nodes = ap (λ (store : StoreValue). store.nodes) made
-
-  from : start ≡ stored start.chunks start.nodes bags_of
-  from = made ∙ sym (ap (λ c. stored c start.nodes bags_of) start_chunks ∙ ap (λ n. stored (chunks_at x) n bags_of) start_nodes)
+  made = start_kept x start chunks nodes own_chunks own_nodes is
 
   pub added_inside : length rounds < length run
-  added_inside = run_inside start.chunks start.nodes bags_of s adding run rounds same (ran bags_of from)
+  added_inside = run_inside start.chunks start.nodes bags_of s adding run rounds same (ran bags_of (start_itself x start made))
 
   pub added_last : (last : StoreValue) → last ≡ get_or run (length rounds) last → last ≡ last_store_of x
   added_last last read =
-      run_last start.chunks start.nodes bags_of s adding run rounds same (ran bags_of from) last read
-      ∙ ap (λ c. stored c start.nodes (joined_after bags_of s adding (length s.rounds))) start_chunks
-      ∙ ap (λ n. stored (chunks_at x) n (joined_after bags_of s adding (length s.rounds))) start_nodes
-      ∙ ap (λ (p : ScheduleValue). stored (chunks_at x) (nodes_of x) (joined_after bags_of p adding (length p.rounds))) own
-      ∙ ap (λ n. stored (chunks_at x) (nodes_of x) (joined_after bags_of x.point.schedule n (length x.point.schedule.rounds))) own_adding
+      run_last start.chunks start.nodes bags_of s adding run rounds same (ran bags_of (start_itself x start made)) last read
+      ∙ (λ i. stored (made i).chunks (made i).nodes (joined_after bags_of (own i) (own_adding i) (length (own i).rounds)))
 
 -- ---- as the verdicts take it
 
 module _ (x : Shown) (last : StoreValue) (t : TopologyValue) (chunks : ℕ) (s : ScheduleValue) (topology : t ≡ x.question.topology) (own_chunks : chunks ≡ chunks_at x) (own : s ≡ x.point.schedule) (is : last ≡ last_store_of x) where
   pub last_joined : (adding : ℕ) → adding ≡ adding_of x → last ≡ stored chunks t.nodes (joined_bags t s adding)
   last_joined adding own_adding =
-      is
-      ∙ sym (ap (λ c. stored c t.nodes (joined_bags t s adding)) own_chunks
-      ∙ ap (λ (w : TopologyValue). stored (chunks_at x) w.nodes (joined_bags w s adding)) topology
-      ∙ ap (λ (p : ScheduleValue). stored (chunks_at x) (nodes_of x) (joined_bags x.question.topology p adding)) own
-      ∙ ap (λ n. stored (chunks_at x) (nodes_of x) (joined_bags x.question.topology x.point.schedule n)) own_adding)
+      is ∙ sym (λ i. stored (own_chunks i) (topology i).nodes (joined_bags (topology i) (own i) (own_adding i)))
 
   -- where the point joins no others, every step adds
   pub last_summed : IsShowable x → is_copied x ≡ false → is_joined x.part ≡ false → last ≡ stored chunks t.nodes (last_bags t s)
@@ -71,24 +54,17 @@ module _ (x : Shown) (last : StoreValue) (t : TopologyValue) (chunks : ℕ) (s :
       let all : adding_of x ≡ length x.point.schedule.rounds = adding_is x adds ∙ shows.all_add single in
       is
       ∙ ap (stored (chunks_at x) (nodes_of x)) (adding_throughout (contributions (nodes_of x)) x.point.schedule (adding_of x) (length x.point.schedule.rounds) (omega (arith, all)))
-      ∙ sym (ap (λ c. stored c t.nodes (last_bags t s)) own_chunks
-      ∙ ap (λ (w : TopologyValue). stored (chunks_at x) w.nodes (last_bags w s)) topology
-      ∙ ap (λ (p : ScheduleValue). stored (chunks_at x) (nodes_of x) (last_bags x.question.topology p)) own)
+      ∙ sym (λ i. stored (own_chunks i) (topology i).nodes (last_bags (topology i) (own i)))
 
 -- ---- the verdict on it
 
 module _ (x : Shown) (shows : IsShowable x) (t : TopologyValue) (s : ScheduleValue) (topology : t ≡ x.question.topology) (own : s ≡ x.point.schedule) where
   pub joined_told : is_joined x.part ≡ true → (chunks adding : ℕ) → chunks ≡ chunks_at x → adding ≡ adding_of x → joined_verdict_of t chunks s adding ≡ summed_verdict x
   joined_told joins chunks adding own_chunks own_adding =
-      ap (λ n. joined_verdict_of t n s adding) own_chunks
-      ∙ ap (λ (w : TopologyValue). joined_verdict_of w (chunks_at x) s adding) topology
-      ∙ ap (λ (p : ScheduleValue). joined_verdict_of x.question.topology (chunks_at x) p adding) own
-      ∙ ap (joined_verdict_of x.question.topology (chunks_at x) x.point.schedule) own_adding
+      (λ i. joined_verdict_of (topology i) (own_chunks i) (own i) (own_adding i))
       ∙ judged_everywhere x.question.topology (chunks_at x) (demand_at x) x.point.schedule (adding_of x) (shows.everywhere joins)
 
   pub summed_told : is_copied x ≡ false → is_joined x.part ≡ false → (demand : PlacementValue) → demand ≡ demand_at x → sum_verdict_of t demand s ≡ summed_verdict x
   summed_told adds single demand own_demand =
-      ap (λ (w : TopologyValue). sum_verdict_of w demand s) topology
-      ∙ ap (λ (d : PlacementValue). sum_verdict_of x.question.topology d s) own_demand
-      ∙ ap (sum_verdict_of x.question.topology (demand_at x)) own
+      (λ i. sum_verdict_of (topology i) (own_demand i) (own i))
       ∙ judged_adding x.question.topology (demand_at x) x.point.schedule (adding_of x) (omega (arith, adding_is x adds, shows.all_add single))

@@ -11,8 +11,8 @@ use Rattle.replay_text.specs.{Points.IsShowable, Showing.{Shown, adding_of, chun
 pub below_same : {E : Type 0} (made : Result (List (List Op)) E) (m n : ℕ) (s t : ScheduleValue) → m ≡ n → s ≡ t
     → IfOk made (λ programs. (chunks : ℕ) → IsInRange chunks m s → AreBelow chunks m programs) → IfOk made (λ programs. (chunks : ℕ) → IsInRange chunks n t → AreBelow chunks n programs)
 below_same made m n s t nodes schedule below =
-    let P : ℕ → ScheduleValue → Type 0 = λ k u. IfOk made (λ programs. (chunks : ℕ) → IsInRange chunks k u → AreBelow chunks k programs) in
-    subst (P n) schedule (subst (λ k. P k s) nodes below)
+    let same : (m, s) ≡ (n, t) = λ i. (nodes i, schedule i) in
+    subst (λ (x : ℕ × ScheduleValue). IfOk made (λ programs. (chunks : ℕ) → IsInRange chunks x.0 x.1 → AreBelow chunks x.0 programs)) same below
 
 -- they name what the start has
 pub below_start : (x : Shown) (start : StoreValue) (programs : List (List Op)) → IsShowable x → start ≡ stored (chunks_at x) (nodes_of x) (start_bags x)
@@ -21,7 +21,7 @@ below_start x start programs shows is below = subst (λ (s : StoreValue). AreBel
 
 -- the machine is that of the point
 pub machine_is : (x : Shown) (start : StoreValue) (programs : List (List Op)) (m : State) → start ≡ stored (chunks_at x) (nodes_of x) (start_bags x) → programs ≡ programs_of (nodes_of x) x.point.schedule (adding_of x) → m ≡ started programs start → m ≡ machine_of x
-machine_is x start programs m is of made = made ∙ ap (λ p. started p start) of ∙ ap (started (programs_of (nodes_of x) x.point.schedule (adding_of x))) is
+machine_is x start programs m is of made = made ∙ (λ i. started (of i) (is i))
 
 -- lists that are made of numbers, each as long as the others
 all_as_long : {X : Type 0} (f : X → List ℕ) (g : ℕ → List ℕ) (n : ℕ) (xs : List X) (numbers : List ℕ) → map f xs ≡ map g numbers → ((number : ℕ) → length (g number) ≡ n) → AllByRecursion (λ x. length (f x) ≡ n) xs

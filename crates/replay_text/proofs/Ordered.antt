@@ -21,8 +21,8 @@ order_events names start s adding seed nodes programs first last moves drawn val
     let stands : m ≡ machine_of start.chunks start.nodes bags s adding = ap (started (programs_of start.nodes s adding)) kept in
     let last_one = ends start.chunks start.nodes bags s adding valid range (machine ∙ stands) in
     let events : length drawn ≡ operations m = ap length same ∙ last_one.events ∙ sym (ap operations stands) in
-    ap (λ n. text_of (move_lines names seed n drawn)) events
-    ∙ ap (λ ns. text_of (move_lines names seed (operations m) ns)) (same ∙ picked ∙ ap (λ k. chosen k seed) machine)
+    let all : drawn ≡ chosen m seed = same ∙ picked ∙ ap (λ k. chosen k seed) machine in
+    λ i. text_of (move_lines names seed (events i) (all i))
 
 -- steps, verdict and what stands behind it, appended one after the other
 run_text : (steps more : List (List (List ℕ))) (verdict : List (List ℕ)) (a b c d : List ℕ) → b ≡ a ++ text_of steps → c ≡ b ++ line verdict → d ≡ c ++ text_of more → d ≡ a ++ text_of (steps ++ (verdict ∷ more))
@@ -50,6 +50,4 @@ stored_text names start s adding v order shown run a b c d ran seen p q r bags f
     let machine : started (programs_of start.nodes s adding) start ≡ m = ap (started (programs_of start.nodes s adding)) from in
     run_text (numbered_steps 0 steps) (more_lines names m steps (if says_sums v then order else None)) (sum_words names v) a b c d
     (p ∙ ap (λ k. a ++ text_of (numbered_steps 0 k)) all) q
-    (r ∙ ap (λ k. c ++ text_of (more_lines names k (map (store_lines names) run) shown)) machine
-    ∙ ap (λ k. c ++ text_of (more_lines names m k shown)) all
-    ∙ ap (λ o. c ++ text_of (more_lines names m steps o)) seen)
+    (r ∙ (λ i. c ++ text_of (more_lines names (machine i) (all i) (seen i))))

@@ -1,8 +1,9 @@
 -- What a search has found when it has passed some candidates, in its order (Cai et al., PPoPP 2021, Pareto-optimal schedules).
-use Rattle.std.specs.Prelude.{◌≡◌, ◌↔◌, ◌-◌, ◌<◌, ◌⊎◌, ℕ, Bool, true, false, List, [], ◌∷◌, ◌++◌, Some, length, slice_get, map, filter, All, AllPairs, Contains}
+use Rattle.std.specs.Prelude.{◌≡◌, ◌↔◌, ◌-◌, ◌<◌, ◌⊎◌, Bool, true, false, ℕ, List, [], ◌∷◌, ◌++◌, Some, length, get_or, slice_get, map, filter, All, AllPairs, Contains}
 use Rattle.schedule.specs.Sends.{ScheduleValue}
 use Rattle.candidate_order.specs.{declared.{candidate.Candidate.Candidate, mark.Mark.{Mark, TheVariants.{Optimal, Open}}}, Costs.{NoWorse, Better, Before}}
-use Rattle.candidate_order.specs.Frontiers.{QuestionValue, PointValue, UnknownValue, FrontierValue, solved, given_up, IsWithin, IsSolvable, IsAnswered, IsWorthTrying}
+use Rattle.candidate_order.specs.{declared.outcome.Outcome.Outcome, Frontiers.{QuestionValue, PointValue, FrontierValue, solved, given_up, IsWithin, IsSolvable}}
+use Rattle.candidate_order.specs.declared.outcome.Outcome.TheVariants as outcome
 use Rattle.engine_rules.specs.{declared.settled.Settled.Settled, Outcomes.{RecordValue, SolvesTightly}}
 use Rattle.engine_rules.specs.declared.settled.Settled.TheVariants as settled
 
@@ -22,9 +23,9 @@ pub record IsStep (q : QuestionValue) (step : ℕ) (listed : List Candidate) : T
   pub members : (x : Candidate) → Contains listed x ↔ ((x.s ≡ step) × IsWithin q x)
   pub ascends : AllPairs Before listed
 
--- those of fewer steps, and these
-abbrev pub IsThrough : QuestionValue → ℕ → List Candidate → Candidate → Type 0
-IsThrough q steps listed x = HasFewerSteps q steps x ⊎ Contains listed x
+-- those of fewer steps, and the first so many of these
+abbrev pub IsThrough : QuestionValue → ℕ → List Candidate → ℕ → Candidate → Type 0
+IsThrough q steps these i x = HasFewerSteps q steps x ⊎ ((j : ℕ) × (j < i) × (j < length these) × (get_or these j x ≡ x))
 
 -- the two kinds are one
 abbrev pub is_same : Settled → Settled → Bool
@@ -41,9 +42,24 @@ of_kind kind entries = map (λ entry. entry.0) (filter (λ entry. is_same kind e
 abbrev pub IsSettled : RecordValue → Candidate → Type 0
 IsSettled entries x = (kind : Settled) × Contains entries (x, kind)
 
+-- no earlier point of the record is no worse
+abbrev pub IsWorth : RecordValue → Candidate → Type 0
+IsWorth entries x = (p : Candidate) → Contains entries (p, settled.Solved) → Before p x → NoWorse p x → ⊥
+
+-- the candidate was settled, since no earlier point is no worse; or it was not, since one is
+abbrev pub IsJudged : RecordValue → Candidate → Type 0
+IsJudged entries x =
+    (IsSettled entries x × IsWorth entries x) ⊎ ((IsSettled entries x → ⊥) × ((p : Candidate) × Contains entries (p, settled.Solved) × Before p x × NoWorse p x))
+
+-- those that the lists say were settled so
+abbrev pub listed : Settled → FrontierValue → List Candidate
+listed settled.Solved f = solved f
+listed settled.Refuted f = f.refuted
+listed settled.Unknown f = given_up f
+
 -- no candidate that was given up is better
 abbrev pub IsUnrivalled : List Candidate → Candidate → Type 0
-IsUnrivalled unknown x = All (λ u. Better u x → ⊥) unknown
+IsUnrivalled unknown x = (u : Candidate) → Contains unknown u → Better u x → ⊥
 
 -- the last of the points is no worse
 abbrev pub LastSettles : List PointValue → Candidate → Type 0
@@ -60,25 +76,23 @@ pub record IsFound (q : QuestionValue) (suits : Candidate → ScheduleValue → 
   pub suited : suits p.candidate p.schedule
   pub mark : IsMark unknown p.candidate p.mark
 
--- the lists with one more
-abbrev pub with_point : FrontierValue → PointValue → FrontierValue
-with_point f p = record { points = f.points ++ p ∷ []; refuted = f.refuted; unknown = f.unknown }
+-- the lists with what came of a candidate
+abbrev pub IsAdded : Candidate → Outcome → FrontierValue → FrontierValue → Type 0
+IsAdded x (outcome.Solved s) f g =
+    (mark : Mark) × IsMark (given_up f) x mark × (g ≡ record f { points = f.points ++ record { candidate = x; schedule = s; mark = mark } ∷ [] })
+IsAdded x outcome.Refuted f g = g ≡ record f { refuted = f.refuted ++ x ∷ [] }
+IsAdded x (outcome.Unknown n) f g = g ≡ record f { unknown = f.unknown ++ record { candidate = x; conflicts = n } ∷ [] }
 
-abbrev pub with_refuted : FrontierValue → Candidate → FrontierValue
-with_refuted f x = record { points = f.points; refuted = f.refuted ++ x ∷ []; unknown = f.unknown }
-
-abbrev pub with_unknown : FrontierValue → UnknownValue → FrontierValue
-with_unknown f u = record { points = f.points; refuted = f.refuted; unknown = f.unknown ++ u ∷ [] }
-
--- the engine's record ascends and holds candidates that were passed, by whose kinds they stand in the lists; each that was passed is answered, and was settled just where no earlier point is no worse
-pub record HasPassed (q : QuestionValue) (suits : Candidate → ScheduleValue → Type 0) (passed : Candidate → Type 0) (entries : RecordValue) (f : FrontierValue) : Type 0 where
-  pub ascends : AllPairs (λ a b. Before a.0 b.0) entries
-  pub were_passed : All (λ entry. passed entry.0) entries
-  pub solved_are : solved f ≡ of_kind settled.Solved entries
-  pub refuted_are : f.refuted ≡ of_kind settled.Refuted entries
-  pub unknown_are : given_up f ≡ of_kind settled.Unknown entries
+-- what the lists say is right
+pub record IsSaid (q : QuestionValue) (suits : Candidate → ScheduleValue → Type 0) (f : FrontierValue) : Type 0 where
   pub points : All (IsFound q suits (given_up f)) f.points
   pub refuted : All (λ x. IsSolvable q x → ⊥) f.refuted
   pub unknown : All (λ u. u.conflicts ≡ q.limits.conflicts) f.unknown
-  pub answered : (x : Candidate) → passed x → IsAnswered f x
-  pub tried : (x : Candidate) → passed x → IsSettled entries x ↔ IsWorthTrying f x
+
+-- the engine's record ascends and holds candidates that were passed, by whose kinds they stand in the lists; each that was passed is judged
+pub record HasPassed (q : QuestionValue) (suits : Candidate → ScheduleValue → Type 0) (passed : Candidate → Type 0) (entries : RecordValue) (f : FrontierValue) : Type 0 where
+  pub ascends : AllPairs (λ a b. Before a.0 b.0) entries
+  pub were_passed : All (λ entry. passed entry.0) entries
+  pub lists : (kind : Settled) → listed kind f ≡ of_kind kind entries
+  pub said : IsSaid q suits f
+  pub judged : (x : Candidate) → passed x → IsJudged entries x

@@ -1,5 +1,4 @@
-use Rattle.std.proofs.Common.{sym}
-use Rattle.candidate_order.specs.Copied.{copied_spec}
+use Rattle.std.proofs.Common.{arith}
 use Rattle.candidate_formula.proofs.{Copying.{same_allowed, copied_stays}, CopyingQuestions.{small_by_copying, within_by, reduced_formula, copied_suits}}
 use Rattle.candidate_formula.proofs.TurnedSize.{copied_size}
 use Rattle.candidate_formula.proofs.laws.reductions_are_sought_by_copying.Goals as goal
@@ -8,10 +7,7 @@ pub returns-clause-small : goal.returns-clause-small
 returns-clause-small c = small_by_copying
 
 pub returns-clause-within : goal.returns-clause-within
-returns-clause-within c = λ q x. (
-  within_by q.topology q.limits x (copied_spec q.spec) q.spec (same_allowed q.spec q.topology.nodes x.c),
-  within_by q.topology q.limits x q.spec (copied_spec q.spec) (sym (same_allowed q.spec q.topology.nodes x.c)),
-)
+returns-clause-within c = grind (arith, within_by, same_allowed)
 
 pub returns-clause-formula : goal.returns-clause-formula
 returns-clause-formula c = reduced_formula

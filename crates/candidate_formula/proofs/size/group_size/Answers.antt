@@ -7,14 +7,10 @@ few_links : (l c : ℕ) → l ≤ 256 → c < 65536 → l * c * 1 ≤ 134217728
 few_links l c links chunks = few_counted l c 1 links chunks (omega arith)
 
 pub overflow_mul-counted : goal.overflow_mul-counted
-overflow_mul-counted c =
-    let links : length c.links.result.now ≤ 256 = omega (arith, ap length c.links.ensures.links) in
-    omega (arith, few_links (length c.links.result.now) c.from.result links (omega arith))
+overflow_mul-counted c = grind (arith, few_links)
 
 pub overflow_mul-counted-2 : goal.overflow_mul-counted-2
-overflow_mul-counted-2 c =
-    let links : length c.links.result.now ≤ 256 = omega (arith, ap length c.links.ensures.links) in
-    omega (arith, few_counted (length c.links.result.now) c.from.result c.from-2.result links (omega arith) (omega arith))
+overflow_mul-counted-2 c = grind (arith, few_counted)
 
 pub overflow_mul-result-2 : goal.overflow_mul-result-2
 overflow_mul-result-2 c =

@@ -6,9 +6,7 @@ pub loop-step-preserved : goal.loop-step-preserved
 loop-step-preserved c = step_pushed c.args.schedule.now c.args.adding c.loop-step.step c.args.nodes c.sends_of-sends.result.now _ _ c.sends_of-sends.ensures.sends c.loop-step.invariant c.in_ok-push_step.ensures
 
 pub returns-clause-programs : goal.returns-clause-programs
-returns-clause-programs c =
-    let all : c.loop-step.step ≡ length c.args.schedule.now.rounds = omega (arith, ap length c.rounds-steps.ensures.rounds) in
-    c.new.ensures ∙ c.loop-step.invariant ∙ ap (λ n. each c.args.nodes (first_steps c.args.schedule.now c.args.adding n)) all
+returns-clause-programs c = grind (arith, each, first_steps)
 
 pub returns-clause-nodes : goal.returns-clause-nodes
 returns-clause-nodes c =

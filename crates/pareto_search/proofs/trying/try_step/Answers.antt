@@ -1,4 +1,4 @@
-use Rattle.std.proofs.{Common.{◌≡◌, ◌+◌, get_or, take, length, subst, sym, ◌∙◌, arith}, lemmas.List.get_or_default}
+use Rattle.std.proofs.{Common.{◌≡◌, ◌+◌, get_or, length, subst, sym, ◌∙◌, arith}, lemmas.List.get_or_default}
 use Rattle.collective_spec.specs.Collectives.{kind_in}
 use Rattle.candidate_order.specs.declared.candidate.Candidate.{Candidate}
 use Rattle.engine_rules.proofs.Searches.{same_refl, same_trans}
@@ -21,7 +21,7 @@ loop-candidate-init g c =
     let step = listed_step q c.args.limits.now c.args.allowed.now c.args.step c.in_ok-candidates.candidates.items xs c.requires.limits c.requires.allowed c.requires.some_step c.requires.step made.members made.order c.deref-candidate-items.ensures.value in
     record {
       step = step;
-      passed = replaced q (I.suits e) (HasFewerSteps q c.args.step) (IsThrough q c.args.step (take 0 xs)) (I.entries e) c.args.findings.now (none_yet q c.args.step xs step) c.requires.passed;
+      passed = replaced q (I.suits e) (HasFewerSteps q c.args.step) (IsThrough q c.args.step xs 0) (I.entries e) c.args.findings.now (none_yet q c.args.step xs step) c.requires.passed;
       within = starts_within q (HasFewerSteps q c.args.step) (I.entries e) (I.stopped e) (λ x h. h.0) c.requires.passed.were_passed c.requires.running;
       same = same_refl;
       moves = g.met.E.Engine.moves_refl e c.args.store.now;
@@ -47,7 +47,7 @@ try_candidate-requires-clause-passed g c =
     let none : Candidate = record { s = 0; r = 0; c = 0 } in
     let here = get_or xs i none in
     let before = before_here q c.args.step xs l.invariant.step i here c.loop-candidate-test.true (get_or_default xs i none here c.loop-candidate-test.true) in
-    replaced q (I.suits l.engine) (IsThrough q c.args.step (take i xs)) (IsBefore q here) (I.entries l.engine) l.findings before l.invariant.passed
+    replaced q (I.suits l.engine) (IsThrough q c.args.step xs i) (IsBefore q here) (I.entries l.engine) l.findings before l.invariant.passed
 
 pub loop-candidate-preserved : goal.loop-candidate-preserved
 loop-candidate-preserved g c =
@@ -64,7 +64,7 @@ loop-candidate-preserved g c =
     let through = up_to_here q c.args.step xs step i here c.loop-candidate-test.true (get_or_default xs i none here c.loop-candidate-test.true) in
     record {
       step = step;
-      passed = replaced q (I.suits e) (IsUpTo q here) (IsThrough q c.args.step (take (i + 1) xs)) (I.entries e) c.try_candidate.new.findings through done.passed;
+      passed = replaced q (I.suits e) (IsUpTo q here) (IsThrough q c.args.step xs (i + 1)) (I.entries e) c.try_candidate.new.findings through done.passed;
       within = subst (λ a. StaysWithin a (I.entries e) (I.stopped e)) l.invariant.same.question done.within;
       same = same_trans l.invariant.same done.same;
       moves = g.met.E.Engine.moves_trans _ _ _ _ _ _ l.invariant.moves done.moves;
@@ -79,5 +79,5 @@ returns-clause-passed g c =
     let q = I.question l.engine in
     let xs = c.deref-candidate-items.result.now in
     let end : l.candidate-index ≡ length xs = omega (arith, l.auto.candidate-index-end, c.loop-candidate-test.false) in
-    let through = subst (λ n. HasPassed q (I.suits l.engine) (IsThrough q c.args.step (take n xs)) (I.entries l.engine) l.findings) end l.invariant.passed in
-    replaced q (I.suits l.engine) (IsThrough q c.args.step (take (length xs) xs)) (HasFewerSteps q (c.args.step + 1)) (I.entries l.engine) l.findings (whole_step q c.args.step xs l.invariant.step) through
+    let through = subst (λ n. HasPassed q (I.suits l.engine) (IsThrough q c.args.step xs n) (I.entries l.engine) l.findings) end l.invariant.passed in
+    replaced q (I.suits l.engine) (IsThrough q c.args.step xs (length xs)) (HasFewerSteps q (c.args.step + 1)) (I.entries l.engine) l.findings (whole_step q c.args.step xs l.invariant.step) through

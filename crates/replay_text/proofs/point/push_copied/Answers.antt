@@ -1,6 +1,7 @@
 use Rattle.std.proofs.Common.{◌≡◌, ◌∙◌, ap, refl}
+use Rattle.collective_spec.specs.Collectives.{spec_instance}
 use Rattle.topology_text.specs.Value.{NamedTopologyValue}
-use Rattle.replay_text.{specs.Showing.{nodes_of, shown_in}, proofs.{Lines.append_same, Bodies.{copied_lines, instance_is}}}
+use Rattle.replay_text.{specs.Showing.{nodes_of, shown_in}, proofs.{Lines.append_same, Bodies.{copied_lines, made_of}}}
 use Rattle.replay_text.proofs.point.push_copied.Goals as goal
 
 pub returns : goal.returns
@@ -13,6 +14,6 @@ returns c =
     (copied_lines x c.requires.copied c.names.result.now c.topology-topology.result.now i i.pre i.post c.schedule-schedule.result.now c.solves_by_run-verdict.result c.args.order
     (c.names.ensures.names ∙ ap (λ (t : NamedTopologyValue). t.names) c.topology-named.ensures.topology)
     (c.topology-topology.ensures.topology ∙ ap (λ (t : NamedTopologyValue). t.topology) c.topology-named.ensures.topology)
-    (instance_is x i c.args.spec.now c.nodes.result c.candidate.result.c c.requires.spec nodes count c.in_ok-pre.ensures)
+    (made_of spec_instance x i c.args.spec.now c.nodes.result c.candidate.result.c c.requires.spec nodes count c.in_ok-pre.ensures)
     refl refl c.schedule-schedule.ensures c.solves_by_run-verdict.ensures)
     c.push_placed_run.ensures

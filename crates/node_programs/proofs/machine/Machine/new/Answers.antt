@@ -1,4 +1,4 @@
-use Rattle.std.proofs.Common.{◌≡◌, ◌∙◌, ap}
+use Rattle.std.proofs.Common.{arith, ◌≡◌, ◌∙◌, ap}
 use Rattle.node_programs.{specs.Queues.new_queues, proofs.{Firing.state_of, Founding.{machine_new, state_new}}}
 use Rattle.node_programs.proofs.machine.Machine.new.Goals as goal
 
@@ -8,6 +8,4 @@ invariant_of-result c =
     rw queues (machine_new c.args.start.chunks c.args.start.nodes c.args.programs c.requires.nodes c.requires.in_range)
 
 pub returns : goal.returns
-returns c =
-    let queues : c.in_ok-queues.queues.items ≡ new_queues c.args.start.nodes c.args.programs = c.in_ok-queues.ensures ∙ ap (λ n. new_queues n c.args.programs) c.nodes.ensures.nodes in
-    ap (state_of c.args.programs c.args.start) queues ∙ state_new c.args.programs c.args.start c.requires.nodes
+returns c = grind (arith, state_of, state_new)
