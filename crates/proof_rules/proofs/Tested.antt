@@ -91,8 +91,7 @@ module _ (c : CheckerValue) (line : ProofLineValue) where
   rat_by h = grind (arith, nat_tests, resolved_by, new_by c line)
 
   pub by_rat : Redundant c line → is_rat c line ≡ true
-  by_rat r =
-      grind (arith, list_all-from_AllPass (closes_one c.held r.pivot r.start) groups, by_answering c.held r.pivot r.start, by_apart, by_new c line r.new, by_leading c.held line.lits ids r.start r.leads, list_all-from_AllPass (is_answered r.pivot r.start groups) c.held r.each)
+  by_rat r = grind (arith, list_all-from_AllPass, by_answering, by_apart, by_new, by_leading)
 
 pub rup_exactly : (c : CheckerValue) (line : ProofLineValue) → (is_rup c line ≡ true) ↔ Implied c line
 rup_exactly c line = (rup_by c line, by_rup c line)
@@ -108,8 +107,7 @@ same_tests false true there back = back refl
 same_tests false false there back = refl
 
 pub rup_said : (c : CheckerValue) (line : ProofLineValue) → is_rup c line ≡ is_implied (verdict_of c line)
-rup_said c line =
-    grind (arith, nat_tests, by_implied c line, rup_by c line, by_rup c line, implied_by c line)
+rup_said c line = grind (arith, nat_tests, by_implied, rup_by, by_rup, implied_by)
 
 accepted_said : (c : CheckerValue) (line : ProofLineValue) → (is_rup c line || is_rat c line) ≡ is_accepted (verdict_of c line)
 accepted_said c line =
