@@ -42,15 +42,6 @@ abbrev in_range : ℕ → LitValue → Bool
 in_range vars l = nat_lt 0 l.var && nat_le l.var vars
 
 module _ (c : CheckerValue) (line : ProofLineValue) where
-  abbrev is_above : Bool
-  is_above = nat_lt (max (length c.formula.clauses) c.greatest) line.id
-
-  abbrev are_own : Bool
-  are_own = list_all (in_range c.formula.vars) line.lits
-
-  abbrev is_once : Bool
-  is_once = not (has_number_twice (map (λ l. l.var) line.lits))
-
   new_by : is_new c line ≡ true → IsNew c line
   new_by h = grind (arith, AllPass-from_list_all (in_range c.formula.vars) line.lits, apart_by)
 
@@ -76,9 +67,6 @@ module _ (c : CheckerValue) (line : ProofLineValue) where
 
   abbrev ids : List ℕ
   ids = leading line.hints
-
-  abbrev are_once : Bool
-  are_once = not (has_number_twice (map (λ group. group.named) groups))
 
   resolved_by : IsNew c line → (lits : List LitValue) (led : Option (Option (List LitValue))) → line.lits ≡ lits → propagated c.held line.lits ids ≡ led → are_resolved c.held groups lits led ≡ true → Redundant c line
   resolved_by new [] led is p h = absurd (false≢true h)
