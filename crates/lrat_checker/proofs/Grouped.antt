@@ -20,10 +20,6 @@ module _ (held : List Entry) (pivot : LitValue) (start : List LitValue) (hints :
   pub group_here : (at n : ℕ) → drop at hints ≡ negsuc n ∷ drop (at + 1) hints → hint_groups_from at (drop at hints) ≡ group_at at (n + 1) ∷ hint_groups_from (at + 1) (drop (at + 1) hints)
   group_here at n e = ap (hint_groups_from at) e
 
-  pub faulty : (named : BTreeSet ℕ) (at n : ℕ) (fault : Fault) (l : Left held pivot start hints named at) → drop at hints ≡ negsuc n ∷ drop (at + 1) hints
-      → group_fault held pivot start l.earlier (group_at at (n + 1)) (clause_at held (n + 1)) ≡ Some fault → groups_fault held pivot start [] (groups_of hints) ≡ Some fault
-  faulty named at n fault l e f = l.fault ∙ ap (groups_fault held pivot start l.earlier) (group_here at n e) ∙ rw (f, groups_fault) refl
-
   swap : (a b c : Bool) → (a || (b || c)) ≡ ((b || a) || c)
   swap a b c = grind arith
 

@@ -54,12 +54,7 @@ fn is_marked(clause: &[Lit], marks: &Marks) -> bool
     requires about { IsClause marks.now.vars clause.now }
     ensures { result ≡ is_superset marks.now.falses clause.now }
 {
-    for lit in clause {
-        if !marks.is_false(*lit) {
-            return false;
-        }
-    }
-    true
+    clause.iter().all(|lit| marks.is_false(*lit))
 }
 
 /// Whether a clause that is led has no bit beside those of the signature, is held, and has every
@@ -75,14 +70,11 @@ fn is_covered(
     requires about { All (IsClause marks.now.vars) clauses.now }
     ensures { result ≡ finds live.now clauses.now marks.now.falses signature led }
 {
-    if led.signature | signature != signature {
-        return false;
-    }
     let place = led.place;
-    if place < live.len() && live[place] {
-        return is_marked(clauses.clause(place), marks);
-    }
-    false
+    led.signature | signature == signature
+        && place < live.len()
+        && live[place]
+        && is_marked(clauses.clause(place), marks)
 }
 
 /// Whether there is such a clause in the list.
@@ -97,10 +89,6 @@ pub(crate) fn has_marked(
     requires about { All (IsClause marks.now.vars) clauses.now }
     ensures { result ≡ list_any (finds live.now clauses.now marks.now.falses signature) list.now }
 {
-    for led in list {
-        if is_covered(live, clauses, *led, marks, signature) {
-            return true;
-        }
-    }
-    false
+    list.iter()
+        .any(|led| is_covered(live, clauses, *led, marks, signature))
 }

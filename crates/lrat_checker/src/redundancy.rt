@@ -36,6 +36,7 @@ fn assume_others(marks: &mut Marks, pivot: Lit, clause: &[Lit]) -> Result<bool, 
 }
 
 /// The fault of the group at a place, which is for this clause. Its marks stay.
+#[tactic(auto, using(crate::proofs::Taken::extends_both))]
 fn close(
     table: &ClauseTable,
     marks: &mut Marks,

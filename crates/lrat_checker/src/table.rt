@@ -174,12 +174,7 @@ fn are_answered(
 pub(crate) fn has_negated(pivot: Lit, clause: &[Lit]) -> bool
     ensures { result ≡ Rattle.proof_rules.specs.Accepting.has_negated pivot clause.now }
 {
-    for lit in clause {
-        if *lit == pivot.negated() {
-            return true;
-        }
-    }
-    false
+    clause.iter().any(|lit| *lit == pivot.negated())
 }
 
 impl ClauseTable {

@@ -67,8 +67,7 @@ all_calm (line ∷ lines) c a q = grind (arith, all_calm lines (with_accepted c 
 
 start_holds : (values : List Bool) (clauses : List (List LitValue)) (n : ℕ) → all_hold values clauses ≡ true → All (Holds (value_of values)) (enumerate_from n clauses)
 start_holds values [] n h = All-nil (Holds (value_of values))
-start_holds values (clause ∷ clauses) n h =
-    grind (arith, start_holds values clauses (n + 1))
+start_holds values (clause ∷ clauses) n h = grind (arith, start_holds values clauses (n + 1))
 
 pub starts_calm : (f : FormulaValue) → Satisfiable f → Calm (start_of f)
 starts_calm f s =

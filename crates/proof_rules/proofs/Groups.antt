@@ -44,8 +44,7 @@ module _ (held : List Entry) (pivot : LitValue) (start : List LitValue) where
 
   pub right : (earlier : List ℕ) (groups : List Group) → groups_fault held pivot start earlier groups ≡ None → AreRight earlier groups
   right earlier [] h = record { answers = All-nil (Answers held pivot start); new = All-nil (New earlier); apart = λ i j d a b. absurd (omega (arith, b)) }
-  right earlier (group ∷ groups) h =
-      grind (arith, right (group.named ∷ earlier) groups, one_answers, AllPairs-cons Apart group groups)
+  right earlier (group ∷ groups) h = grind (arith, one_answers, AllPairs-cons, right (group.named ∷ earlier) groups)
 
   pub no_fault : (earlier : List ℕ) (groups : List Group) → AreRight earlier groups → groups_fault held pivot start earlier groups ≡ None
   no_fault earlier [] r = refl

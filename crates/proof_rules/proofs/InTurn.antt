@@ -22,8 +22,7 @@ implied_accepted (l ∷ lines) c all = grind (arith, acceptance_said c (Addition
 -- lines are learned where each follows and is fresh
 pub are_learned_by : (lines : List ProofLineValue) (c : CheckerValue) → AllImplied c lines → AllFresh c lines → are_learned c (map Addition lines) ≡ true
 are_learned_by [] c all fresh = refl
-are_learned_by (l ∷ lines) c all fresh =
-    grind (arith, by_rup c l (implied_by c l all.0), are_learned_by lines (with_line c l) all.1 fresh.1)
+are_learned_by (l ∷ lines) c all fresh = grind (arith, by_rup, implied_by, are_learned_by lines (with_line c l) all.1 fresh.1)
 
 pub learned_in_turn : (lines : List ProofLineValue) (c : CheckerValue) → are_learned c (map Addition lines) ≡ true → AllImplied c lines × AllFresh c lines
 learned_in_turn [] c h = (tt, tt)

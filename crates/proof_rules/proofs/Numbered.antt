@@ -40,9 +40,7 @@ start_found n [] = All-nil (Found [])
 start_found n (clause ∷ clauses) = grind (arith, above (n + 1) clauses, start_found (n + 1) clauses)
 
 pub start_numbered : (clauses : List (List LitValue)) → Numbered (enumerate_from 1 clauses) (length clauses + 1)
-start_numbered clauses =
-    let b = below 1 clauses in
-    record { found = start_found 1 clauses; below = λ k d w. let a = b k d w in omega (arith, a) }
+start_numbered clauses = grind (arith, below, start_found)
 
 -- ---- one more
 
@@ -52,12 +50,10 @@ kept (entry ∷ held) more id clause h = grind (arith, kept held more id clause)
 
 at_end : (held : List Entry) (id : ℕ) (clause : List LitValue) → All (Below id) held → clause_at (held ++ (id, clause) ∷ []) id ≡ Some clause
 at_end [] id clause b = here [] id clause
-at_end (entry ∷ held) id clause b =
-    grind (arith, All-head (Below id) entry held b, at_end held id clause (All-tail (Below id) entry held b))
+at_end (entry ∷ held) id clause b = grind (arith, All-head, All-tail, at_end held id clause (All-tail (Below id) entry held b))
 
 pub more_numbered : (held : List Entry) (n id : ℕ) (clause : List LitValue) → n ≤ id → Numbered held n → Numbered (held ++ (id, clause) ∷ []) (id + 1)
-more_numbered held n id clause high m =
-    grind (arith, common_steps, kept held ((id, clause) ∷ []), at_end held id clause)
+more_numbered held n id clause high m = grind (arith, common_steps, kept, at_end)
 
 -- ---- fewer
 

@@ -82,12 +82,6 @@ by_closing held ids falses [] c = by_conflict held falses ids c
 by_closing held ids falses (l ∷ ls) c = grind (arith, by_closing held ids (l ∷ falses) ls)
 
 module _ (held : List Entry) (pivot : LitValue) (start : List LitValue) (group : Group) where
-  abbrev closes_found : Option (List LitValue) → Bool
-  closes_found found = elim found [
-    | None ↦ false
-    | Some clause ↦ has_negated pivot clause && closes held group.hints start (without_negated pivot clause)
-  ]
-
   pub answers_by : closes_one held pivot start group ≡ true → Answers held pivot start group
   answers_by h = grind (arith, closes_by)
 

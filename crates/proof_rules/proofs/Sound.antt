@@ -124,5 +124,4 @@ module _ (v : ℕ → Bool) (p : LitValue) where
         (or_cases (g.named == entry.0) (list_any (λ group. group.named == entry.0) gs) t)
 
     pub entry_holds : (entry : Entry) → clause_at held entry.0 ≡ Some (entry.1) → Holds v entry → is_answered p start groups entry ≡ true → Holds w entry
-    entry_holds entry found so answered =
-        grind (arith, other_holds entry.1, without_it entry.1, by_group groups answers entry found, some_so (without_negated p entry.1))
+    entry_holds entry found so answered = grind (arith, other_holds, without_it, by_group, some_so)

@@ -20,8 +20,7 @@ none_open falses (x ∷ clause) h = grind (arith, none_open falses clause)
 
 pub open_none : (falses clause : List LitValue) → All (IsFalse falses) clause → open_literals falses clause ≡ []
 open_none falses [] h = refl
-open_none falses (x ∷ clause) h =
-    grind (arith, All-head (IsFalse falses) x clause h, open_none falses clause (All-tail (IsFalse falses) x clause h))
+open_none falses (x ∷ clause) h = grind (arith, All-head, All-tail, open_none falses clause (All-tail (IsFalse falses) x clause h))
 
 -- the literals that are not false are all one
 pub rest_is : (falses clause : List LitValue) (l : LitValue) → list_all (same_literal l) (open_literals falses clause) ≡ true → All (FalseOrIs falses l) clause
@@ -30,8 +29,7 @@ rest_is falses (x ∷ clause) l h = grind (arith, rest_is falses clause l)
 
 pub is_rest : (falses clause : List LitValue) (l : LitValue) → All (FalseOrIs falses l) clause → list_all (same_literal l) (open_literals falses clause) ≡ true
 is_rest falses [] l h = refl
-is_rest falses (x ∷ clause) l h =
-    grind (arith, is_rest falses clause l (All-tail (FalseOrIs falses l) x clause h), All-head (FalseOrIs falses l) x clause h)
+is_rest falses (x ∷ clause) l h = grind (arith, All-tail, All-head, is_rest falses clause l (All-tail (FalseOrIs falses l) x clause h))
 
 -- the first literal that is not false stands in the clause
 pub first_open : (falses clause : List LitValue) (l : LitValue) (ls : List LitValue) → open_literals falses clause ≡ l ∷ ls → (has_literal clause l ≡ true) × (has_literal falses l ≡ false)

@@ -42,15 +42,6 @@ abbrev in_range : ℕ → LitValue → Bool
 in_range vars l = nat_lt 0 l.var && nat_le l.var vars
 
 module _ (c : CheckerValue) (line : ProofLineValue) where
-  abbrev is_above : Bool
-  is_above = nat_lt (max (length c.formula.clauses) c.greatest) line.id
-
-  abbrev are_own : Bool
-  are_own = list_all (in_range c.formula.vars) line.lits
-
-  abbrev is_once : Bool
-  is_once = not (has_number_twice (map (λ l. l.var) line.lits))
-
   new_by : is_new c line ≡ true → IsNew c line
   new_by h = grind (arith, AllPass-from_list_all (in_range c.formula.vars) line.lits, apart_by)
 
@@ -77,9 +68,6 @@ module _ (c : CheckerValue) (line : ProofLineValue) where
   abbrev ids : List ℕ
   ids = leading line.hints
 
-  abbrev are_once : Bool
-  are_once = not (has_number_twice (map (λ group. group.named) groups))
-
   resolved_by : IsNew c line → (lits : List LitValue) (led : Option (Option (List LitValue))) → line.lits ≡ lits → propagated c.held line.lits ids ≡ led → are_resolved c.held groups lits led ≡ true → Redundant c line
   resolved_by new [] led is p h = absurd (false≢true h)
   resolved_by new (pivot ∷ rest) None is p h = absurd (false≢true h)
@@ -91,8 +79,7 @@ module _ (c : CheckerValue) (line : ProofLineValue) where
   rat_by h = grind (arith, nat_tests, resolved_by, new_by c line)
 
   pub by_rat : Redundant c line → is_rat c line ≡ true
-  by_rat r =
-      grind (arith, list_all-from_AllPass (closes_one c.held r.pivot r.start) groups, by_answering c.held r.pivot r.start, by_apart, by_new c line r.new, by_leading c.held line.lits ids r.start r.leads, list_all-from_AllPass (is_answered r.pivot r.start groups) c.held r.each)
+  by_rat r = grind (arith, list_all-from_AllPass, by_answering, by_apart, by_new, by_leading)
 
 pub rup_exactly : (c : CheckerValue) (line : ProofLineValue) → (is_rup c line ≡ true) ↔ Implied c line
 rup_exactly c line = (rup_by c line, by_rup c line)
@@ -108,8 +95,7 @@ same_tests false true there back = back refl
 same_tests false false there back = refl
 
 pub rup_said : (c : CheckerValue) (line : ProofLineValue) → is_rup c line ≡ is_implied (verdict_of c line)
-rup_said c line =
-    grind (arith, nat_tests, by_implied c line, rup_by c line, by_rup c line, implied_by c line)
+rup_said c line = grind (arith, nat_tests, by_implied, rup_by, by_rup, implied_by)
 
 accepted_said : (c : CheckerValue) (line : ProofLineValue) → (is_rup c line || is_rat c line) ≡ is_accepted (verdict_of c line)
 accepted_said c line =

@@ -14,9 +14,7 @@ InRange vars entry = IsClause vars entry.1
 
 start_in_range : (vars : ℕ) (clauses : List (List LitValue)) (n : ℕ) → All (IsClause vars) clauses → All (InRange vars) (enumerate_from n clauses)
 start_in_range vars [] n h = All-nil (InRange vars)
-start_in_range vars (clause ∷ clauses) n h =
-    All-cons (InRange vars) (n, clause) (enumerate_from (n + 1) clauses) (All-head (IsClause vars) clause clauses h)
-    (start_in_range vars clauses (n + 1) (All-tail (IsClause vars) clause clauses h))
+start_in_range vars (clause ∷ clauses) n h = grind (arith, All-cons, All-head, All-tail, start_in_range vars clauses (n + 1) (All-tail (IsClause vars) clause clauses h))
 
 -- of the formula that a checker began with, and about its variables
 record Kept (f : FormulaValue) (c : CheckerValue) : Type 0 where
@@ -41,8 +39,7 @@ value_listed v vars l a = grind (arith, get_or-map-range_with_len v 1 vars (l.va
 
 clause_listed : (v : ℕ → Bool) (vars : ℕ) (clause : List LitValue) → IsClause vars clause → clause_holds (listed v vars) clause ≡ holds v clause
 clause_listed v vars [] h = refl
-clause_listed v vars (l ∷ clause) h =
-    rw (value_listed v vars l (All-head (IsAbout vars) l clause h), clause_listed v vars clause (All-tail (IsAbout vars) l clause h)) refl
+clause_listed v vars (l ∷ clause) h = grind (arith, value_listed, All-head, All-tail, clause_listed v vars clause (All-tail (IsAbout vars) l clause h))
 
 all_listed : (v : ℕ → Bool) (vars : ℕ) (held : List Entry) → All (InRange vars) held → All (Holds v) held → all_hold (listed v vars) (map (λ entry. entry.1) held) ≡ true
 all_listed v vars [] r h = refl

@@ -21,11 +21,7 @@ once_each (l ∷ ls) h = grind (arith, none_any, once_each ls)
 
 each_once : (ls : List LitValue) → AllPairs Apart ls → has_variable_twice ls ≡ false
 each_once [] p = refl
-each_once (l ∷ ls) p =
-    let head = pairs_head Apart l ls p in
-    or_from (list_any (λ other. other.var == l.var) ls) (has_variable_twice ls)
-    (list_any_none (λ other. other.var == l.var) ls (λ k d w. ne_eqb (get_or ls k d).var l.var (λ e. head k d w (sym e))))
-    (each_once ls (pairs_tail Apart l ls p))
+each_once (l ∷ ls) p = grind (arith, pairs_head Apart l ls p, or_from, list_any_none, ne_eqb, pairs_tail, each_once ls (pairs_tail Apart l ls p))
 
 pub variable_own : (vars : ℕ) (l : LitValue) → IsAbout vars l → is_foreign vars l ≡ false
 variable_own vars l a = or_from (l.var == 0) (nat_lt vars l.var) (ne_eqb l.var 0 (λ e. let s = a.some in absurd (omega (arith, s, e)))) (le-ltb vars l.var a.within)
@@ -48,18 +44,11 @@ pass_all i a b c v ha hb hc hv = rw (ha, hb, hc) hv
 
 is_new : (i : Bool) (c : CheckerValue) (line : ProofLineValue) → verdict_of c line ≡ AcceptedVerdict i → IsNew c line × (led_verdict c.held line ≡ AcceptedVerdict i)
 unfolding checks
-is_new i c line h =
-    grind (arith, none_any, once_each line.lits)
+is_new i c line h = grind (arith, none_any, once_each)
 
 new_is : (i : Bool) (c : CheckerValue) (line : ProofLineValue) → IsNew c line → led_verdict c.held line ≡ AcceptedVerdict i → verdict_of c line ≡ AcceptedVerdict i
 unfolding checks
-new_is i c line a v =
-    let over : max (length c.formula.clauses) c.greatest < line.id = omega (arith, a.above_formula, a.above_lines) in
-    pass_all i (nat_le line.id (max (length c.formula.clauses) c.greatest)) (list_any (λ l. is_foreign c.formula.vars l) line.lits) (has_variable_twice line.lits) (led_verdict c.held line)
-    (lt-leb line.id (max (length c.formula.clauses) c.greatest) over)
-    (list_any_none (λ l. is_foreign c.formula.vars l) line.lits (λ k d w. variable_own c.formula.vars (get_or line.lits k d) (a.in_range k d w)))
-    (each_once line.lits a.once)
-    v
+new_is i c line a v = grind (arith, pass_all, nat_le, lt-leb, list_any_none, variable_own, each_once)
 
 -- ---- the hints
 
@@ -100,12 +89,7 @@ redundant_by c line h =
     go n v (Ok (Some start)) e = grind (arith, redundant_way c.held start (groups_of line.hints) line.lits false, leads c.held line.lits 0 (leading line.hints) start e)
 
 pub by_redundant : (c : CheckerValue) (line : ProofLineValue) → Redundant c line → verdict_of c line ≡ AcceptedVerdict false
-by_redundant c line r =
-    let groups = groups_of line.hints in
-    let rights : AreRight c.held r.pivot r.start [] groups = record { answers = r.answers; new = λ k d w. refl; apart = r.named_once } in
-    let here : redundant_verdict c.held r.start groups (r.pivot ∷ r.rest) ≡ AcceptedVerdict false =
-    rw (no_fault c.held r.pivot r.start [] groups rights, redundant_verdict, list_all-from_AllPass (is_answered r.pivot r.start groups) c.held r.each) refl in
-    new_is false c line r.new (rw (led_by c.held line.lits 0 (leading line.hints) r.start r.leads, led_verdict) (ap (redundant_verdict c.held r.start groups) r.first ∙ here))
+by_redundant c line r = grind (arith, no_fault, list_all-from_AllPass, new_is, led_by)
 
 pub implied_exactly : (c : CheckerValue) (line : ProofLineValue) → (verdict_of c line ≡ AcceptedVerdict true) ↔ Implied c line
 implied_exactly c line = (implied_by c line, by_implied c line)

@@ -47,11 +47,13 @@ pub fn satisfiable_is_never_refuted()
 {}
 
 /// A formula that falls by one line without a literal is exhausted for no number of lines.
+#[tactic(auto, using(crate::proofs::Kept::never_exhausted))]
 pub fn refuted_at_once_is_never_exhausted()
     ensures { (f : FormulaValue) (line : ProofLineValue) (n : ℕ) → line.lits ≡ [] → verdict_of (start_of f) line ≡ LineVerdict.Accepted true → Exhausted f n → ⊥ }
 {}
 
 /// A checker begins with the clauses of a formula, and an accepted line leaves a checker.
+#[tactic(auto, using(crate::proofs::Kept::starts_as_checker, crate::proofs::Kept::stays_checker))]
 pub fn checkers()
     ensures start { (f : FormulaValue) → IsChecker (start_of f) }
     ensures next { (c : CheckerValue) (line : LratLine) → IsChecker c → is_accepted (verdict_on c line) ≡ true → IsChecker (with_accepted c line) }

@@ -1,15 +1,10 @@
-use Rattle.std.proofs.{Common.{◌≡◌, ◌∷◌, ◌++◌, [], map, get_or, take, sym, ap, ◌∙◌, rules, w64, pos, of_z, to_z}, lemmas.List.{take_more, map_push}}
+use Rattle.std.proofs.{Common.{arith, ◌≡◌, ◌∷◌, ◌++◌, [], map, get_or, take, sym, ap, ◌∙◌, rules, w64, pos, of_z, to_z}, lemmas.List.{take_more, map_push}}
 use Rattle.std.proofs.lemmas.Int.{to_z-of_z}
 use Rattle.sleeping_clauses.specs.Naming.{name}
 use Rattle.sleeping_clauses.proofs.awake.renamed.Goals as goal
 
 pub name_at-requires : goal.name_at-requires
-name_at-requires c =
-    let hints = c.args.hints.now in
-    let k = c.loop-hint.hint-index in
-    let h = c.requires k (pos 0) c.loop-hint-test.true in
-    let same : to_z w64 (of_z w64 (get_or hints k (pos 0))) ≡ get_or hints k (pos 0) = to_z-of_z w64 (get_or hints k (pos 0)) (search rules) in
-    (h.0, same ∙ h.1, h.2)
+name_at-requires c = grind (arith, c.args.hints.now, c.loop-hint.hint-index, c.requires c.loop-hint.hint-index (pos 0) c.loop-hint-test.true, to_z-of_z w64 (get_or c.args.hints.now c.loop-hint.hint-index (pos 0)) (search rules))
 
 pub loop-hint-preserved : goal.loop-hint-preserved
 loop-hint-preserved c =

@@ -19,7 +19,4 @@ loop-lit-preserved c = λ o led h g cover.
     (λ y m p. c.loop-lit.invariant y p.0 m p.1 p.2) (λ p. none p.0 p.1 p.2) o h (led, g, cover)
 
 pub returns : goal.returns
-returns c = λ o led h g cover.
-    let k = c.loop-lit.lit-index in
-    let all = take_all k c.args.lits.now (omega (arith, c.loop-lit-test.false)) in
-    c.loop-lit.invariant o led (subst (λ xs. Contains xs o) (sym all) h) g cover
+returns c = grind (arith, take_all)
