@@ -64,6 +64,7 @@ impl Store {
     }
 
     /// The number of chunks.
+    #[tactic(auto, using(crate::proofs::Storing::store_stored))]
     pub fn chunks(&self) -> u16
         ensures chunks { result ≡ self.now.chunks }
         ensures limits { IsStore self.now }
@@ -72,6 +73,7 @@ impl Store {
     }
 
     /// The number of nodes.
+    #[tactic(auto, using(crate::proofs::Storing::store_stored))]
     pub fn nodes(&self) -> u8
         ensures nodes { result ≡ self.now.nodes }
         ensures limits { IsStore self.now }
@@ -80,6 +82,7 @@ impl Store {
     }
 
     /// A node's bag of a chunk.
+    #[tactic(auto, using(crate::proofs::Storing::store_stored))]
     pub fn bag(&self, chunk: u16, node: u8) -> Bag
         requires chunk { chunk < self.now.chunks }
         requires node { node < self.now.nodes }

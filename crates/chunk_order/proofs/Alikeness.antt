@@ -1,6 +1,6 @@
 -- Chunks that are alike: the test decides an equivalence, and chunks that are alike have one watch node.
 use Rattle.std.proofs.Common.{◌≡◌, ℕ, zero, suc, ◌+◌, ◌<◌, ◌≤◌, Bool, true, false, Some, refl, sym, ap, ◌∙◌, arith, ◌&&◌, not, find}
-use Rattle.std.{specs.{Cmp.booleans_Decides, List.{list_all, range_with_len}}, proofs.lemmas.Bool.{and_parts, and_from, false_from_ne_true}}
+use Rattle.std.{specs.{Cmp.booleans_Decides, List.{list_all, range_with_len}}, proofs.lemmas.Bool.{and_parts, and_from}}
 use mathlib.Core.Bool.{beq}
 use Rattle.schedule.specs.Placed.{PlacementValue, holds, lacks}
 use Rattle.chunk_order.specs.Alike.{stand_alike, is_alike, watch_node}
@@ -19,7 +19,7 @@ pub find_alike : (p q : ℕ → Bool) (a n : ℕ) → ((k : ℕ) → a ≤ k →
 find_alike p q a zero same = refl
 find_alike p q a (suc n) same = grind (arith, same a (omega arith) (omega arith), find_alike p q (a + 1) n (λ k low high. same k (omega (arith, low)) (omega (arith, high))))
 
-pub find_below : (p : ℕ → Bool) (a n k : ℕ) → find p (range_with_len a n) ≡ Some k → k < a + n
+find_below : (p : ℕ → Bool) (a n k : ℕ) → find p (range_with_len a n) ≡ Some k → k < a + n
 find_below p a zero k found = absurd cc
 find_below p a (suc n) k found = grind (arith, find_below p (a + 1) n k)
 
@@ -61,14 +61,3 @@ module _ (pre post : PlacementValue) where
 
   pub watch_below : (c n : ℕ) → watch_node pre post c ≡ Some n → n < post.nodes
   watch_below c n found = omega (arith, find_below (λ node. lacks post pre (c, node)) 0 post.nodes n found)
-
--- ---- what loops over the nodes find
-
-pub all_stand : (p : PlacementValue) (c d node nodes : ℕ) → nodes ≡ p.nodes → nodes ≤ node → ((k : ℕ) → k < node → holds p (c, k) ≡ holds p (d, k)) → true ≡ stand_alike p c d
-all_stand p c d node nodes end past same = sym (stand_from p c d (λ n low. same n (omega (arith, low, end, past))))
-
-pub one_differs : (p : PlacementValue) (c d n : ℕ) → n < p.nodes → (holds p (c, n) ≡ holds p (d, n) → ⊥) → false ≡ stand_alike p c d
-one_differs p c d n low differ = sym (false_from_ne_true (stand_alike p c d) (λ alike. differ (stand_is p c d n alike low)))
-
-pub not_same : (a b x y : Bool) → not (beq a b) ≡ true → a ≡ x → b ≡ y → x ≡ y → ⊥
-not_same a b x y h p q same = grind arith

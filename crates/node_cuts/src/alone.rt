@@ -1,7 +1,7 @@
 //! Groups that share no link with another.
 
 ghost use Rattle.std.specs.{Prelude.{◌≡◌, ◌==◌, ◌<◌, ◌&&◌, filter, length, not, IfOk}, List.list_any};
-ghost use Rattle.schedule.specs.{Links.IsTopology, Tables.marked_at, Judging.group_at};
+ghost use Rattle.schedule.specs.{Links.has_link, Tables.Marks, Judging.group_at};
 ghost use Rattle.node_cuts.specs.{Cuts.all_groups, Opened.is_alone};
 
 use crate::OutOfMemory;
@@ -10,11 +10,12 @@ use crate::open_links::OpenLinks;
 use schedule::Topology;
 use std::alloc::Global;
 
-/// Whether another group has one of these links of the group.
+/// Whether another group has one of these links, which are those of the group.
+#[tactic(auto, using(crate::proofs::Opening::any_marked))]
 fn shares(topology: &Topology, links: &OpenLinks, group: u16, other: u16) -> bool
-    requires { other < length topology.now.groups }
-    ensures shares { result ≡ (not (other == group) && list_any (marked_at links.now.cells) (group_at topology.now other).links) }
-    ensures limits { IsTopology topology.now }
+    requires links { Marks links.now.cells (has_link (group_at topology.now group)) }
+    requires other { other < length topology.now.groups }
+    ensures { result ≡ (not (other == group) && list_any (has_link (group_at topology.now group)) (group_at topology.now other).links) }
 {
     let others = group_at(topology, other).links();
     other != group && links.any(others)
@@ -38,11 +39,7 @@ fn is_alone(topology: &Topology, group: u16) -> bool
 pub(crate) fn alone_groups(alloc: Global, topology: &Topology) -> Result<Vec<u16>, OutOfMemory>
     ensures { IfOk result (λ groups. groups.items ≡ filter (is_alone topology.now) (all_groups topology.now)) }
 {
-    let mut groups = Vec::new(alloc);
-    for number in 0..topology.groups().len() as u16 {
-        if is_alone(topology, number) {
-            groups.push(number)?;
-        }
-    }
-    Ok(groups)
+    (0..topology.groups().len() as u16)
+        .filter(|&number| is_alone(topology, number))
+        .collect(alloc)
 }

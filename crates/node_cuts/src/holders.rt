@@ -30,13 +30,9 @@ fn nodes_with(alloc: Global, placement: &Placement, chunk: u16) -> Result<Vec<u8
     requires { chunk < placement.now.chunks }
     ensures { IfOk result (λ nodes. nodes.items ≡ nodes_with placement.now chunk) }
 {
-    let mut nodes = Vec::new(alloc);
-    for node in 0..placement.nodes() {
-        if placement.holds(chunk, node) {
-            nodes.push(node)?;
-        }
-    }
-    Ok(nodes)
+    (0..placement.nodes())
+        .filter(|&node| placement.holds(chunk, node))
+        .collect(alloc)
 }
 
 /// The holders of each chunk, which tell what has to come into every set of nodes.
@@ -60,12 +56,7 @@ pub(crate) fn all_holders(alloc: Global, instance: &Instance) -> Result<Vec<Hold
 fn has_any(set: Members, nodes: &[u8]) -> bool
     ensures { result ≡ list_any (members set) nodes.now }
 {
-    for node in nodes {
-        if set.has(*node) {
-            return true;
-        }
-    }
-    false
+    nodes.iter().any(|node| set.has(*node))
 }
 
 /// How many chunks have to come into the set: some node of it is to have the chunk, and none has
@@ -75,11 +66,8 @@ pub(crate) fn need(set: Members, holders: &[Holders]) -> u32
     ensures need { result ≡ count_by (is_lacking (members set)) holders.now }
     ensures few { result < 65536 }
 {
-    let mut need = 0;
-    for chunk in holders {
-        if has_any(set, &chunk.after) && !has_any(set, &chunk.before) {
-            need += 1;
-        }
-    }
-    need
+    holders
+        .iter()
+        .filter(|chunk| has_any(set, &chunk.after) && !has_any(set, &chunk.before))
+        .count() as u32
 }

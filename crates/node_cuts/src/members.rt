@@ -51,11 +51,11 @@ fn sided(alloc: Global, nodes: u8) -> Result<Vec<Members>, OutOfMemory>
     requires { nodes ≤ 16 }
     ensures { IfOk result (λ sets. sets.items ≡ map Members.Sided (listed_sides nodes)) }
 {
-    let mut sets = Vec::new(alloc);
-    for side in &listed_sides(alloc, nodes)? {
-        sets.push(Members::Sided(*side))?;
-    }
-    Ok(sets)
+    let sides = listed_sides(alloc, nodes)?;
+    sides
+        .iter()
+        .map(|side| Members::Sided(*side))
+        .collect(alloc)
 }
 
 /// Each set of so many nodes but the empty one, ascending by its bits.
@@ -63,11 +63,9 @@ fn numbered(alloc: Global, nodes: u8) -> Result<Vec<Members>, OutOfMemory>
     requires { nodes ≤ 16 }
     ensures { IfOk result (λ sets. sets.items ≡ map Members.Bits (range_with_len 1 (2 ^ nodes - 1))) }
 {
-    let mut sets = Vec::new(alloc);
-    for bits in 1..1u32 << nodes {
-        sets.push(Members::Bits(bits as u16))?;
-    }
-    Ok(sets)
+    (1..1u32 << nodes)
+        .map(|bits| Members::Bits(bits as u16))
+        .collect(alloc)
 }
 
 /// The sets of so many nodes that are looked at, in order.

@@ -66,12 +66,7 @@ impl OpenLinks {
         requires { All (IsBelow 16) links.now }
         ensures { result ≡ list_any (marked_at self.now.cells) links.now }
     {
-        for &(from, to) in links {
-            if self.has(from, to) {
-                return true;
-            }
-        }
-        false
+        links.iter().any(|link| self.has(link.0, link.1))
     }
 
     /// How many of these are among them.
@@ -79,10 +74,6 @@ impl OpenLinks {
         requires { All (IsBelow 16) links.now }
         ensures { result ≡ count_by (marked_at self.now.cells) links.now }
     {
-        let mut count = 0;
-        for &(from, to) in links {
-            count += u64::from(self.has(from, to));
-        }
-        count
+        links.iter().filter(|link| self.has(link.0, link.1)).count() as u64
     }
 }

@@ -28,14 +28,22 @@ fn overfull_group(topology: &Topology, schedule: &Schedule, step: u8) -> Option<
     ensures { result ≡ find (λ group. is_overfull topology.now schedule.now (step, group))
         (range_with_len 0 (length topology.now.groups)) }
 {
+    (0..topology.groups().len() as u16).find(|&number| is_overfull(
+        topology, schedule, step, number,
+    ))
+}
+
+/// Whether a group is over its bandwidth in a step.
+fn is_overfull(topology: &Topology, schedule: &Schedule, step: u8, number: u16) -> bool
+    requires in_range { IsInRange 65536 topology.now.nodes schedule.now }
+    requires step { IsStep (length schedule.now.rounds) step }
+    requires number { number < length topology.now.groups }
+    ensures { result ≡ is_overfull topology.now schedule.now (step, number) }
+{
     let rounds = schedule.rounds()[step as usize - 1];
-    for (number, group) in topology.groups().iter().enumerate() {
-        let bandwidth = u32::from(group.width()) * u32::from(rounds);
-        if load_of(group, schedule, step) > bandwidth {
-            return Some(number as u16);
-        }
-    }
-    None
+    let group = &topology.groups()[number as usize];
+    let bandwidth = u32::from(group.width()) * u32::from(rounds);
+    load_of(group, schedule, step) > bandwidth
 }
 
 /// How many sends of the step have their link in the group.

@@ -1,7 +1,8 @@
-ghost use Rattle.std.specs.{Prelude.{◌≡◌, IfOk}, List.list_any};
-ghost use Rattle.schedule.specs.{Links.{GroupValue, IsGroup, reversed_group}, Placed.same_pair};
+ghost use Rattle.std.specs.{Prelude.{◌≡◌, IfOk, map}, List.list_any};
+ghost use Rattle.schedule.specs.{Links.{GroupValue, IsGroup, reversed_group, turned}, Placed.same_pair};
 
 use crate::OutOfMemory;
+use std::alloc::Global;
 use std::marker::Model;
 
 /// Directed links that share a width. A link is a pair of the nodes that it leaves and enters.
@@ -48,14 +49,10 @@ impl Group {
     }
 
     /// The group with each link turned round in its place. The only error is `OutOfMemory`.
-    #[tactic(auto, using(crate::proofs::Turned::pushes_mapped, crate::proofs::Turned::turned_group))]
     pub(crate) fn reversed(&self) -> Result<Group, OutOfMemory>
         ensures { IfOk result (λ g. g ≡ reversed_group self.now) }
     {
-        let mut links = Vec::new(*self.links.allocator());
-        for &(from, to) in &self.links {
-            links.push((to, from))?;
-        }
+        let links = turned(*self.links.allocator(), &self.links)?;
         Ok(Group {
             links,
             width: self.width,
@@ -63,14 +60,18 @@ impl Group {
     }
 }
 
+/// The links, each turned round in its place.
+fn turned(alloc: Global, links: &[(u8, u8)]) -> Result<Vec<(u8, u8)>, OutOfMemory>
+    ensures { IfOk result (λ v. v.items ≡ map turned links.now) }
+{
+    links.iter().map(|link| (link.1, link.0)).collect(alloc)
+}
+
 /// Whether the link is one of them.
 pub fn has_link(links: &[(u8, u8)], link: (u8, u8)) -> bool
     ensures { result ≡ list_any (same_pair link) links.now }
 {
-    for other in links {
-        if link.0 == other.0 && link.1 == other.1 {
-            return true;
-        }
-    }
-    false
+    links
+        .iter()
+        .any(|other| link.0 == other.0 && link.1 == other.1)
 }

@@ -106,12 +106,6 @@ impl LinkTable {
         requires few { length sends.now < 2 ^ 32 }
         ensures { result ≡ count_by (λ h. marked_at self.now.cells (link_of h)) sends.now }
     {
-        let mut count = 0;
-        for hop in sends {
-            if self.has(hop) {
-                count += 1;
-            }
-        }
-        count
+        sends.iter().filter(|hop| self.has(hop)).count() as u32
     }
 }
