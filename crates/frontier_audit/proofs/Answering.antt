@@ -1,12 +1,11 @@
 -- The candidates that are not refuted tell which candidates are answered, and which marks are right.
-use Rattle.std.proofs.Common.{◌≡◌, Bool, true, false, List, [], ◌∷◌, map, Option, None, Some, Ok, refl, sym, ap, ◌∙◌, ◌||◌, ◌&&◌, not, if◌then◌else◌}
-use Rattle.std.specs.List.{list_all}
+use Rattle.std.{proofs.Common.{◌≡◌, Bool, true, false, List, [], ◌∷◌, map, Option, None, Some, refl, sym, ap, ◌∙◌, ◌||◌, ◌&&◌, not, if◌then◌else◌}, specs.{List.{find, list_all}, Option.option_map}}
 use Rattle.text_lines.specs.Check.{◌>>=◌, refuse}
 use Rattle.candidate_order.specs.{declared.candidate.Candidate.Candidate, Frontiers.{QuestionValue, PointValue, UnknownValue, FrontierValue, given_up}}
 use Rattle.report_form.specs.Tests.{is_better}
 use Rattle.frontier_audit.specs.{declared.verdict.Reason.TheVariants.{CandidateMissing, MarkWrong}, Denials.{Denial, Checked, each}, Beside.denial_of}
 use Rattle.frontier_audit.specs.Candidates.{candidates_within, is_listed, same_candidate}
-use Rattle.frontier_audit.specs.inner.Steps.{answers_checked, is_bettered, is_given_up, is_settled, left_checked, marked_among, unrefuted_among, candidate_checked, mark_checked, is_mark}
+use Rattle.frontier_audit.specs.inner.Steps.{answers_checked, candidate_checked, has_mark_among, is_answered, is_bettered, is_given_up, is_left_answered, is_mark, is_settled, mark_checked, unrefuted_among}
 use Rattle.frontier_audit.proofs.Walking.{first_decides, rest_decides}
 
 -- ---- candidates
@@ -23,24 +22,33 @@ other_one : (a l g : Bool) → l ≡ false → (a || g) ≡ (a || l || g)
 other_one true l g e = ap (λ b. true || b || g) (sym e)
 other_one false l g e = ap (λ b. false || b || g) (sym e)
 
-answered_refuted : (f : FrontierValue) (x : Candidate) → is_listed f.refuted x ≡ true → candidate_checked f x ≡ Ok tt
-answered_refuted f x e = ap (λ b. refuse (not b) (CandidateMissing, x)) (listed_one (is_settled f.points x) (is_listed f.refuted x) (is_listed (given_up f) x) e)
+-- the first that fails a test is the first that is refused for it
+first_refused : {X C : Type 0} (test : X → Bool) (code : X → C) (xs : List X) → option_map code (find (λ x. not (test x)) xs) ≡ denial_of (each (λ x. refuse (not (test x)) (code x)) xs)
+first_refused test code [] = refl
+first_refused test code (x ∷ xs) = go (test x) (first_refused test code xs)
+  where
+    go : (b : Bool) → option_map code (find (λ y. not (test y)) xs) ≡ denial_of (each (λ y. refuse (not (test y)) (code y)) xs) → option_map code (if not b then Some x else find (λ y. not (test y)) xs) ≡ denial_of (refuse (not b) (code x) >>= (λ _. each (λ y. refuse (not (test y)) (code y)) xs))
+    go true later = later
+    go false later = refl
 
-left_alike : (f : FrontierValue) (x : Candidate) → is_listed f.refuted x ≡ false → left_checked f x ≡ candidate_checked f x
-left_alike f x e =
-    let settled = is_settled f.points x in
-    ap (λ b. refuse (not b) (CandidateMissing, x)) (ap (λ b. settled || b) (up_any f.unknown x) ∙ other_one settled (is_listed f.refuted x) (is_listed (given_up f) x) e)
-
-left_says : (f : FrontierValue) (xs : List Candidate) → each (left_checked f) (unrefuted_among f.refuted xs) ≡ each (candidate_checked f) xs
+left_says : (f : FrontierValue) (xs : List Candidate) → find (λ x. not (is_left_answered f x)) (unrefuted_among f.refuted xs) ≡ find (λ x. not (is_answered f x)) xs
 left_says f [] = refl
 left_says f (x ∷ xs) = go (is_listed f.refuted x) refl (left_says f xs)
   where
     others : List Candidate
     others = unrefuted_among f.refuted xs
 
-    go : (l : Bool) → is_listed f.refuted x ≡ l → each (left_checked f) others ≡ each (candidate_checked f) xs → each (left_checked f) (if not l then x ∷ others else others) ≡ each (candidate_checked f) (x ∷ xs)
-    go true e later = later ∙ ap (λ r. r >>= (λ _. each (candidate_checked f) xs)) (sym (answered_refuted f x e))
-    go false e later = ap (λ r. r >>= (λ _. each (left_checked f) others)) (left_alike f x e) ∙ ap (λ r. candidate_checked f x >>= (λ _. r)) later
+    rest : Option Candidate
+    rest = find (λ y. not (is_answered f y)) xs
+
+    settled : Bool
+    settled = is_settled f.points x
+
+    go : (l : Bool) → is_listed f.refuted x ≡ l → find (λ y. not (is_left_answered f y)) others ≡ rest → find (λ y. not (is_left_answered f y)) (if not l then x ∷ others else others) ≡ find (λ y. not (is_answered f y)) (x ∷ xs)
+    go true e later = later ∙ ap (λ b. if not b then Some x else rest) (sym (listed_one settled (is_listed f.refuted x) (is_listed (given_up f) x) e))
+    go false e later =
+        ap (λ b. if not b then Some x else find (λ y. not (is_left_answered f y)) others) (ap (λ b. settled || b) (up_any f.unknown x) ∙ other_one settled (is_listed f.refuted x) (is_listed (given_up f) x) e)
+        ∙ ap (λ o. if not (is_answered f x) then Some x else o) later
 
 -- ---- marks
 
@@ -64,24 +72,27 @@ none_better refuted x (y ∷ ys) = go (is_listed refuted y) (is_better y x) (non
         told true n r e = refl
         told false n r e = e
 
-same_mark_checked : (q : QuestionValue) (f : FrontierValue) (p : PointValue) → marked_among (unrefuted_among f.refuted (candidates_within q)) p ≡ mark_checked q f p
-same_mark_checked q f p = ap (λ b. refuse (not (is_mark b p.mark)) (MarkWrong, p.candidate)) (none_better f.refuted p.candidate (candidates_within q))
-
-each_alike : {X E : Type 0} (a b : X → Checked E) (xs : List X) → ((x : X) → a x ≡ b x) → each a xs ≡ each b xs
-each_alike a b [] same = refl
-each_alike a b (x ∷ xs) same = ap (λ r. r >>= (λ _. each a xs)) (same x) ∙ ap (λ r. b x >>= (λ _. r)) (each_alike a b xs same)
-
 -- ---- both
 
 module _ (q : QuestionValue) (f : FrontierValue) (left : List Candidate) (is : left ≡ unrefuted_among f.refuted (candidates_within q)) where
-  candidates_say : denial_of (each (left_checked f) left) ≡ denial_of (each (candidate_checked f) (candidates_within q))
-  candidates_say = ap denial_of (ap (each (left_checked f)) is ∙ left_says f (candidates_within q))
+  abbrev candidates : Checked Denial
+  candidates = each (candidate_checked f) (candidates_within q)
 
-  marks_say : each (marked_among left) f.points ≡ each (mark_checked q f) f.points
-  marks_say = ap (λ l. each (marked_among l) f.points) is ∙ each_alike (marked_among (unrefuted_among f.refuted (candidates_within q))) (mark_checked q f) f.points (same_mark_checked q f)
+  abbrev marks : Checked Denial
+  marks = each (mark_checked q f) f.points
 
-  pub missing_decides : (d : Denial) → Some d ≡ denial_of (each (left_checked f) left) → Some d ≡ denial_of (answers_checked q f)
-  missing_decides d e = sym (first_decides (each (candidate_checked f) (candidates_within q)) (each (mark_checked q f) f.points) d (sym (e ∙ candidates_say)))
+  abbrev missing : Option Denial
+  missing = option_map (λ x. (CandidateMissing, x)) (find (λ x. not (is_left_answered f x)) left)
 
-  pub marks_decide : (d : Option Denial) → None ≡ denial_of (each (left_checked f) left) → d ≡ denial_of (each (marked_among left) f.points) → d ≡ denial_of (answers_checked q f)
-  marks_decide d e m = m ∙ (ap denial_of marks_say ∙ ap denial_of (sym (rest_decides (each (candidate_checked f) (candidates_within q)) (each (mark_checked q f) f.points) (sym (e ∙ candidates_say)))))
+  candidates_say : missing ≡ denial_of candidates
+  candidates_say = ap (option_map (λ x. (CandidateMissing, x))) (ap (find (λ x. not (is_left_answered f x))) is ∙ left_says f (candidates_within q)) ∙ first_refused (is_answered f) (λ x. (CandidateMissing, x)) (candidates_within q)
+
+  marks_say : option_map (λ (p : PointValue). (MarkWrong, p.candidate)) (find (λ p. not (has_mark_among left p)) f.points) ≡ denial_of marks
+  marks_say = first_refused (has_mark_among left) (λ p. (MarkWrong, p.candidate)) f.points
+      ∙ ap (λ (test : PointValue → Bool). denial_of (each (λ (p : PointValue). refuse (not (test p)) (MarkWrong, p.candidate)) f.points)) (λ i p. is_mark ((ap (λ l. not (is_bettered l p.candidate)) is ∙ none_better f.refuted p.candidate (candidates_within q)) i) p.mark)
+
+  pub missing_decides : (d : Denial) → Some d ≡ missing → Some d ≡ denial_of (answers_checked q f)
+  missing_decides d e = sym (first_decides candidates marks d (sym (e ∙ candidates_say)))
+
+  pub marks_decide : None ≡ missing → option_map (λ (p : PointValue). (MarkWrong, p.candidate)) (find (λ p. not (has_mark_among left p)) f.points) ≡ denial_of (answers_checked q f)
+  marks_decide e = marks_say ∙ ap denial_of (sym (rest_decides candidates marks (sym (e ∙ candidates_say))))

@@ -95,21 +95,11 @@ module _ (c : Option PatternValue) (root nodes count : ℕ) where
   abbrev Whole : Kind → Part → Type 0
   Whole k p = chunks_at k p ≡ chunks_at k part.Whole
 
-  alone : (k : Kind) → All (Whole k) (part.Whole ∷ [])
-  alone k = All-cons (Whole k) part.Whole [] refl (All-nil (Whole k))
-
   as_many : (k : Kind) → All (Whole k) (parts_of k)
-  as_many kind.Broadcast = alone kind.Broadcast
-  as_many kind.Gather = alone kind.Gather
-  as_many kind.Allgather = alone kind.Allgather
-  as_many kind.Scatter = alone kind.Scatter
-  as_many kind.Alltoall = alone kind.Alltoall
-  as_many kind.Reduce = alone kind.Reduce
-  as_many kind.Reducescatter = alone kind.Reducescatter
-  as_many kind.Custom = alone kind.Custom
   as_many kind.Allreduce =
       All-cons (Whole kind.Allreduce) part.Reduce (part.Gather ∷ []) (reduced_chunks c)
       (All-cons (Whole kind.Allreduce) part.Gather [] (gathered_chunks c) (All-nil (Whole kind.Allreduce)))
+  as_many k = All-cons (Whole k) part.Whole [] refl (All-nil (Whole k))
 
 module _ (r : ReportValue) (ok : IsReport r) (p : Part) (has : Contains (parts_of r.words.collective.kind) p) where
   abbrev asks : Part → QuestionValue

@@ -1,5 +1,5 @@
 -- Of a candidate that is cut away no file is looked at, and it has no solution.
-use Rattle.std.proofs.Common.{◌≡◌, ◌≢◌, Bool, true, false, Option, None, Ok, refl, sym, ap, ◌∙◌, subst, if◌then◌else◌}
+use Rattle.std.proofs.Common.{◌≡◌, ◌≢◌, Bool, true, false, Ok, refl, sym, ap, ◌∙◌, subst, if◌then◌else◌}
 use Rattle.outer_ports.specs.{declared.part.Part.Part, Files.Files}
 use Rattle.schedule.specs.Solving.{Solvable}
 use Rattle.collective_spec.specs.declared.kind.Kind.TheVariants as kind
@@ -9,7 +9,7 @@ use Rattle.candidate_order.proofs.Achieved.{Achievable, achieved}
 use Rattle.inversion.proofs.Copied.{solvable_exactly}
 use Rattle.node_cuts.{specs.Cutting.sets_for, proofs.Crossing.first_says}
 use Rattle.candidate_formula.{specs.{Files.HasRefutation, Pruned.is_cut_away}, proofs.{Copying.copies, CutAway.{copied_cut, reduced_cut}}}
-use Rattle.frontier_audit.specs.{Denials.{Denial, Checked}, Auditing.refutation_checked, inner.Steps.refuted_checked, Beside.{denial_of, AnswersBeside}}
+use Rattle.frontier_audit.specs.{Denials.{Denial, Checked}, Auditing.refutation_checked, inner.Steps.refuted_checked}
 use Rattle.frontier_audit.proofs.Beside.{has_refutation, passes_refutation}
 
 -- ---- the check of a refuted candidate
@@ -18,10 +18,10 @@ module _ (part : Part) (q : QuestionValue) (files : Files) (x : Candidate) where
   abbrev over : Bool → Checked Denial
   over b = if b then Ok tt else refutation_checked part q files x
 
-  passed_where_cut : is_cut_away q x ≡ true → refuted_checked part q files x ≡ Ok tt
+  pub passed_where_cut : is_cut_away q x ≡ true → refuted_checked part q files x ≡ Ok tt
   passed_where_cut cut = ap over cut
 
-  checked_where_uncut : is_cut_away q x ≡ false → refuted_checked part q files x ≡ refutation_checked part q files x
+  pub checked_where_uncut : is_cut_away q x ≡ false → refuted_checked part q files x ≡ refutation_checked part q files x
   checked_where_uncut uncut = ap over uncut
 
   pub owes_refutation : refuted_checked part q files x ≡ Ok tt → is_cut_away q x ≡ false → HasRefutation part q files x
@@ -33,14 +33,6 @@ module _ (part : Part) (q : QuestionValue) (files : Files) (x : Candidate) where
       by_cut : (b : Bool) → is_cut_away q x ≡ b → refuted_checked part q files x ≡ Ok tt
       by_cut true cut = passed_where_cut cut
       by_cut false uncut = checked_where_uncut uncut ∙ passes_refutation part q files x (has uncut)
-
--- what is answered beside the files of a shelf
-module _ (tells : Bool) (shelf : Files) (part : Part) (q : QuestionValue) (x : Candidate) where
-  pub answers_where_cut : is_cut_away q x ≡ true → AnswersBeside tells shelf (λ files. refuted_checked part q files x) None
-  answers_where_cut cut = record { files = shelf; told = λ t name. refl; is = ap denial_of (sym (passed_where_cut part q shelf x cut)) }
-
-  pub answers_where_uncut : (d : Option Denial) → is_cut_away q x ≡ false → AnswersBeside tells shelf (λ files. refutation_checked part q files x) d → AnswersBeside tells shelf (λ files. refuted_checked part q files x) d
-  answers_where_uncut d uncut a = record { files = a.files; told = a.told; is = a.is ∙ ap denial_of (sym (checked_where_uncut part q a.files x uncut)) }
 
 -- ---- no solution
 

@@ -1,5 +1,5 @@
 -- What is joined, by the kind of the collective and by the parts of a valid report.
-use Rattle.std.proofs.Common.{◌≡◌, List, [], ◌∷◌, ◌++◌, map, Ok, append-nil, refl, sym, ap, ◌∙◌, subst}
+use Rattle.std.proofs.Common.{◌≡◌, List, [], ◌∷◌, ◌++◌, append-nil, sym, ap, ◌∙◌, subst}
 use Rattle.outer_ports.specs.declared.part.Part.{Part}
 use Rattle.outer_ports.specs.declared.part.Part.TheVariants as part
 use Rattle.collective_spec.specs.declared.kind.Kind.{Kind}
@@ -8,7 +8,7 @@ use Rattle.candidate_order.specs.Frontiers.{FrontierValue}
 use Rattle.allreduce_join.specs.Joins.{pairs_of}
 use Rattle.report_form.specs.Reports.{ReportValue, IsReport, parts_of}
 use Rattle.frontier_audit.specs.{Denials.in_part, Joining.{joined_checked, joins_checked}, Parts.{is_gather, is_reduce, points_of}, inner.Steps.joins_of}
-use Rattle.frontier_audit.proofs.Jointly.{parts_are}
+use Rattle.frontier_audit.proofs.Jointly.{one_part, parts_are}
 
 two_joined : (r : ReportValue) (f h : FrontierValue) (xs : List (Part × FrontierValue)) → xs ≡ (part.Reduce, f) ∷ (part.Gather, h) ∷ []
     → in_part part.Joined (joins_checked r.topology.topology (pairs_of (points_of is_reduce xs) (points_of is_gather xs)) r.joined) ≡ joined_checked r xs
@@ -17,22 +17,7 @@ two_joined r f h xs are =
     (ap (λ ps. in_part part.Joined (joins_checked r.topology.topology (pairs_of ps (h.points ++ [])) r.joined)) (append-nil f.points)
     ∙ ap (λ ps. in_part part.Joined (joins_checked r.topology.topology (pairs_of f.points ps) r.joined)) (append-nil h.points))
 
-none_joined : (r : ReportValue) (xs : List (Part × FrontierValue)) → map (λ x. x.0) xs ≡ part.Whole ∷ [] → Ok tt ≡ joined_checked r xs
-none_joined r [] e = refl
-none_joined r ((part.Whole, f) ∷ []) e = refl
-none_joined r ((part.Reduce, f) ∷ []) e = absurd (cc)
-none_joined r ((part.Gather, f) ∷ []) e = absurd (cc)
-none_joined r ((part.Joined, f) ∷ []) e = absurd (cc)
-none_joined r (x ∷ y ∷ xs) e = absurd (cc)
-
 -- only an allreduce joins, the points of the one part with those of the other
 pub joined_by_kind : (k : Kind) (r : ReportValue) → r.words.collective.kind ≡ k → IsReport r → in_part part.Joined (joins_of k r) ≡ joined_checked r r.frontiers
 joined_by_kind kind.Allreduce r e ok = let parts = parts_are r ok e in two_joined r parts.reduce parts.gather r.frontiers parts.are
-joined_by_kind kind.Broadcast r e ok = none_joined r r.frontiers (ok.parts ∙ ap parts_of e)
-joined_by_kind kind.Gather r e ok = none_joined r r.frontiers (ok.parts ∙ ap parts_of e)
-joined_by_kind kind.Allgather r e ok = none_joined r r.frontiers (ok.parts ∙ ap parts_of e)
-joined_by_kind kind.Scatter r e ok = none_joined r r.frontiers (ok.parts ∙ ap parts_of e)
-joined_by_kind kind.Alltoall r e ok = none_joined r r.frontiers (ok.parts ∙ ap parts_of e)
-joined_by_kind kind.Reduce r e ok = none_joined r r.frontiers (ok.parts ∙ ap parts_of e)
-joined_by_kind kind.Reducescatter r e ok = none_joined r r.frontiers (ok.parts ∙ ap parts_of e)
-joined_by_kind kind.Custom r e ok = none_joined r r.frontiers (ok.parts ∙ ap parts_of e)
+joined_by_kind _ r e ok = let (f, are) = one_part r.frontiers (ok.parts ∙ ap parts_of e) in ap (joined_checked r) (sym are)

@@ -1,12 +1,12 @@
 -- The two parts of an allreduce, and what their points are joined by.
-use Rattle.std.proofs.Common.{◌≡◌, ℕ, ◌<◌, List, [], ◌∷◌, length, map, get_or, refl, ap, ◌∙◌, arith, All}
+use Rattle.std.proofs.Common.{◌≡◌, ℕ, ◌<◌, List, [], ◌∷◌, length, map, get_or, ap, ◌∙◌, arith, All}
 use Rattle.outer_ports.specs.declared.part.Part.{Part}
 use Rattle.outer_ports.specs.declared.part.Part.TheVariants as part
 use Rattle.collective_spec.specs.declared.kind.Kind.TheVariants as kind
 use Rattle.candidate_order.specs.Frontiers.{FrontierValue}
 use Rattle.allreduce_join.specs.Joins.{IsJoinable}
-use Rattle.report_form.specs.Reports.{ReportValue, IsReport, parts_of, question_of}
-use Rattle.frontier_audit.proofs.Parting.{here_frontier}
+use Rattle.report_form.specs.Reports.{ReportValue, IsReport, parts_of}
+use Rattle.frontier_audit.proofs.Parting.{at_part}
 
 -- ---- the parts
 
@@ -16,23 +16,24 @@ pub record TwoParts (xs : List (Part × FrontierValue)) : Type 0 where
   pub are : xs ≡ (part.Reduce, reduce) ∷ (part.Gather, gather) ∷ []
 
 two_parts : (xs : List (Part × FrontierValue)) → map (λ x. x.0) xs ≡ part.Reduce ∷ part.Gather ∷ [] → TwoParts xs
-two_parts [] e = absurd (cc)
-two_parts (x ∷ []) e = absurd (cc)
-two_parts (x ∷ y ∷ z ∷ xs) e = absurd (cc)
 two_parts ((p, f) ∷ (q, h) ∷ []) e =
     let first : p ≡ part.Reduce = cc in
     let second : q ≡ part.Gather = cc in
     record { reduce = f; gather = h; are = λ i. (first i, f) ∷ (second i, h) ∷ [] }
+two_parts _ e = absurd (cc)
 
 pub parts_are : (r : ReportValue) → IsReport r → r.words.collective.kind ≡ kind.Allreduce → TwoParts r.frontiers
 parts_are r ok e = two_parts r.frontiers (ok.parts ∙ ap parts_of e)
+
+pub one_part : (xs : List (Part × FrontierValue)) → map (λ x. x.0) xs ≡ part.Whole ∷ [] → (f : FrontierValue) × (xs ≡ (part.Whole, f) ∷ [])
+one_part ((p, f) ∷ []) e = let is : p ≡ part.Whole = cc in (f, λ i. (is i, f) ∷ [])
+one_part _ e = absurd (cc)
 
 -- ---- their points
 
 pub part_joinable : (r : ReportValue) → IsReport r → (xs : List (Part × FrontierValue)) (i : ℕ) (x : Part × FrontierValue) → xs ≡ r.frontiers → i < length xs → x ≡ get_or xs i x → All IsJoinable x.1.points
 part_joinable r ok xs i x same low is k d h =
-    let f = here_frontier r ok xs i x same low is (question_of r.words r.topology x.0) refl in
-    let p = f.points k d h in
+    let p = (at_part r ok xs i x same low is).frontier.points k d h in
     let steps = p.within.steps in
     let most = ok.words.limits.steps in
     record { steps = p.has.steps; rounds = p.has.rounds; few = omega arith }

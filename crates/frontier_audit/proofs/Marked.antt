@@ -59,11 +59,8 @@ optimal_decides q f x = (one_way, back)
 
 pub mark_by : (b : Bool) (m : Mark) → is_mark b m ≡ true → ((m ≡ mark.Optimal) ↔ (b ≡ true)) × ((m ≡ mark.Optimal) ⊎ (m ≡ mark.Open))
 mark_by true mark.Optimal e = ((λ h. refl, λ h. refl), inl refl)
-mark_by true mark.Open e = absurd (cc)
-mark_by true (mark.Joined n) e = absurd (cc)
-mark_by false mark.Optimal e = absurd (cc)
 mark_by false mark.Open e = ((λ h. absurd (cc), λ h. absurd (cc)), inr refl)
-mark_by false (mark.Joined n) e = absurd (cc)
+mark_by _ _ e = absurd (cc)
 
 pub by_mark : (b : Bool) (m : Mark) → (m ≡ mark.Optimal) ↔ (b ≡ true) → (m ≡ mark.Optimal) ⊎ (m ≡ mark.Open) → is_mark b m ≡ true
 by_mark true mark.Optimal h o = refl

@@ -1,6 +1,6 @@
 -- Answers that are given beside different files are given beside one shelf, where each looks at names of its own.
-use Rattle.std.proofs.Common.{◌≡◌, ℕ, ◌+◌, ◌<◌, Bool, true, false, List, [], ◌∷◌, length, drop, get_or, Option, None, Some, refl, sym, ap, ◌∙◌, subst, arith, not, if◌then◌else◌, IsTrue, All, AllPairs}
-use Rattle.std.proofs.lemmas.List.{get_or-drop, get_or_default, length-drop, Elements.{All-head, All-tail}}
+use Rattle.std.proofs.Common.{◌≡◌, ℕ, ◌+◌, ◌<◌, ◌≤◌, Bool, true, false, List, [], ◌∷◌, length, drop, get_or, Option, None, Some, Ok, refl, sym, ap, ◌∙◌, subst, arith, not, if◌then◌else◌, IsTrue, All, AllPairs}
+use Rattle.std.proofs.lemmas.List.{drop_all, get_or-drop, get_or_default, length-drop, Elements.{All-head, All-tail}}
 use Rattle.text_lines.specs.Check.{◌>>=◌}
 use Rattle.outer_ports.specs.{declared.proof_name.ProofName.ProofName, Files.Files, Port.Tells, Shelf.FilesStay}
 use Rattle.report_form.proofs.PointNumbers.{from_here}
@@ -84,37 +84,9 @@ later told tells shelf check d still a = record { files = a.files; told = λ t. 
 pub since : {E : Type 0} (tells : Bool) (before shelf : Files) (check : Files → Checked E) (d : Option E) → (IsTrue tells → FilesStay before shelf) → AnswersBeside tells shelf check d → AnswersBeside tells before check d
 since tells before shelf check d stay a = record { files = a.files; told = λ t name. a.told t name ∙ stay t name; is = a.is }
 
-pub reworded : {X E : Type 0} (tells : Bool) (shelf : Files) (check : Files → X → Checked E) (xs ys : List X) (d e : Option E) → xs ≡ ys → d ≡ e → AnswersBeside tells shelf (λ files. each (check files) xs) d → AnswersBeside tells shelf (λ files. each (check files) ys) e
-reworded tells shelf check xs ys d e same is a = record { files = a.files; told = a.told; is = sym is ∙ a.is ∙ ap (λ zs. denial_of (each (check a.files) zs)) same }
-
--- ---- items of a list
-
--- what answers the items from a place on answers all
-pub record Leads {X E : Type 0} (tells : Bool) (shelf : Files) (check : Files → X → Checked E) (xs : List X) (i : ℕ) : Type 0 where
-  pub on : (now : Bool) (d : Option E) → Tells tells now → AnswersBeside now shelf (λ files. each (check files) (drop i xs)) d → AnswersBeside now shelf (λ files. each (check files) xs) d
-
-pub leads_from_start : {X E : Type 0} (tells : Bool) (shelf : Files) (check : Files → X → Checked E) (xs : List X) → Leads tells shelf check xs 0
-leads_from_start tells shelf check xs = record { on = λ now d still a. a }
-
-module _ {X E : Type 0} (told tells : Bool) (shelf : Files) (check : Files → X → Checked E) (xs : List X) (i : ℕ) (x : X) (low : i < length xs) (is : x ≡ get_or xs i x) (still : Tells told tells) (leads : Leads told shelf check xs i) where
-  -- the item is denied
-  pub denies_all : (d : E) → AnswersBeside tells shelf (λ files. check files x) (Some d) → AnswersBeside tells shelf (λ files. each (check files) xs) (Some d)
-  denies_all d a =
-      leads.on tells (Some d) still (subst (λ ys. AnswersBeside tells shelf (λ files. each (check files) ys) (Some d)) (sym (from_here xs i x low is)) (stops tells shelf (λ files. check files x) (λ files. each (check files) (drop (i + 1) xs)) d a))
-
-  -- it is not
-  pub leads_on : (own : ProofName → Bool) → LooksAt own (λ files. check files x) → All (λ y. LooksAt (λ name. not (own name)) (λ files. check files y)) (drop (i + 1) xs) → AnswersBeside tells shelf (λ files. check files x) None → Leads tells shelf check xs (i + 1)
-  leads_on own one others a = record {
-    on = λ now d after rest.
-        leads.on now d (λ t. still (after t)) (subst (λ ys. AnswersBeside now shelf (λ files. each (check files) ys) d) (sym (from_here xs i x low is))
-        (goes_on now shelf (λ files. check files x) (λ files. each (check files) (drop (i + 1) xs)) own d one (looks_each (λ name. not (own name)) check (drop (i + 1) xs) others)
-        (later tells now shelf (λ files. check files x) None after a) rest));
-  }
-
--- the end of the list is reached
-pub leads_to_all : {X E : Type 0} (tells : Bool) (shelf : Files) (check : Files → X → Checked E) (xs : List X) (i : ℕ) → drop i xs ≡ [] → Leads tells shelf check xs i → AnswersBeside tells shelf (λ files. each (check files) xs) None
-leads_to_all tells shelf check xs i end leads =
-    leads.on tells None (λ t. t) (subst (λ ys. AnswersBeside tells shelf (λ files. each (check files) ys) None) (sym end) (record { files = shelf; told = λ t name. refl; is = refl }))
+-- of a check that says the same
+pub reads_as : {E : Type 0} {tells : Bool} {shelf : Files} {check own : Files → Checked E} {d : Option E} → ((files : Files) → check files ≡ own files) → AnswersBeside tells shelf own d → AnswersBeside tells shelf check d
+reads_as same a = record { files = a.files; told = a.told; is = a.is ∙ ap denial_of (sym (same a.files)) }
 
 -- what holds of each pair holds of an item and those behind it
 pub behind_pairs : {X : Type 0} (R : X → X → Type 0) (xs : List X) (i : ℕ) (x : X) → i < length xs → x ≡ get_or xs i x → AllPairs R xs → All (R x) (drop (i + 1) xs)
@@ -123,3 +95,53 @@ behind_pairs R xs i x low is pairs k d h =
     let at : R (get_or xs i d) (get_or xs (i + 1 + k) d) = pairs i (i + 1 + k) d (omega arith) (omega (arith, size, h)) in
     let same : get_or xs i d ≡ x = get_or_default xs i d x low ∙ sym is in
     subst (λ y. R x y) (sym (get_or-drop (i + 1) xs k d)) (subst (λ y. R y (get_or xs (i + 1 + k) d)) same at)
+
+-- ---- items of a list
+
+-- each check looks at names of its own, at which no later one looks
+pub record Separate {X E : Type 0} (check : Files → X → Checked E) (xs : List X) : Type 0 where
+  pub own : X → ProofName → Bool
+  pub looks : (x : X) → LooksAt (own x) (λ files. check files x)
+  pub apart : AllPairs (λ x y. LooksAt (λ name. not (own x name)) (λ files. check files y)) xs
+
+-- a walk over a list that has passed the items in front of a place, beside what the shelf was when it began: what answers the others answers all
+pub record Walks {X E : Type 0} (began tells : Bool) (few faults : ℕ) (before shelf : Files) (check : Files → X → Checked E) (xs : List X) (i : ℕ) : Type 0 where
+  pub told : Tells began tells
+  pub kept : faults ≡ few
+  pub stay : IsTrue tells → FilesStay before shelf
+  pub on : (now : Bool) (d : Option E) → Tells tells now → AnswersBeside now before (λ files. each (check files) (drop i xs)) d → AnswersBeside now before (λ files. each (check files) xs) d
+
+pub walk_starts : {X E : Type 0} (tells : Bool) (faults : ℕ) (shelf : Files) (check : Files → X → Checked E) (xs : List X) → Walks tells tells faults faults shelf shelf check xs 0
+walk_starts tells faults shelf check xs = record { told = λ t. t; kept = refl; stay = λ t name. refl; on = λ now d still a. a }
+
+module _ {X E : Type 0} {began tells : Bool} {few faults : ℕ} {before shelf : Files} {check : Files → X → Checked E} {xs : List X} {i : ℕ} (w : Walks began tells few faults before shelf check xs i) where
+  abbrev rest : Files → Checked E
+  rest files = each (check files) (drop (i + 1) xs)
+
+  abbrev AnswersAll : Bool → Option E → List X → Type 0
+  AnswersAll now d ys = AnswersBeside now before (λ files. each (check files) ys) d
+
+  -- one more item is answered
+  module _ (x : X) (low : i < length xs) (is : x ≡ get_or xs i x) {next : Bool} (still : Tells tells next) {a : Option E} (answer : AnswersBeside next shelf (λ files. check files x) a) where
+    here : AnswersBeside next before (λ files. check files x) a
+    here = since next before shelf (λ files. check files x) a (λ t. w.stay (still t)) answer
+
+    pub walk_stops : (d : E) → a ≡ Some d → AnswersAll next (Some d) xs
+    walk_stops d denied =
+        w.on next (Some d) still (subst (AnswersAll next (Some d)) (sym (from_here xs i x low is))
+        (stops next before (λ files. check files x) rest d (subst (AnswersBeside next before (λ files. check files x)) denied here)))
+
+    pub walk_on : Separate check xs → {now : Files} → (IsTrue next → FilesStay shelf now) → {later_faults : ℕ} → later_faults ≡ faults → a ≡ None → Walks began next few later_faults before now check xs (i + 1)
+    walk_on s stay same none = record {
+      told = λ t. w.told (still t);
+      kept = same ∙ w.kept;
+      stay = λ t name. stay t name ∙ w.stay (still t) name;
+      on = λ now d after a.
+          w.on now d (λ t. still (after t)) (subst (AnswersAll now d) (sym (from_here xs i x low is))
+          (goes_on now before (λ files. check files x) rest (s.own x) d (s.looks x) (looks_each (λ name. not (s.own x name)) check (drop (i + 1) xs) (behind_pairs (λ y z. LooksAt (λ name. not (s.own y name)) (λ files. check files z)) xs i x low is s.apart))
+          (later next now before (λ files. check files x) None after (subst (AnswersBeside next before (λ files. check files x)) none here)) a));
+    }
+
+  -- the end of the list is reached
+  pub walk_ends : length xs ≤ i → AnswersAll tells None xs
+  walk_ends past = w.on tells None (λ t. t) (subst (AnswersAll tells None) (sym (drop_all i xs past)) (plain tells before (Ok tt) None refl))

@@ -67,17 +67,10 @@ part_passes part q files f right shelf = record {
 -- ---- no part is an allreduce
 
 pub apart : (k : Kind) → All (λ x. kind_of k x ≢ kind.Allreduce) (parts_of k)
-apart kind.Broadcast = All-cons (λ x. kind_of kind.Broadcast x ≢ kind.Allreduce) part.Whole [] (λ e. absurd (cc)) (All-nil (λ x. kind_of kind.Broadcast x ≢ kind.Allreduce))
-apart kind.Gather = All-cons (λ x. kind_of kind.Gather x ≢ kind.Allreduce) part.Whole [] (λ e. absurd (cc)) (All-nil (λ x. kind_of kind.Gather x ≢ kind.Allreduce))
-apart kind.Allgather = All-cons (λ x. kind_of kind.Allgather x ≢ kind.Allreduce) part.Whole [] (λ e. absurd (cc)) (All-nil (λ x. kind_of kind.Allgather x ≢ kind.Allreduce))
-apart kind.Scatter = All-cons (λ x. kind_of kind.Scatter x ≢ kind.Allreduce) part.Whole [] (λ e. absurd (cc)) (All-nil (λ x. kind_of kind.Scatter x ≢ kind.Allreduce))
-apart kind.Alltoall = All-cons (λ x. kind_of kind.Alltoall x ≢ kind.Allreduce) part.Whole [] (λ e. absurd (cc)) (All-nil (λ x. kind_of kind.Alltoall x ≢ kind.Allreduce))
-apart kind.Reduce = All-cons (λ x. kind_of kind.Reduce x ≢ kind.Allreduce) part.Whole [] (λ e. absurd (cc)) (All-nil (λ x. kind_of kind.Reduce x ≢ kind.Allreduce))
-apart kind.Reducescatter = All-cons (λ x. kind_of kind.Reducescatter x ≢ kind.Allreduce) part.Whole [] (λ e. absurd (cc)) (All-nil (λ x. kind_of kind.Reducescatter x ≢ kind.Allreduce))
-apart kind.Custom = All-cons (λ x. kind_of kind.Custom x ≢ kind.Allreduce) part.Whole [] (λ e. absurd (cc)) (All-nil (λ x. kind_of kind.Custom x ≢ kind.Allreduce))
 apart kind.Allreduce =
-    All-cons (λ x. kind_of kind.Allreduce x ≢ kind.Allreduce) part.Reduce (part.Gather ∷ []) (λ e. absurd (cc))
-    (All-cons (λ x. kind_of kind.Allreduce x ≢ kind.Allreduce) part.Gather [] (λ e. absurd (cc)) (All-nil (λ x. kind_of kind.Allreduce x ≢ kind.Allreduce)))
+    let P : Part → Type 0 = λ x. kind_of kind.Allreduce x ≢ kind.Allreduce in
+    All-cons P part.Reduce (part.Gather ∷ []) (λ e. absurd (cc)) (All-cons P part.Gather [] (λ e. absurd (cc)) (All-nil P))
+apart k = All-cons (λ x. kind_of k x ≢ kind.Allreduce) part.Whole [] (λ e. absurd (cc)) (All-nil (λ x. kind_of k x ≢ kind.Allreduce))
 
 pub each_apart : (r : ReportValue) → IsReport r → All (λ x. kind_of r.words.collective.kind x.0 ≢ kind.Allreduce) r.frontiers
 each_apart r ok =
@@ -126,15 +119,8 @@ verified_joins r files ok e same =
     record { in_order = are.in_order; summed = are.summed }
 
 joins_pass : (k : Kind) (r : ReportValue) → (k ≡ kind.Allreduce → joins_checked r.topology.topology (pairs_of (points_of is_reduce r.frontiers) (points_of is_gather r.frontiers)) r.joined ≡ Ok tt) → joins_of k r ≡ Ok tt
-joins_pass kind.Broadcast r h = refl
-joins_pass kind.Gather r h = refl
-joins_pass kind.Allgather r h = refl
-joins_pass kind.Scatter r h = refl
-joins_pass kind.Alltoall r h = refl
-joins_pass kind.Reduce r h = refl
-joins_pass kind.Reducescatter r h = refl
-joins_pass kind.Custom r h = refl
 joins_pass kind.Allreduce r h = h refl
+joins_pass _ r h = refl
 
 joined_passes : (r : ReportValue) → IsReport r → (r.words.collective.kind ≡ kind.Allreduce → joins_checked r.topology.topology (pairs_of (points_of is_reduce r.frontiers) (points_of is_gather r.frontiers)) r.joined ≡ Ok tt) → joined_checked r r.frontiers ≡ Ok tt
 joined_passes r ok h =

@@ -13,17 +13,11 @@ use Rattle.frontier_audit.specs.Solutions.{is_solution}
 
 solves_said : (v : Verdict) → says_solves v ≡ true → v ≡ verdict.Solves
 solves_said verdict.Solves e = refl
-solves_said (verdict.Overfull a b c) e = absurd (cc)
-solves_said (verdict.Lacking a b) e = absurd (cc)
-solves_said (verdict.NoLink h) e = absurd (cc)
+solves_said _ e = absurd (cc)
 
 pub sums_said : (v : SumVerdict) → says_sums v ≡ true → v ≡ sums.Sums
 sums_said sums.Sums e = refl
-sums_said (sums.Missing a b c) e = absurd (cc)
-sums_said (sums.Twice a b c) e = absurd (cc)
-sums_said (sums.Overfull a b c) e = absurd (cc)
-sums_said (sums.NoLink h) e = absurd (cc)
-sums_said (sums.Clash a b c) e = absurd (cc)
+sums_said _ e = absurd (cc)
 
 solves_by : (t : TopologyValue) (pre post : PlacementValue) (s : ScheduleValue) (n r : ℕ) → length s.rounds ≡ n → sum s.rounds ≡ r → says_solves (verdict_of t pre post s) ≡ true → Solves t pre post s n r
 solves_by t pre post s n r steps rounds e =

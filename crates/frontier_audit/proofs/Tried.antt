@@ -1,7 +1,7 @@
 -- The candidates of a search are just those within the limits.
 use Rattle.std.proofs.Common.{◌≡◌, ℕ, zero, suc, ◌+◌, ◌<◌, ◌≤◌, Bool, true, false, List, [], ◌∷◌, map, Decides, refl, sym, ap, ◌∙◌, subst, ⊎_elim, arith, ◌&&◌, ◌||◌, ◌==◌, ◌↔◌, if◌then◌else◌, filter, nat_le, All, Contains}
-use Rattle.std.{specs.List.{list_any, range_with_len}, proofs.lemmas.Bool.{and_parts, eqb-true, eq-eqb, cases_eq, or_left, or_right, leb-true, and_from}}
-use Rattle.std.proofs.lemmas.{Bool.Decides.{Decides-like, same_from_decides}, List.Elements.{All-nil, All-cons, All-head, All-tail, All-contains}}
+use Rattle.std.{specs.List.{list_any, range_with_len}, proofs.lemmas.Bool.{and_parts, cases_eq, or_left, or_right, leb-true}}
+use Rattle.std.proofs.lemmas.{Bool.Decides.{Decides-and, Decides-eqb, Decides-like, same_from_decides}, List.Elements.{All-nil, All-cons, All-head, All-tail, All-contains}}
 use Rattle.std.proofs.lemmas.List.Folds.{list_any_at, Any-from_list_any}
 use Rattle.collective_spec.specs.{Kinds.allows, Collectives.kind_in}
 use Rattle.candidate_order.specs.{declared.candidate.Candidate.Candidate, Listed.candidate_at, Frontiers.{QuestionValue, IsWithin}}
@@ -12,20 +12,17 @@ use Rattle.frontier_audit.specs.{Candidates.{same_candidate, is_listed, put_in_o
 
 -- ---- the test of the same candidate
 
+pub same_decides : (a b : Candidate) → Decides (same_candidate a b) (a ≡ b)
+same_decides a b = Decides-like (same_candidate a b)
+    (λ e i. record { s = e.0.0 i; r = e.0.1 i; c = e.1 i })
+    (λ e. ((ap (λ x. x.s) e, ap (λ x. x.r) e), ap (λ x. x.c) e))
+    (Decides-and _ _ (Decides-and _ _ (Decides-eqb a.s b.s) (Decides-eqb a.r b.r)) (Decides-eqb a.c b.c))
+
 pub same_is : (a b : Candidate) → same_candidate a b ≡ true → a ≡ b
-same_is a b e =
-    let outer = and_parts (a.s == b.s && a.r == b.r) (a.c == b.c) e in
-    let inner = and_parts (a.s == b.s) (a.r == b.r) outer.0 in
-    let s : a.s ≡ b.s = eqb-true a.s b.s inner.0 in
-    let r : a.r ≡ b.r = eqb-true a.r b.r inner.1 in
-    let c : a.c ≡ b.c = eqb-true a.c b.c outer.1 in
-    ap (λ n. candidate_at n (a.r, a.c)) s ∙ (ap (λ n. candidate_at b.s (n, a.c)) r ∙ ap (λ n. candidate_at b.s (b.r, n)) c)
+same_is a b = (same_decides a b).0
 
 pub same_itself : (a : Candidate) → same_candidate a a ≡ true
-same_itself a = and_from (a.s == a.s && a.r == a.r) (a.c == a.c) (and_from (a.s == a.s) (a.r == a.r) (eq-eqb a.s a.s refl) (eq-eqb a.r a.r refl)) (eq-eqb a.c a.c refl)
-
-same_decides : (a b : Candidate) → Decides (same_candidate a b) (a ≡ b)
-same_decides a b = (same_is a b, λ e. ap (same_candidate a) (sym e) ∙ same_itself a)
+same_itself a = (same_decides a a).1 refl
 
 same_turned : (a b : Candidate) → same_candidate a b ≡ same_candidate b a
 same_turned a b = same_from_decides (same_candidate a b) (same_candidate b a) (same_decides a b) (Decides-like (same_candidate b a) (λ e. sym e) (λ e. sym e) (same_decides b a))

@@ -23,18 +23,11 @@ use Rattle.candidate_formula.proofs.{CopyingQuestions.{within_by, reduced_formul
 
 -- a part has a pattern where the whole has one
 pub parts_fit : (k : Kind) (c : Option PatternValue) → fits_kind k c ≡ true → All (λ x. fits_kind (kind_of k x) c ≡ true) (parts_of k)
-parts_fit kind.Broadcast c e = All-cons (λ x. fits_kind (kind_of kind.Broadcast x) c ≡ true) part.Whole [] e (All-nil (λ x. fits_kind (kind_of kind.Broadcast x) c ≡ true))
-parts_fit kind.Gather c e = All-cons (λ x. fits_kind (kind_of kind.Gather x) c ≡ true) part.Whole [] e (All-nil (λ x. fits_kind (kind_of kind.Gather x) c ≡ true))
-parts_fit kind.Allgather c e = All-cons (λ x. fits_kind (kind_of kind.Allgather x) c ≡ true) part.Whole [] e (All-nil (λ x. fits_kind (kind_of kind.Allgather x) c ≡ true))
-parts_fit kind.Scatter c e = All-cons (λ x. fits_kind (kind_of kind.Scatter x) c ≡ true) part.Whole [] e (All-nil (λ x. fits_kind (kind_of kind.Scatter x) c ≡ true))
-parts_fit kind.Alltoall c e = All-cons (λ x. fits_kind (kind_of kind.Alltoall x) c ≡ true) part.Whole [] e (All-nil (λ x. fits_kind (kind_of kind.Alltoall x) c ≡ true))
-parts_fit kind.Reduce c e = All-cons (λ x. fits_kind (kind_of kind.Reduce x) c ≡ true) part.Whole [] e (All-nil (λ x. fits_kind (kind_of kind.Reduce x) c ≡ true))
-parts_fit kind.Reducescatter c e = All-cons (λ x. fits_kind (kind_of kind.Reducescatter x) c ≡ true) part.Whole [] e (All-nil (λ x. fits_kind (kind_of kind.Reducescatter x) c ≡ true))
-parts_fit kind.Custom c e = All-cons (λ x. fits_kind (kind_of kind.Custom x) c ≡ true) part.Whole [] e (All-nil (λ x. fits_kind (kind_of kind.Custom x) c ≡ true))
 parts_fit kind.Allreduce None e =
-    All-cons (λ x. fits_kind (kind_of kind.Allreduce x) None ≡ true) part.Reduce (part.Gather ∷ []) refl
-    (All-cons (λ x. fits_kind (kind_of kind.Allreduce x) None ≡ true) part.Gather [] refl (All-nil (λ x. fits_kind (kind_of kind.Allreduce x) None ≡ true)))
+    let P : Part → Type 0 = λ x. fits_kind (kind_of kind.Allreduce x) None ≡ true in
+    All-cons P part.Reduce (part.Gather ∷ []) refl (All-cons P part.Gather [] refl (All-nil P))
 parts_fit kind.Allreduce (Some p) e = absurd (cc)
+parts_fit k c e = All-cons (λ x. fits_kind (kind_of k x) c ≡ true) part.Whole [] e (All-nil (λ x. fits_kind (kind_of k x) c ≡ true))
 
 spec_is : (r : ReportValue) (part : Part) (f : FrontierValue) → IsReport r → Contains r.frontiers (part, f) → IsSpec r.topology.topology.nodes (question r part).spec
 spec_is r part f ok at =

@@ -1,5 +1,5 @@
 -- Checks of a list, item by item.
-use Rattle.std.proofs.Common.{◌≡◌, ℕ, ◌+◌, ◌<◌, Bool, true, false, List, length, drop, get_or, None, Some, Ok, Err, refl, sym, ap, ◌∙◌, not}
+use Rattle.std.proofs.Common.{◌≡◌, ℕ, ◌+◌, ◌<◌, Bool, true, false, List, length, drop, get_or, Option, None, Some, Ok, Err, refl, sym, ap, ◌∙◌, not}
 use Rattle.text_lines.specs.Check.{◌>>=◌, refuse}
 use Rattle.report_form.proofs.PointNumbers.{from_here}
 use Rattle.frontier_audit.specs.{Denials.{Checked, each}, Beside.denial_of}
@@ -22,11 +22,17 @@ pub passing_denies_none : {C : Type 0} (b : Bool) (code : C) → b ≡ true → 
 passing_denies_none true code e = refl
 passing_denies_none false code e = absurd (cc)
 
-module _ {X E : Type 0} (check : X → Checked E) (xs : List X) (i : ℕ) (x : X) (low : i < length xs) (is : x ≡ get_or xs i x) where
-  -- the item is denied
-  pub denied_here : (d : E) → denial_of (check x) ≡ Some d → denial_of (each check (drop i xs)) ≡ Some d
-  denied_here d e = ap (λ ys. denial_of (each check ys)) (from_here xs i x low is) ∙ first_decides (check x) (each check (drop (i + 1) xs)) d e
+-- the items are refused where a test fails
+module _ {X C : Type 0} (test : X → Bool) (code : X → C) (xs : List X) (i : ℕ) (x : X) (low : i < length xs) (is : x ≡ get_or xs i x) where
+  abbrev refused_from : ℕ → Option C
+  refused_from k = denial_of (each (λ y. refuse (not (test y)) (code y)) (drop k xs))
 
-  -- it is not
-  pub passed_here : denial_of (check x) ≡ None → denial_of (each check (drop (i + 1) xs)) ≡ denial_of (each check (drop i xs))
-  passed_here e = sym (ap (λ ys. denial_of (each check ys)) (from_here xs i x low is) ∙ ap denial_of (rest_decides (check x) (each check (drop (i + 1) xs)) e))
+  said_here : (b : Bool) → test x ≡ b → refused_from i ≡ denial_of (refuse (not b) (code x) >>= (λ _. each (λ y. refuse (not (test y)) (code y)) (drop (i + 1) xs)))
+  said_here b e =
+      ap (λ ys. denial_of (each (λ y. refuse (not (test y)) (code y)) ys)) (from_here xs i x low is) ∙ ap (λ t. denial_of (refuse (not t) (code x) >>= (λ _. each (λ y. refuse (not (test y)) (code y)) (drop (i + 1) xs)))) e
+
+  pub denied_here : test x ≡ false → refused_from i ≡ Some (code x)
+  denied_here e = said_here false e
+
+  pub passed_here : test x ≡ true → refused_from (i + 1) ≡ refused_from i
+  passed_here e = sym (said_here true e)

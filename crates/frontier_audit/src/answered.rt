@@ -1,9 +1,9 @@
 //! The candidates within the limits: whether each is answered, and whether the marks of the points
 //! are right.
 
-ghost use Rattle.std.specs.Prelude.{◌≡◌, ◌++◌, IfOk, OnOk};
-ghost use Rattle.frontier_audit.specs.{Denials.each, Candidates.candidates_within, Beside.denial_of};
-ghost use Rattle.frontier_audit.specs.inner.Steps.{has_mark_among, is_bettered, is_given_up, is_left_answered, is_settled, left_checked, marked_among, unrefuted_among, is_mark};
+ghost use Rattle.std.specs.{Prelude.{◌≡◌, ◌++◌, not, IfOk, OnOk}, List.find, Option.option_map};
+ghost use Rattle.frontier_audit.specs.Candidates.{candidates_within};
+ghost use Rattle.frontier_audit.specs.inner.Steps.{has_mark_among, is_bettered, is_given_up, is_left_answered, is_settled, unrefuted_among, is_mark};
 
 use crate::part_question::PartQuestion;
 use crate::verdict::Reason;
@@ -54,14 +54,12 @@ pub(crate) fn passed_over(
     frontier: &Frontier,
     unrefuted: &[Candidate],
 ) -> Option<(Reason, Candidate)>
-    ensures { result ≡ denial_of (each (left_checked frontier.now) unrefuted.now) }
+    ensures { result ≡ option_map (λ x. (Reason.CandidateMissing, x)) (find (λ x. not (is_left_answered frontier.now x)) unrefuted.now) }
 {
-    for candidate in unrefuted {
-        if !is_answered(frontier, *candidate) {
-            return Some((Reason::CandidateMissing, *candidate));
-        }
-    }
-    None
+    unrefuted
+        .iter()
+        .find(|candidate| !is_answered(frontier, **candidate))
+        .map(|candidate| (Reason::CandidateMissing, *candidate))
 }
 
 /// Whether a candidate that is not refuted is settled by a point, or was given up.
@@ -91,14 +89,12 @@ fn is_given_up(unknown: &[Unknown], candidate: Candidate) -> bool
 
 /// The first point whose mark does not say whether every better candidate is refuted.
 pub(crate) fn marks_denied(points: &[Point], unrefuted: &[Candidate]) -> Option<(Reason, Candidate)>
-    ensures { result ≡ denial_of (each (marked_among unrefuted.now) points.now) }
+    ensures { result ≡ option_map (λ p. (Reason.MarkWrong, p.candidate)) (find (λ p. not (has_mark_among unrefuted.now p)) points.now) }
 {
-    for point in points {
-        if !has_right_mark(point, unrefuted) {
-            return Some((Reason::MarkWrong, point.candidate()));
-        }
-    }
-    None
+    points
+        .iter()
+        .find(|point| !has_right_mark(point, unrefuted))
+        .map(|point| (Reason::MarkWrong, point.candidate()))
 }
 
 /// Whether the mark of a point says whether none of these is better.

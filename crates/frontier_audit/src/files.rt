@@ -3,8 +3,8 @@
 ghost use Rattle.std.specs.Prelude.{◌≡◌, All, AllPairs, IfOk, IsTrue};
 ghost use Rattle.outer_ports.specs.{Port.{HasCause, Tells}, Shelf.FilesStay};
 ghost use Rattle.candidate_order.specs.{Costs.Before, Frontiers.{IsUnknown, IsWithin}};
-ghost use Rattle.frontier_audit.specs.{Denials.each, Auditing.{refutation_checked, unknown_checked}, Beside.AnswersBeside};
-ghost use Rattle.frontier_audit.specs.inner.Steps.{denial_for, refuted_checked};
+ghost use Rattle.frontier_audit.specs.{Denials.each, Auditing.{refutation_checked, unknown_checked}, Beside.{denial_of, AnswersBeside}};
+ghost use Rattle.frontier_audit.specs.inner.Steps.{judged, refuted_checked};
 
 use crate::part_question::PartQuestion;
 use crate::verdict::Reason;
@@ -134,7 +134,7 @@ fn denial_for(
     refused: Reason,
     candidate: Candidate,
 ) -> Option<(Reason, Candidate)>
-    ensures { result ≡ denial_for verdict refused candidate }
+    ensures { result ≡ denial_of (judged verdict refused candidate) }
 {
     match verdict {
         FileVerdict::Missing => Some((Reason::ProofMissing, candidate)),

@@ -82,6 +82,7 @@ pub fn verified_is_right()
 {}
 
 /// A report with right frontiers, a right shelf and the joins of its parts is verified.
+#[tactic(auto, using(crate::proofs::Right::right_verified))]
 pub fn right_is_verified()
     ensures { (r : ReportValue) (files : Files) → IsReport r → ShelfRight r files
         → ((part : Part) (f : FrontierValue) → Contains r.frontiers (part, f) → RightFrontier (question_of r.words r.topology part) f)

@@ -4,12 +4,7 @@ use Rattle.std.proofs.{Math.Seq.{take-append_seam, drop-drop}, lemmas.{Bool.{fal
 use Rattle.std.proofs.lemmas.List.{take-append-drop, drop_all, length-drop}
 
 pub not_begun : (left piece more : List ℕ) → bytes_eq piece (take (length piece) left) ≡ false → bytes_eq (piece ++ more) left ≡ false
-not_begun left piece more apart =
-    ⊎_elim (λ t.
-    let same : piece ++ more ≡ left = (bytes_eq-Decides (piece ++ more) left).0 t in
-    let front : take (length piece) left ≡ piece = ap (take (length piece)) (sym same) ∙ take-append_seam piece more in
-    absurd (false≢true (sym apart ∙ (bytes_eq-Decides piece (take (length piece) left)).1 (sym front))))
-    (λ f. f) (cases_Bool (bytes_eq (piece ++ more) left))
+not_begun left piece more apart = grind (arith, ⊎_elim, bytes_eq-Decides, take-append_seam, false≢true, cases_Bool, bytes_eq)
 
 behind_front : (front xs ys : List ℕ) → bytes_eq (front ++ xs) (front ++ ys) ≡ bytes_eq xs ys
 behind_front [] xs ys = refl
@@ -29,10 +24,7 @@ some_left [] some = absurd (omega (arith, some))
 some_left (x ∷ xs) some = refl
 
 pub at_end : (done : ℕ) (text : List ℕ) → done ≤ length text → nat_eq done (length text) ≡ bytes_eq [] (drop done text)
-at_end done text within =
-    ⊎_elim (λ e. eq-eqb done (length text) e ∙ sym (ap (bytes_eq []) (drop_all done text (omega (arith, e)))))
-    (λ ne. ne_eqb done (length text) (λ e. omega (arith, e, ne)) ∙ sym (some_left (drop done text) (let n = length-drop done text in omega (arith, n, within, ne))))
-    (cases_eq done (length text))
+at_end done text within = grind (arith, ⊎_elim, eq-eqb, bytes_eq, drop_all, ne_eqb, some_left, length-drop, cases_eq)
 
 -- the same of a vector, which knows its length
 pub vec_at_end : (done long : ℕ) (text : List ℕ) → long ≡ length text → done ≤ long → nat_eq done long ≡ bytes_eq [] (drop done text)

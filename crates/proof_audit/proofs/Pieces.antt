@@ -19,9 +19,9 @@ pub record IsPiece (tells : Bool) (file : Option (List ℕ)) (place : ℕ) (piec
   pub there : IsTrue tells → file ≡ None → ⊥
   pub is : IsTrue tells → (whole : List ℕ) → file ≡ Some whole → piece ≡ take (length piece) (drop place whole)
 
-pub more_taken : (before now next : List ℕ → Bool) (told tells : Bool) (file : Option (List ℕ)) (place n : ℕ) (piece : List ℕ) → IsFront before now told file place → Tells told tells → IsPiece tells file place piece → length piece ≡ n
+pub more_taken : {before now next : List ℕ → Bool} {told tells : Bool} {file : Option (List ℕ)} {place : ℕ} (n : ℕ) (piece : List ℕ) → IsFront before now told file place → Tells told tells → IsPiece tells file place piece → length piece ≡ n
     → ((more : List ℕ) → now (piece ++ more) ≡ next more) → IsFront before next tells file (place + n)
-more_taken before now next told tells file place n piece f still p long goes = record {
+more_taken {before} {now} {next} {told} {tells} {file} {place} n piece f still p long goes = record {
   bytes = f.bytes ++ piece;
   long = omega (arith, length-append f.bytes piece, f.long, long);
   same = λ more. ap before (append_assoc f.bytes piece more) ∙ f.same (piece ++ more) ∙ goes more;
@@ -30,22 +30,22 @@ more_taken before now next told tells file place n piece f still p long goes = r
 }
 
 -- what a call of a shelf gave of a file, which is as it was at the start
-module _ (tells : Bool) (at_start files : Files) (name : ProofName) (place : ℕ) (buffer : List ℕ) (answer : Option ℕ) (count : ℕ)
-    (stay : IsTrue tells → FilesStay at_start files) (read : IsTrue tells → ReadsAt {E = ShelfFault} files name place buffer (Ok answer)) (is : answer ≡ Some count) where
-  pub has_file : IsTrue tells → at_start name ≡ None → ⊥
-  has_file t e = let none : answer ≡ None = (read t).none.1 (stay t name ∙ e) in absurd (cc)
+pub record IsRead (tells : Bool) (file : Option (List ℕ)) (place : ℕ) (buffer : List ℕ) (count : ℕ) : Type 0 where
+  pub there : IsTrue tells → file ≡ None → ⊥
+  pub held : IsTrue tells → (whole : List ℕ) → file ≡ Some whole → HoldsBytes whole place buffer count
 
-  held : IsTrue tells → (whole : List ℕ) → at_start name ≡ Some whole → HoldsBytes whole place buffer count
-  held t whole e = subst (λ o. IfSome o (HoldsBytes whole place buffer)) is ((read t).some whole (stay t name ∙ e))
+pub is_read : {tells : Bool} {at_start files : Files} (name : ProofName) {place : ℕ} {buffer : List ℕ} {answer : Option ℕ} {count : ℕ} → (IsTrue tells → FilesStay at_start files) → (IsTrue tells → ReadsAt {E = ShelfFault} files name place buffer (Ok answer)) → answer ≡ Some count
+    → IsRead tells (at_start name) place buffer count
+is_read name {place} {buffer} {answer} stay read is = record {
+  there = λ t e. let none : answer ≡ None = (read t).none.1 (stay t name ∙ e) in absurd (cc);
+  held = λ t whole e. subst (λ o. IfSome o (HoldsBytes whole place buffer)) is ((read t).some whole (stay t name ∙ e));
+}
 
-  pub piece_read : count ≤ length buffer → IsPiece tells (at_start name) place (take count buffer)
-  piece_read within = record {
-    there = has_file;
-    is = λ t whole e. (held t whole e).copied ∙ ap (λ k. take k (drop place whole)) (sym (length-take-le count buffer within));
-  }
-
-  pub end_read : count ≡ 0 → 0 < length buffer → IsTrue tells → (whole : List ℕ) → at_start name ≡ Some whole → length whole ≤ place
-  end_read zero room t whole e = ((held t whole e).end room).0 zero
+pub piece_read : {tells : Bool} {file : Option (List ℕ)} {place : ℕ} {buffer : List ℕ} {count : ℕ} → IsRead tells file place buffer count → count ≤ length buffer → (bytes : List ℕ) → bytes ≡ buffer → IsPiece tells file place (take count bytes)
+piece_read {tells} {file} {place} {buffer} {count} read within bytes same = subst (λ bs. IsPiece tells file place (take count bs)) (sym same) (record {
+  there = read.there;
+  is = λ t whole e. (read.held t whole e).copied ∙ ap (λ k. take k (drop place whole)) (sym (length-take-le count buffer within));
+})
 
 -- ---- verdicts
 
@@ -56,10 +56,10 @@ by_file test (Some whole) v none some = some whole refl
 failing : (test : List ℕ → Bool) (whole : List ℕ) → test whole ≡ false → Refused ≡ (if test whole then Stands else Refused)
 failing test whole e = sym (ap (λ b. if b then Stands else Refused) e)
 
-module _ (before now : List ℕ → Bool) (told : Bool) (file : Option (List ℕ)) (place limit : ℕ) (f : IsFront before now told file place) where
+module _ {before now : List ℕ → Bool} {told : Bool} {file : Option (List ℕ)} {place : ℕ} (limit : ℕ) (f : IsFront before now told file place) where
   -- the piece can't begin what passes
-  pub refused_piece : (tells : Bool) (piece : List ℕ) → Tells told tells → IsPiece tells file place piece → ((more : List ℕ) → now (piece ++ more) ≡ false) → IsTrue tells → Refused ≡ file_verdict (short_and limit before) file
-  refused_piece tells piece still p over t = by_file (short_and limit before) file Refused (λ e. absurd (p.there t e)) some
+  pub refused_piece : {tells : Bool} (piece : List ℕ) → Tells told tells → IsPiece tells file place piece → ((more : List ℕ) → now (piece ++ more) ≡ false) → IsTrue tells → Refused ≡ file_verdict (short_and limit before) file
+  refused_piece piece still p over t = by_file (short_and limit before) file Refused (λ e. absurd (p.there t e)) some
     where
       some : (whole : List ℕ) → file ≡ Some whole → Refused ≡ (if short_and limit before whole then Stands else Refused)
       some whole e =
@@ -80,13 +80,13 @@ module _ (before now : List ℕ → Bool) (told : Bool) (file : Option (List ℕ
           failing (short_and limit before) whole (ap (λ b. b && before whole) (lt-leb (length whole) limit long))
 
   -- no more bytes come
-  pub ended : (tells : Bool) (passed : Bool) → Tells told tells → (IsTrue tells → file ≡ None → ⊥) → (IsTrue tells → (whole : List ℕ) → file ≡ Some whole → length whole ≤ place) → place ≤ limit → passed ≡ now [] → IsTrue tells
+  pub ended : {tells : Bool} {buffer : List ℕ} {count : ℕ} (passed : Bool) → Tells told tells → IsRead tells file place buffer count → count ≡ 0 → 0 < length buffer → place ≤ limit → passed ≡ now [] → IsTrue tells
       → (if passed then Stands else Refused) ≡ file_verdict (short_and limit before) file
-  ended tells passed still there end within is t = by_file (short_and limit before) file (if passed then Stands else Refused) (λ e. absurd (there t e)) some
+  ended passed still read zero room within is t = by_file (short_and limit before) file (if passed then Stands else Refused) (λ e. absurd (read.there t e)) some
     where
       some : (whole : List ℕ) → file ≡ Some whole → (if passed then Stands else Refused) ≡ (if short_and limit before whole then Stands else Refused)
       some whole e =
-          let last = end t whole e in
+          let last = ((read.held t whole e).end room).0 zero in
           let all : f.bytes ≡ whole = f.front (still t) whole e ∙ take_all place whole last in
           let same : now [] ≡ before whole = sym (f.same []) ∙ ap before (append-nil f.bytes ∙ all) in
           let short : nat_le (length whole) limit ≡ true = le-leb (length whole) limit (omega (arith, last, within)) in

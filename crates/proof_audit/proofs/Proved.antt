@@ -1,5 +1,5 @@
 -- Tests of files pass exactly where the files are what they have to be.
-use Rattle.std.proofs.Common.{◌≡◌, ℕ, suc, true, List, [], ◌∷◌, length, Option, Some, None, refl, sym, ap, ◌∙◌, ◌&&◌, ◌==◌, map}
+use Rattle.std.proofs.Common.{arith, ◌≡◌, ℕ, suc, true, List, [], ◌∷◌, length, Option, Some, None, refl, ap, ◌∙◌, ◌&&◌, map}
 use Rattle.std.proofs.lemmas.Bool.{and_parts, eqb-true, eq-eqb, and_from}
 use Rattle.cnf_formula.specs.{Formulas.FormulaValue, Lines.ProofLineValue, declared.line.LratLine.{LratLine, TheVariants.{Addition, Deletion}}}
 use Rattle.proof_rules.specs.{Held.{CheckerValue, start_of}, Testing.is_rup}
@@ -10,9 +10,7 @@ use Rattle.proof_audit.specs.Tested.{do_refute, do_spend}
 
 pub refutes_by : (f : FormulaValue) (said : Option (List LratLine)) → do_refute f said ≡ true → (lines : List LratLine) × (said ≡ Some lines) × Refutes lines f
 refutes_by f None e = absurd (cc)
-refutes_by f (Some lines) e =
-    let parts = and_parts (all_accepted (start_of f) lines) (after_lines (start_of f) lines).refuted e in
-    (lines, refl, record { accepted = parts.0; refuted = parts.1 })
+refutes_by f (Some lines) e = grind (arith, and_parts)
 
 pub by_refuting : (f : FormulaValue) (said : Option (List LratLine)) (lines : List LratLine) → said ≡ Some lines → Refutes lines f → do_refute f said ≡ true
 by_refuting f said lines e h = ap (do_refute f) e ∙ and_from (all_accepted (start_of f) lines) (after_lines (start_of f) lines).refuted h.accepted h.refuted
@@ -38,16 +36,7 @@ pub record SpentBy (f : FormulaValue) (n : ℕ) (said : Option (List LratLine)) 
 
 pub spent_by : (f : FormulaValue) (n : ℕ) (said : Option (List LratLine)) → do_spend f n said ≡ true → SpentBy f n said
 spent_by f n None e = absurd (cc)
-spent_by f n (Some lines) e =
-    let parts = and_parts (length lines == n) (are_learned (start_of f) lines) e in
-    let (added, are) = additions_of (start_of f) lines parts.1 in
-    record {
-      added = added;
-      says = ap (λ ls. Some ls) are;
-      spent = record { count = sym (map_length added) ∙ (ap length (sym are) ∙ eqb-true (length lines) n parts.0); learned = ap (are_learned (start_of f)) (sym are) ∙ parts.1 };
-    }
+spent_by f n (Some lines) e = grind (arith, and_parts, additions_of, map_length, eqb-true)
 
 pub by_spending : (f : FormulaValue) (n : ℕ) (said : Option (List LratLine)) (added : List ProofLineValue) → said ≡ Some (map Addition added) → SpentLog added f n → do_spend f n said ≡ true
-by_spending f n said added e s =
-    ap (do_spend f n) e
-    ∙ and_from (length (map Addition added) == n) (are_learned (start_of f) (map Addition added)) (eq-eqb (length (map Addition added)) n (map_length added ∙ s.count)) s.learned
+by_spending f n said added e s = grind (arith, and_from, eq-eqb, map_length)

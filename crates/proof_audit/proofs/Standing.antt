@@ -1,5 +1,5 @@
 -- Files that stand beside a refuted candidate.
-use Rattle.std.proofs.Common.{◌≡◌, ℕ, Bool, true, false, List, length, Option, None, Some, refl, ap, ◌∙◌, ◌↔◌, nat_le, bytes_eq, if◌then◌else◌}
+use Rattle.std.proofs.Common.{arith, ◌≡◌, ℕ, Bool, true, List, length, Option, None, Some, refl, ap, ◌∙◌, ◌↔◌, nat_le, bytes_eq, if◌then◌else◌}
 use Rattle.std.proofs.lemmas.{Bool.{and_parts, leb-true, le-leb, and_from}, Slice.Eq.bytes_eq-Decides}
 use Rattle.outer_ports.specs.{declared.{part.Part.Part, proof_name.FileKind.TheVariants.{Cnf, Lrat}}, Files.Files}
 use Rattle.lrat_text.specs.Printing.{cnf_text}
@@ -16,11 +16,7 @@ record Passes (test : List ℕ → Bool) (file : Option (List ℕ)) : Type 0 whe
 
 passes : (test : List ℕ → Bool) (file : Option (List ℕ)) → file_verdict test file ≡ Stands → Passes test file
 passes test None e = absurd (cc)
-passes test (Some bytes) e = record { bytes = bytes; found = refl; pass = go (test bytes) e }
-  where
-    go : (b : Bool) → (if b then Stands else Refused) ≡ Stands → b ≡ true
-    go true same = refl
-    go false same = absurd (cc)
+passes test (Some bytes) e = grind arith
 
 stands : (test : List ℕ → Bool) (file : Option (List ℕ)) (bytes : List ℕ) → file ≡ Some bytes → test bytes ≡ true → file_verdict test file ≡ Stands
 stands test file bytes found pass = ap (file_verdict test) found ∙ ap (λ b. if b then Stands else Refused) pass

@@ -1,5 +1,5 @@
 -- What is said of a whole file of proof lines.
-use Rattle.std.proofs.Common.{◌≡◌, ◌∙◌, refl, sym, ap, ℕ, Bool, List, length, Option, None, Some, Result, Ok, Err, ◌&&◌, ◌==◌, IfOk, nat_le, if◌then◌else◌}
+use Rattle.std.proofs.Common.{arith, ◌≡◌, ◌∙◌, refl, sym, ap, ℕ, Bool, List, length, Option, None, Some, Result, Ok, Err, ◌&&◌, ◌==◌, IfOk, nat_le, if◌then◌else◌}
 use Rattle.std.proofs.lemmas.Bool.{and_parts}
 use Rattle.cnf_formula.specs.{Formulas.{FormulaValue, Satisfiable}, declared.line.LratLine.LratLine}
 use Rattle.proof_rules.{specs.Held.start_of, proofs.Calm.never_refuted}
@@ -43,10 +43,7 @@ module _ (f : FormulaValue) (passes : List ℕ → Bool) (test : List LratLine �
 
 -- bytes that refute a formula leave it no satisfying assignment
 pub never_satisfied : (f : FormulaValue) → SomePass (is_refutation f) → Satisfiable f → ⊥
-never_satisfied f some s =
-    let parts = and_parts (nat_le (length some.bytes) longest_proof) (do_refute f (lines_said some.bytes)) some.pass in
-    let (lines, says, refutes) = refutes_by f (lines_said some.bytes) parts.1 in
-    never_refuted f lines s refutes
+never_satisfied f some s = grind (arith, and_parts, nat_le, refutes_by, never_refuted)
 
 -- bytes that are a log give one
 pub has_log : (f : FormulaValue) (n : ℕ) → SomePass (is_spent_log f n) → HasSpentLog f n

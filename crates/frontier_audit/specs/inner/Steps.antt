@@ -1,9 +1,9 @@
 -- The checks of an audit as its steps do them.
-use Rattle.std.specs.Prelude.{◌≡◌, ◌==◌, ◌&&◌, ◌||◌, ◌+◌, ◌++◌, not, if◌then◌else◌, ℕ, Bool, List, Option, None, Some, bytes_eq, drop, filter, map, Ok, Err}
-use Rattle.std.specs.{Cmp.Lexicographic.pointwise, List.{list_any, flat_map, range_with_len}}
+use Rattle.std.specs.Prelude.{◌≡◌, ◌==◌, ◌&&◌, ◌||◌, ◌+◌, ◌++◌, not, if◌then◌else◌, ℕ, Bool, List, Option, None, Some, drop, filter, map, Ok, Err}
+use Rattle.std.specs.List.{list_any, flat_map, range_with_len}
 use Rattle.text_lines.specs.Check.{◌>>=◌, refuse}
 use Rattle.outer_ports.specs.{declared.part.Part.Part, Files.Files}
-use Rattle.schedule.specs.{declared.hop.Hop.Hop, Links.TopologyValue, Sends.ScheduleValue}
+use Rattle.schedule.specs.{declared.hop.Hop.Hop, Links.TopologyValue}
 use Rattle.inversion.specs.Saying.{says_sums}
 use Rattle.collective_spec.specs.{declared.kind.Kind.{Kind, TheVariants.Allreduce}, Collectives.chunks_of}
 use Rattle.candidate_order.specs.{declared.{candidate.Candidate.Candidate, mark.Mark.Mark}, Listed.candidate_at}
@@ -47,11 +47,11 @@ candidates_of_step q s = flat_map (λ r. map (λ c. candidate_at s (r, c)) (chun
 
 -- ---- files
 
--- why a candidate is denied for a file, where the second is the reason for one that fails its test
-abbrev pub denial_for : FileVerdict → Reason → Candidate → Option Denial
-denial_for Missing refused x = Some (ProofMissing, x)
-denial_for Refused refused x = Some (refused, x)
-denial_for Stands refused x = None
+-- what the verdict on a file says, where this is the reason for one that fails its test
+abbrev pub judged : FileVerdict → Reason → Candidate → Checked Denial
+judged Missing refused x = Err (ProofMissing, x)
+judged Refused refused x = Err (refused, x)
+judged Stands refused x = Ok tt
 
 -- ---- candidates
 
@@ -75,15 +75,9 @@ is_given_up unknown x = list_any (λ u. same_candidate x u.candidate) unknown
 abbrev pub is_left_answered : FrontierValue → Candidate → Bool
 is_left_answered f x = is_settled f.points x || is_given_up f.unknown x
 
-abbrev pub left_checked : FrontierValue → Candidate → Checked Denial
-left_checked f x = refuse (not (is_left_answered f x)) (CandidateMissing, x)
-
 -- a mark says whether none of these is better
 abbrev pub has_mark_among : List Candidate → PointValue → Bool
 has_mark_among left p = is_mark (not (is_bettered left p.candidate)) p.mark
-
-abbrev pub marked_among : List Candidate → PointValue → Checked Denial
-marked_among left p = refuse (not (has_mark_among left p)) (MarkWrong, p.candidate)
 
 -- the candidates of a part, and then its marks
 abbrev pub answers_checked : QuestionValue → FrontierValue → Checked Denial
@@ -110,9 +104,6 @@ report_checked r files = do
 
 abbrev pub same_hop : Hop → Hop → Bool
 same_hop a b = a.chunk == b.chunk && a.from == b.from && a.to == b.to && a.step == b.step
-
-abbrev pub same_schedule : ScheduleValue → ScheduleValue → Bool
-same_schedule a b = bytes_eq a.rounds b.rounds && pointwise same_hop a.sends b.sends
 
 -- the join of the two sums every chunk at every node
 abbrev pub is_join : TopologyValue → PointValue × PointValue → Bool

@@ -1,24 +1,20 @@
-use Rattle.std.proofs.Common.{subst, sym, ◌∙◌}
-use Rattle.frontier_audit.{specs.{Auditing.refutation_checked, Beside.AnswersBeside}, proofs.Said.{text_denies, proof_decides, said_before, said_later}}
+use Rattle.proof_audit.specs.Proving.{is_refutation}
+use Rattle.frontier_audit.{specs.declared.verdict.Reason.TheVariants.{CnfDiffers, ProofRefused}, proofs.{Beside.is_text_of, Said.{file_answers, text_denies, proof_decides}}}
 use Rattle.frontier_audit.proofs.files.files_denied.Goals as goal
 
 pub returns-in-Some-clause-beside : goal.returns-in-Some-clause-beside
 returns-in-Some-clause-beside g c =
-    let H = g.H.Shelf in
     let text = c.in_ok-text.ensures in
-    text_denies (H.tells c.formula_file.new.shelf) (H.file c.args.shelf.now) c.args.part c.args.asked.now c.args.candidate c.in_ok-formula.formula c.in_ok-formula.ensures
-    c.file_name-name.result c.in_ok-text.text c.in-Some.denial c.file_name-name.ensures (record { exact = text.exact; some = text.some }) (sym c.denial_for.ensures ∙ c.in-Some.is)
+    text_denies c.args.part c.args.asked.now c.args.candidate c.in_ok-formula.ensures c.file_name-name.ensures
+    (file_answers (g.H.Shelf.tells c.formula_file.new.shelf) (g.H.Shelf.file c.args.shelf.now) c.file_name-name.result (is_text_of c.in_ok-formula.formula) c.in_ok-text.text CnfDiffers c.args.candidate c.denial_for.ensures text.exact text.some) c.in-Some.denial c.in-Some.is
 
 pub returns-clause-beside : goal.returns-clause-beside
 returns-clause-beside g c =
-    let H = g.H.Shelf in
-    let q = c.args.asked.now in
-    let shelf = H.file c.args.shelf.now in
-    let tells = H.tells c.refutation_file.new.shelf in
+    let f = c.in_ok-formula.formula in
+    let x = c.args.candidate in
     let text = c.in_ok-text.ensures in
     let proof = c.in_ok-proof.ensures in
-    subst (AnswersBeside tells shelf (λ files. refutation_checked c.args.part q files c.args.candidate)) (sym c.denial_for-2.ensures)
-    (proof_decides tells shelf c.args.part q c.args.candidate c.in_ok-formula.formula c.in_ok-formula.ensures
-    c.file_name-name.result c.file_name-name-2.result c.in_ok-text.text c.in_ok-proof.proof
-    c.file_name-name.ensures (said_later (H.tells c.formula_file.new.shelf) tells shelf c.file_name-name.result _ c.in_ok-text.text proof.told (record { exact = text.exact; some = text.some })) (sym c.denial_for.ensures ∙ c.in_default.is)
-    c.file_name-name-2.ensures (said_before tells shelf (H.file c.formula_file.new.shelf) c.file_name-name-2.result _ c.in_ok-proof.proof (λ t. text.stay (proof.told t)) (record { exact = proof.exact; some = proof.some })))
+    proof_decides c.args.part c.args.asked.now x c.in_ok-formula.ensures c.file_name-name.ensures
+    (file_answers (g.H.Shelf.tells c.formula_file.new.shelf) (g.H.Shelf.file c.args.shelf.now) c.file_name-name.result (is_text_of f) c.in_ok-text.text CnfDiffers x c.denial_for.ensures text.exact text.some) c.in_default.is proof.told
+    (λ t. text.stay (proof.told t)) c.file_name-name-2.ensures
+    (file_answers (g.H.Shelf.tells c.refutation_file.new.shelf) (g.H.Shelf.file c.formula_file.new.shelf) c.file_name-name-2.result (is_refutation f) c.in_ok-proof.proof ProofRefused x c.denial_for-2.ensures proof.exact proof.some)

@@ -34,21 +34,17 @@ loop-first-preserved c =
 pub returns-in-None : goal.returns-in-None
 returns-in-None c =
     let l = c.loop-first in
-    let t = c.args.topology.now in
     let joined = c.args.joined.now in
     let gather = c.args.gather.now in
-    let pairs = pairs_of c.args.reduce.now gather in
-    let all = walk_ends t joined (λ xs. pairs_of xs gather) (pairs_add gather) c.args.reduce.now l.first-index 0 l.place c.loop-first-test.false l.invariant in
-    no_surplus t pairs joined l.place all (slice_get_past joined l.place c.in-None.ensures.lookup.3)
+    no_surplus c.args.topology.now (pairs_of c.args.reduce.now gather) joined l.place
+    (walk_ends c.args.topology.now joined (λ xs. pairs_of xs gather) (pairs_add gather) c.args.reduce.now l.first-index 0 l.place c.loop-first-test.false l.invariant) (slice_get_past joined l.place c.in-None.ensures.lookup.3)
 
 pub returns-in-Some-get : goal.returns-in-Some-get
 returns-in-Some-get c =
     let l = c.loop-first in
-    let t = c.args.topology.now in
     let joined = c.args.joined.now in
     let gather = c.args.gather.now in
-    let pairs = pairs_of c.args.reduce.now gather in
     let p = c.in-Some-get.surplus.now in
     let found = c.in-Some-get.ensures.lookup in
-    let all = walk_ends t joined (λ xs. pairs_of xs gather) (pairs_add gather) c.args.reduce.now l.first-index 0 l.place c.loop-first-test.false l.invariant in
-    ap (λ x. Some (JoinWrong, x)) c.candidate.ensures ∙ surplus t pairs joined l.place p all (got_at joined l.place p found.3.0 found.1)
+    let all = walk_ends c.args.topology.now joined (λ xs. pairs_of xs gather) (pairs_add gather) c.args.reduce.now l.first-index 0 l.place c.loop-first-test.false l.invariant in
+    ap (λ x. Some (JoinWrong, x)) c.candidate.ensures ∙ surplus c.args.topology.now (pairs_of c.args.reduce.now gather) joined l.place p all (got_at joined l.place p found.3.0 found.1)

@@ -1,7 +1,7 @@
-use Rattle.std.proofs.Common.{List, sym, subst, ap, ◌∙◌, AllPairs}
-use Rattle.candidate_order.specs.{Costs.Before, Frontiers.{PointValue, UnknownValue}}
-use Rattle.frontier_audit.specs.{Denials.each, Auditing.unknown_checked, inner.Steps.{point_checked, refuted_checked}, Beside.denial_of}
-use Rattle.frontier_audit.proofs.{Merging.{later, reworded, since}, Parting.{answers_decide, points_decide, refuted_decide, unknown_decide, unnamed_pairs}}
+use Rattle.std.proofs.Common.{sym, subst, ap, ◌∙◌, AllPairs}
+use Rattle.candidate_order.specs.{Costs.Before, Frontiers.UnknownValue}
+use Rattle.frontier_audit.specs.{Denials.each, inner.Steps.point_checked, Beside.denial_of}
+use Rattle.frontier_audit.proofs.Parting.{answers_decide, points_decide, refuted_decide, unknown_decide, unnamed_pairs}
 use Rattle.frontier_audit.proofs.parts.part_denied.Goals as goal
 
 pub unknown_denied-requires-clause-ascending : goal.unknown_denied-requires-clause-ascending
@@ -10,50 +10,26 @@ unknown_denied-requires-clause-ascending g c =
 
 pub returns-in-Some-clause-beside : goal.returns-in-Some-clause-beside
 returns-in-Some-clause-beside g c =
-    let H = g.H.Shelf in
-    let q = c.args.asked.now in
-    points_decide (H.tells c.args.shelf.now) (H.file c.args.shelf.now) c.args.part q c.args.frontier.now c.in-Some.denial
-    (sym c.in-Some.is ∙ (c.in_ok-denial.ensures ∙ ap (λ (ps : List PointValue). denial_of (each (point_checked q) ps)) c.points.ensures))
+    let points = c.in_ok-denial.ensures ∙ ap (λ ps. denial_of (each (point_checked c.args.asked.now) ps)) c.points.ensures in
+    points_decide c.args.part c.args.asked.now c.args.frontier.now c.in-Some.denial (sym c.in-Some.is ∙ points)
 
 pub returns-in-Some-2-clause-beside : goal.returns-in-Some-2-clause-beside
 returns-in-Some-2-clause-beside g c =
-    let H = g.H.Shelf in
-    let q = c.args.asked.now in
-    let f = c.args.frontier.now in
-    let shelf = H.file c.args.shelf.now in
-    let tells = H.tells c.refuted_denied.new.shelf in
-    refuted_decide tells shelf c.args.part q f (sym c.in_default.is ∙ (c.in_ok-denial.ensures ∙ ap (λ (ps : List PointValue). denial_of (each (point_checked q) ps)) c.points.ensures)) c.in-Some-2.denial
-    (reworded tells shelf (refuted_checked c.args.part q) c.refuted.result.now f.refuted c.in_ok-denial-2.field-0 _ c.refuted.ensures c.in-Some-2.is c.in_ok-denial-2.ensures.beside)
+    let points = c.in_ok-denial.ensures ∙ ap (λ ps. denial_of (each (point_checked c.args.asked.now) ps)) c.points.ensures in
+    refuted_decide c.args.part c.args.asked.now c.args.frontier.now (sym c.in_default.is ∙ points) c.in-Some-2.denial (rw (c.refuted.ensures, c.in-Some-2.is) at c.in_ok-denial-2.ensures.beside)
 
 pub returns-in-Some-3-clause-beside : goal.returns-in-Some-3-clause-beside
 returns-in-Some-3-clause-beside g c =
-    let H = g.H.Shelf in
-    let q = c.args.asked.now in
-    let f = c.args.frontier.now in
-    let shelf = H.file c.args.shelf.now in
-    let middle = H.tells c.refuted_denied.new.shelf in
-    let tells = H.tells c.unknown_denied.new.shelf in
+    let points = c.in_ok-denial.ensures ∙ ap (λ ps. denial_of (each (point_checked c.args.asked.now) ps)) c.points.ensures in
     let first = c.in_ok-denial-2.ensures in
     let second = c.in_ok-denial-3.ensures in
-    let refuted = reworded middle shelf (refuted_checked c.args.part q) c.refuted.result.now f.refuted c.in_ok-denial-2.field-0 _ c.refuted.ensures c.in_default-2.is first.beside in
-    let unknown = reworded tells (H.file c.refuted_denied.new.shelf) (unknown_checked c.args.part q) c.unknown.result.now f.unknown c.in_ok-denial-3.field-0 _ c.unknown.ensures c.in-Some-3.is second.beside in
-    unknown_decide tells shelf c.args.part q f (sym c.in_default.is ∙ (c.in_ok-denial.ensures ∙ ap (λ (ps : List PointValue). denial_of (each (point_checked q) ps)) c.points.ensures)) c.in-Some-3.denial
-    (later middle tells shelf (λ files. each (refuted_checked c.args.part q files) f.refuted) _ second.told refuted)
-    (since tells shelf (H.file c.refuted_denied.new.shelf) (λ files. each (unknown_checked c.args.part q files) f.unknown) _ (λ t. first.stay (second.told t)) unknown)
+    unknown_decide c.args.part c.args.asked.now c.args.frontier.now (sym c.in_default.is ∙ points) (rw (c.refuted.ensures, c.in_default-2.is) at first.beside) second.told (λ t. first.stay (second.told t))
+    c.in-Some-3.denial (rw (c.unknown.ensures, c.in-Some-3.is) at second.beside)
 
 pub returns-clause-beside : goal.returns-clause-beside
 returns-clause-beside g c =
-    let H = g.H.Shelf in
-    let q = c.args.asked.now in
-    let f = c.args.frontier.now in
-    let shelf = H.file c.args.shelf.now in
-    let middle = H.tells c.refuted_denied.new.shelf in
-    let tells = H.tells c.unknown_denied.new.shelf in
+    let points = c.in_ok-denial.ensures ∙ ap (λ ps. denial_of (each (point_checked c.args.asked.now) ps)) c.points.ensures in
     let first = c.in_ok-denial-2.ensures in
     let second = c.in_ok-denial-3.ensures in
-    let refuted = reworded middle shelf (refuted_checked c.args.part q) c.refuted.result.now f.refuted c.in_ok-denial-2.field-0 _ c.refuted.ensures c.in_default-2.is first.beside in
-    let unknown = reworded tells (H.file c.refuted_denied.new.shelf) (unknown_checked c.args.part q) c.unknown.result.now f.unknown c.in_ok-denial-3.field-0 _ c.unknown.ensures c.in_default-3.is second.beside in
-    answers_decide tells shelf c.args.part q f (sym c.in_default.is ∙ (c.in_ok-denial.ensures ∙ ap (λ (ps : List PointValue). denial_of (each (point_checked q) ps)) c.points.ensures)) c.in_ok-answers_denied.field-0
-    (later middle tells shelf (λ files. each (refuted_checked c.args.part q files) f.refuted) _ second.told refuted)
-    (since tells shelf (H.file c.refuted_denied.new.shelf) (λ files. each (unknown_checked c.args.part q files) f.unknown) _ (λ t. first.stay (second.told t)) unknown)
-    c.in_ok-answers_denied.ensures
+    answers_decide c.args.part c.args.asked.now c.args.frontier.now (sym c.in_default.is ∙ points) (rw (c.refuted.ensures, c.in_default-2.is) at first.beside) second.told (λ t. first.stay (second.told t))
+    c.in_ok-answers_denied.field-0 (rw (c.unknown.ensures, c.in_default-3.is) at second.beside) c.in_ok-answers_denied.ensures

@@ -1,26 +1,6 @@
 use Rattle.std.{proofs.Common.refl, specs.Fmt.digits}
 use Rattle.frontier_audit.proofs.vectors.unknown_audited.Goals as goal
 
-pub returns-clause-log_lacks : goal.returns-clause-log_lacks
+pub returns : goal.returns
 unfolding digits
-returns-clause-log_lacks c = refl
-
-pub returns-clause-log_refutes : goal.returns-clause-log_refutes
-unfolding digits
-returns-clause-log_refutes c = refl
-
-pub returns-clause-log_short : goal.returns-clause-log_short
-unfolding digits
-returns-clause-log_short c = refl
-
-pub returns-clause-log_stale : goal.returns-clause-log_stale
-unfolding digits
-returns-clause-log_stale c = refl
-
-pub returns-clause-log_redundant : goal.returns-clause-log_redundant
-unfolding digits
-returns-clause-log_redundant c = refl
-
-pub returns-clause-verified : goal.returns-clause-verified
-unfolding digits
-returns-clause-verified c = refl
+returns c = record { log_lacks = refl; log_refutes = refl; log_short = refl; log_stale = refl; log_redundant = refl; verified = refl }
