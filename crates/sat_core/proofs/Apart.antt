@@ -12,20 +12,8 @@ pair_apart lits x y long ex ey differ = λ i j d h w.
     apart_at lits i j 0 1 d x y (omega arith) (omega arith) (get_or_read lits 0 x (omega arith) ex d) (get_or_read lits 1 y (omega arith) ey d) differ
 
 pub three_apart : (lits : List LitValue) (x y z : LitValue) → length lits ≡ 3 → x ≡ get_or lits 0 x → y ≡ get_or lits 1 y → z ≡ get_or lits 2 z → x ≢ y → x ≢ z → y ≢ z → AllPairs (λ a b. a ≢ b) lits
-three_apart lits x y z long ex ey ez xy xz yz = λ i j d h w.
-    let fx = get_or_read lits 0 x (omega arith) ex d in
-    let fy = get_or_read lits 1 y (omega arith) ey d in
-    let fz = get_or_read lits 2 z (omega arith) ez d in
-    ⊎_elim
-    (λ e. apart_at lits i j 0 1 d x y (omega arith) e fx fy xy)
-    (λ n.
-    let last : j ≡ 2 = omega arith in
-    ⊎_elim (λ e. apart_at lits i j 0 2 d x z e last fx fz xz) (λ m. apart_at lits i j 1 2 d y z (omega arith) last fy fz yz) (cases_eq i 0))
-    (cases_eq j 1)
+three_apart lits x y z long ex ey ez xy xz yz = grind (arith, get_or_read, ⊎_elim, apart_at, cases_eq)
 
 -- a table that is made longer by zeros, or cut, has no mark more
 pub resized_below : (old new : List ℕ) (n mark : ℕ) → 0 < mark → length new ≡ n → ((k : ℕ) → k < n → k < length old → get_or new k 0 ≡ get_or old k 0) → ((k : ℕ) → length old ≤ k → k < n → get_or new k 0 ≡ 0) → ((k : ℕ) → get_or old k 0 < mark) → (k : ℕ) → get_or new k 0 < mark
-resized_below old new n mark some len same zero below k = ⊎_elim
-    (λ w. ⊎_elim (λ v. let b = below k in omega (arith, b, same k w v)) (λ v. omega (arith, some, zero k v w)) (cases_lt k (length old)))
-    (λ w. omega (arith, some, get_or_past new k 0 (omega arith)))
-    (cases_lt k n)
+resized_below old new n mark some len same zero below k = grind (arith, ⊎_elim, cases_lt, get_or_past)

@@ -1,5 +1,5 @@
 -- Where a search has learned as many lines as may be, they are a spent log; where it closes, there is one line more at most.
-use Rattle.std.proofs.Common.{◌≡◌, ℕ, ◌+◌, ◌≤◌, List, [], ◌∷◌, ◌++◌, length, refl, sym, ap, ◌∙◌, subst, ⊎_elim, arith, ◌↔◌, ◌<◌, IsTrue, Bool, true, false, not}
+use Rattle.std.proofs.Common.{◌≡◌, ℕ, ◌+◌, ◌≤◌, List, [], ◌∷◌, ◌++◌, length, refl, sym, ap, ◌∙◌, ⊎_elim, arith, ◌↔◌, ◌<◌, IsTrue, Bool, true, false, not}
 use Rattle.std.proofs.lemmas.{Bool.{cases_lt, false≢true}, List.length-append}
 use Rattle.cnf_formula.specs.{Formulas.FormulaValue, Lines.ProofLineValue, Literals.LitValue}
 use Rattle.proof_rules.specs.{Held.{CheckerValue, start_of, has_none}, Refuting.{is_fresh, with_line, SpentLog}, Learning.AllFresh}
@@ -17,18 +17,11 @@ all_learned (line ∷ lines) c f = rw (some line.lits f.0) (ap (λ ls. line ∷ 
     some (l ∷ clause) h = refl
 
 pub log_by : (base formula : FormulaValue) (lines : List ProofLineValue) (spent limit : ℕ) → base ≡ formula → AreWritten base lines → IsOver base lines → spent ≡ length (learned lines) → spent ≡ limit → SpentLog lines formula limit
-log_by base formula lines spent limit e w o charged full = subst (λ f. SpentLog lines f limit) e (record {
-  count = sym (ap length (all_learned lines (start_of base) o.fresh)) ∙ sym charged ∙ full;
-  learned = are_learned_by lines (start_of base) w.implied o.fresh;
-})
+log_by base formula lines spent limit e w o charged full = grind (arith, all_learned, are_learned_by)
 
 -- of the lines, all but one that closes were learned
 pub closed_few : (base : FormulaValue) (lines now : List ProofLineValue) (line : ProofLineValue) (spent limit : ℕ) → AllFresh (start_of base) lines → spent ≡ length (learned lines) → spent ≤ limit → now ≡ lines ++ line ∷ [] → length now ≤ limit + 1
-closed_few base lines now line spent limit fresh charged within added =
-    let all = ap length (all_learned lines (start_of base) fresh) in
-    let many = ap length added in
-    let more = length-append lines (line ∷ []) in
-    omega (arith, all, many, more, charged, within)
+closed_few base lines now line spent limit fresh charged within added = grind (arith, all_learned, length-append)
 
 -- where there is no room, what may be spent is spent
 pub no_room : {spent limit : ℕ} {room : Bool} → room ≡ false → IsTrue room ↔ (spent < limit) → spent ≤ limit → spent ≡ limit

@@ -6,7 +6,7 @@ use Rattle.list_laws.proofs.{Each.all_contained, Members.{Contains-cons, Contain
 use Rattle.cnf_formula.specs.Literals.{LitValue, negation}
 use Rattle.proof_rules.specs.{Held.{Entry, clause_at}, Accepting.{Takes, Falsifies, Conflicts, leading, hint_groups_from}}
 use Rattle.trail_core.{specs.{Assigned.{IsFalse, IsConsistent}, Trails.{StepValue, lits_of}}, proofs.Keeping.negated_twice}
-use Rattle.conflict_analysis.{specs.Learning.{number_of, hints_of, hints_to, IsOut, IsResolved, IsAnalysis}, proofs.Members.{here, cons_cases}}
+use Rattle.conflict_analysis.{specs.Learning.{number_of, hints_to, IsOut, IsResolved, IsAnalysis}, proofs.Members.{here, cons_cases}}
 use Rattle.sat_core.{specs.inner.{Hints.{name_of, numbers_of, numbers_to}, Holding.AreNamed}, proofs.Members.{from_filter, found_by, not_found}}
 use Rattle.sleeping_clauses.specs.Naming.{name, IsName}
 
@@ -122,9 +122,4 @@ hints_names clauses steps resolved conflict clause hints names an is many =
 -- ---- and so few
 
 pub few_named : (names : List ℕ) (resolved : StepValue → Bool) (steps : List StepValue) (conflict : ℕ) → length (map (name names) (hints_to resolved steps conflict)) ≤ length steps + 1
-few_named names resolved steps conflict =
-    let a = few_kept resolved steps in
-    let b = length-map (filter resolved steps) (λ s. pos (number_of s.reason)) in
-    let c = length_push (hints_of resolved steps) (pos (conflict + 1)) in
-    let d = length-map (hints_to resolved steps conflict) (name names) in
-    omega (arith, a, b, c, d)
+few_named names resolved steps conflict = grind (arith, few_kept, length-map, length_push)

@@ -182,10 +182,7 @@ up_to_more core xs x a level b is up low high o j c v i = ⊎_elim
     (Contains-push_cases xs x o c)
 
 pub level_more : (core : CoreValue) (xs : List LitValue) (x : LitValue) (a level b k : ℕ) → IsAt core x k → level ≡ level_at core.limits k → (0 < a → HasLevel core xs a) → (b ≡ a) ⊎ (b ≡ level) → 0 < b → HasLevel core (xs ++ x ∷ []) b
-level_more core xs x a level b k at e has or some = ⊎_elim
-    (λ s. let h = has (omega (arith, s, some)) in record { lit = h.lit; stands = Contains-append_left xs (x ∷ []) h.lit h.stands; place = h.place; within = h.within; is = h.is; at = h.at ∙ sym s })
-    (λ s. record { lit = x; stands = Contains-push xs x; place = k; within = at.within; is = at.is; at = sym e ∙ sym s })
-    or
+level_more core xs x a level b k at e has or some = grind (arith, ⊎_elim, Contains-append_left, Contains-push)
 
 -- one literal more was read
 pub record IsHighest (core : CoreValue) (lits : List LitValue) (top : ℕ) : Type 0 where

@@ -37,10 +37,7 @@ keeping_old passed kept marks mark l k e =
 
 -- a mark more leaves none above it
 pub marks_below : (marks : List ℕ) (place mark : ℕ) → place < length marks → ((k : ℕ) → get_or marks k 0 ≤ mark) → (k : ℕ) → get_or (set marks place mark) k 0 ≤ mark
-marks_below marks place mark w b k = ⊎_elim
-    (λ e. let is : k ≡ place = eqb-true k place e in omega (arith, ap (λ i. get_or (set marks place mark) i 0) is, get_or-set_same marks place mark 0 w))
-    (λ e. let old = b k in omega (arith, old, get_or-set_other marks place k mark 0 (eqb-false k place e)))
-    (cases_Bool (eqb k place))
+marks_below marks place mark w b k = grind (arith, ⊎_elim, eqb-true, get_or-set_same, get_or-set_other, eqb-false, cases_Bool)
 
 -- another is kept, and its number marked
 pub keeping_new : (passed kept : List LitValue) (marks : List ℕ) (mark : ℕ) (l : LitValue) → IsKeeping passed kept marks mark → code_of l < length marks → (get_or marks (code_of l) 0 ≡ mark → ⊥) → IsLit l → IsKeeping (passed ++ l ∷ []) (kept ++ l ∷ []) (set marks (code_of l) mark) mark
@@ -104,15 +101,7 @@ pub record IsNumbered (core : CoreValue) (awake : Awake) : Type 0 where
   pub names : (k : ℕ) → k < length core.clauses → get_or awake.names.items (k + 1) 0 ≡ k + 1
 
 pub numbered_from : (core : CoreValue) (awake : Awake) (n : ℕ) → n ≡ length core.clauses → awake.ids.items ≡ range_with_len 0 n → awake.names.items ≡ range_with_len 0 (n + 1) → All (AllPairs (λ a b. a ≢ b)) core.clauses → IsNumbered core awake
-numbered_from core awake n e ids names once = record {
-  listed = record {
-    ids_len = omega (arith, ap length ids, length-range_with_len 0 n, e);
-    ids = λ k w. let at = get_or-range_with_len 0 n k 0 (omega (arith, w, e)) in omega (arith, ap (λ xs. get_or xs k 0) ids, at);
-    names = omega (arith, ap length names, length-range_with_len 0 (n + 1), e);
-    once = λ k w. once k [] w;
-  };
-  names = λ k w. let at = get_or-range_with_len 0 (n + 1) (k + 1) 0 (omega (arith, w, e)) in omega (arith, ap (λ xs. get_or xs (k + 1) 0) names, at);
-}
+numbered_from core awake n e ids names once = grind (arith, length-range_with_len, get_or-range_with_len)
 
 -- each clause is held under its number
 pub loaded_held : (clauses : List (List LitValue)) (core : CoreValue) (awake : Awake) (vars : ℕ) → IsLoaded clauses core.clauses → IsNumbered core awake → AreHeld (enumerate_from 1 clauses) awake.names.items core.clauses (no_sleepers vars)

@@ -3,7 +3,7 @@ use Rattle.std.proofs.Common.{◌≡◌, ℕ, ◌+◌, ◌<◌, ◌≤◌, true,
 use Rattle.std.proofs.lemmas.{Bool.{ne_eqb, or_right}, List.{get_or_append_left, length_push}}
 use Rattle.std.proofs.lemmas.List.Elements.{Contains-push, Contains-push_cases, Contains-append_left, All-head, All-tail, All-push}
 use Rattle.cnf_formula.specs.{Literals.LitValue, Formulas.FormulaValue, Lines.ProofLineValue, declared.line.LratLine.TheVariants.Addition}
-use Rattle.proof_rules.specs.{declared.verdict.LineVerdict.TheVariants.Accepted as AcceptedVerdict, Held.{Entry, CheckerValue, start_of, clause_at, has_none}}
+use Rattle.proof_rules.specs.{declared.verdict.LineVerdict.TheVariants.Accepted as AcceptedVerdict, Held.{Entry, CheckerValue, start_of, clause_at}}
 use Rattle.proof_rules.specs.{Judging.verdict_of, Refuting.{is_fresh, with_line, after_lines, Refutes}, Learning.AllFresh}
 use Rattle.proof_rules.proofs.{InTurn.{after_more, implied_more, implied_accepted}, Kept.keeps_append}
 use Rattle.ledger_rules.specs.Logs.{checker_of}
@@ -91,10 +91,7 @@ holding_more base c core core' awake awake' s line h l e g =
 -- ---- ready
 
 pub next_number : (base : FormulaValue) (lines : List ProofLineValue) (core : CoreValue) (awake : Awake) (s : SleepersValue) (id : ℕ) → IsReady base lines core awake s → id ≡ awake.held + 1 → IsNext (checker_of base lines) id
-next_number base lines core awake s id r e = record {
-  above_formula = omega (arith, e, r.holding.many, ap (λ f. length f.clauses) r.holding.formula);
-  above_lines = omega (arith, e, r.holding.greatest);
-}
+next_number base lines core awake s id r e = grind arith
 
 pub written_more : (base : FormulaValue) (lines : List ProofLineValue) (core : CoreValue) (awake : Awake) (s : SleepersValue) (line : ProofLineValue) → IsReady base lines core awake s → verdict_of (checker_of base lines) line ≡ AcceptedVerdict true → line.id ≡ awake.held + 1 → length line.hints ≤ base.vars + 1 → AreWritten base (lines ++ line ∷ [])
 written_more base lines core awake s line r v e short = record {
@@ -113,40 +110,16 @@ ready_more base lines core core' awake awake' s line r l w f e g = record {
 }
 
 pub refuted_by : (base : FormulaValue) (lines : List ProofLineValue) (line : ProofLineValue) → AreWritten base (lines ++ line ∷ []) → line.lits ≡ [] → Refutes (map Addition (lines ++ line ∷ [])) base
-refuted_by base lines line w e = record {
-  accepted = implied_accepted (lines ++ line ∷ []) (start_of base) w.implied;
-  refuted = ap (λ c. c.refuted) (after_more lines (start_of base) line) ∙ or_right (checker_of base lines).refuted (has_none line.lits) (ap has_none e);
-}
+refuted_by base lines line w e = grind (arith, implied_accepted, after_more, or_right)
 
 -- what is held stays so where other clauses of it sleep
 pub ready_moved : (base : FormulaValue) (lines : List ProofLineValue) (core core' : CoreValue) (awake awake' : Awake) (s s' : SleepersValue) → IsReady base lines core awake s → core'.vars ≡ core.vars → awake'.formula ≡ awake.formula → awake'.held ≡ awake.held → AreHeld (checker_of base lines).held awake'.names.items core'.clauses s'
     → length base.clauses ≤ length core'.clauses → ((k : ℕ) → k < length base.clauses → get_or core'.clauses k [] ≡ get_or core.clauses k []) → IsReady base lines core' awake' s'
-ready_moved base lines core core' awake awake' s s' r vars formula held are many first =
-    let h = r.holding in
-    record {
-      holding = record {
-        agree = record { vars = omega (arith, vars, h.agree.vars); held = are };
-        formula = h.formula;
-        below = below_more awake.held awake'.held (checker_of base lines).held (omega (arith, held)) h.below;
-        greatest = omega (arith, h.greatest, held);
-        many = omega (arith, h.many, held);
-        own = formula ∙ h.own;
-        within = many;
-        first = λ k w. subst (IsSame (get_or base.clauses k [])) (sym (first k w)) (h.first k w);
-      };
-      written = r.written;
-      fresh = r.fresh;
-      count = held ∙ r.count;
-    }
+ready_moved base lines core core' awake awake' s s' r vars formula held are many first = grind (arith, below_more)
 
 -- other steps leave the search ready
 pub ready_same : (base : FormulaValue) (lines : List ProofLineValue) (core core' : CoreValue) (awake awake' : Awake) (s : SleepersValue) → IsReady base lines core awake s → core'.vars ≡ core.vars → core'.clauses ≡ core.clauses → awake'.names ≡ awake.names → awake'.formula ≡ awake.formula → awake'.held ≡ awake.held → IsReady base lines core' awake' s
-ready_same base lines core core' awake awake' s r vars clauses names formula held =
-    let h = (checker_of base lines).held in
-    ready_moved base lines core core' awake awake' s s r vars formula held
-    (subst (λ cs. AreHeld h awake'.names.items cs s) (sym clauses) (subst (λ v. AreHeld h v.items core.clauses s) (sym names) r.holding.agree.held))
-    (omega (arith, r.holding.within, ap length clauses))
-    (λ k w. ap (λ cs. get_or cs k []) clauses)
+ready_same base lines core core' awake awake' s r vars clauses names formula held = grind (arith, ready_moved)
 
 -- ---- a clause that slept is woken
 

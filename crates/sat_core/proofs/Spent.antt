@@ -62,10 +62,7 @@ is_that : (clause other : List LitValue) → Contains (clause ∷ []) other → 
 is_that clause other h = ⊎_elim (λ e. e) (λ n. absurd (omega (arith, n.1))) (cons_cases clause [] other h)
 
 rests_so : (trues clause : List LitValue) → (IsFalsified trues clause → ⊥) → ((l : LitValue) → IsUnit trues clause l → ⊥) → Rests trues clause
-rests_so trues clause f u = record {
-  not_falsified = λ other h x. f (subst (IsFalsified trues) (sym (is_that clause other h)) x);
-  not_unit = λ other l h x. u l (subst (λ o. IsUnit trues o l) (sym (is_that clause other h)) x);
-}
+rests_so trues clause f u = grind (arith, is_that)
 
 -- each clause of a closed trail rests
 pub rests_by : (trues : List LitValue) (clauses : List (List LitValue)) (clause : List LitValue) → IsClosed trues clauses → Contains clauses clause → Rests trues clause

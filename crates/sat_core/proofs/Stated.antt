@@ -9,7 +9,7 @@ use Rattle.ledger_rules.specs.Logs.{checker_of}
 use Rattle.trail_core.{specs.{Trails.lits_of, Formed.IsTrail, Meaning.{CoreValue, trues}}, proofs.Keeping.lits_length}
 use Rattle.conflict_analysis.specs.{Met.lit_at, UnitLines.{denied, IsUnitLine}}
 use Rattle.conflict_analysis.proofs.{Marked.{lit_read, lit_about, same_place}, Members.{here, cons_cases}}
-use Rattle.sleeping_clauses.specs.{Naming.{IsNamed}, Sleeping.{SleepersValue, HasNone}, declared.awake.Awake.Awake}
+use Rattle.sleeping_clauses.specs.{Naming.IsNamed, Sleeping.{SleepersValue, HasNone}, declared.awake.Awake.Awake}
 use Rattle.sat_core.specs.{inner.Stating.{AreStated, IsStating}, Ready.IsReady}
 use Rattle.sat_core.proofs.{AtConflict.{line_accepted, line_short}, Fresh.fresh_by, Readiness.{next_number, written_more}}
 
@@ -21,10 +21,7 @@ denied_lits : (core : CoreValue) (place : ℕ) → lits_of (denied core place) �
 denied_lits core place = map-append (λ s. s.lit) (take place core.trail) (record { lit = negation (lit_at core place); reason = None } ∷ []) ∙ ap (λ xs. xs ++ negation (lit_at core place) ∷ []) (sym (take-map (λ s. s.lit) place core.trail))
 
 denied_few : (core : CoreValue) (place : ℕ) → place < length core.trail → length (denied core place) ≡ place + 1
-denied_few core place w =
-    let n : length (take place core.trail) ≡ place = length-take-le place core.trail (omega (arith, w)) in
-    let m = length_push (take place core.trail) (record { lit = negation (lit_at core place); reason = None }) in
-    omega (arith, n, m)
+denied_few core place w = grind (arith, length-take-le, length_push)
 
 denied_formed : (core : CoreValue) (place : ℕ) → IsTrail core.vars core.trail core.limits → place < length core.trail → IsTrail core.vars (denied core place) []
 denied_formed core place t w =
@@ -91,11 +88,7 @@ module _ {base : FormulaValue} {lines : List ProofLineValue} {core : CoreValue} 
       (λ other w sub. are other l w new (λ o h. ⊎_elim (λ q. sym q) (λ c. absurd (omega (arith, c.1))) (cons_cases l [] o (sub o h)))))
 
 pub stating_about : (core : CoreValue) (place vars : ℕ) (lits : List LitValue) → IsTrail core.vars core.trail core.limits → place < length core.trail → vars ≡ core.vars → lits ≡ lit_at core place ∷ [] → All (IsAbout vars) lits
-stating_about core place vars lits t w v e =
-    subst (All (IsAbout vars)) (sym e) (all_contained (IsAbout vars) (lit_at core place ∷ []) (λ o c. ⊎_elim
-    (λ q. subst (IsAbout vars) q (subst (λ n. IsAbout n (lit_at core place)) (sym v) (lit_about core place t w)))
-    (λ h. absurd (omega (arith, h.1)))
-    (cons_cases (lit_at core place) [] o c)))
+stating_about core place vars lits t w v e = grind (arith, all_contained, ⊎_elim, lit_about, cons_cases)
 
 -- ---- what is marked
 
@@ -135,13 +128,7 @@ pub stated_all : (stated : List Bool) (lits : List LitValue) → ((k : ℕ) → 
 stated_all stated lits all clause l c new alone = false≢true (sym new ∙ all (code_of l))
 
 pub stated_many : (stated : List Bool) (lits : List LitValue) → AllPairs (λ a b. a ≢ b) lits → 1 < length lits → AreStated (lits ∷ []) stated
-stated_many stated lits once many clause l c new alone = ⊎_elim
-    (λ e.
-    let first = alone (get_or lits 0 l) (subst (λ x. Contains x (get_or lits 0 l)) e (0, omega (arith, many), get_or_default lits 0 _ l (omega (arith, many)))) in
-    let second = alone (get_or lits 1 l) (subst (λ x. Contains x (get_or lits 1 l)) e (1, many, get_or_default lits 1 _ l many)) in
-    once 0 1 l (omega arith) many (first ∙ sym second))
-    (λ h. omega (arith, h.1))
-    (cons_cases lits [] clause c)
+stated_many stated lits once many clause l c new alone = grind (arith, ⊎_elim, get_or_default, cons_cases)
 
 -- a list of one
 pub alone_is : (lits : List LitValue) (l : LitValue) → 1 ≤ length lits → length lits < 2 → l ≡ get_or lits 0 l → lits ≡ l ∷ []

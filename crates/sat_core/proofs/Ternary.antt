@@ -4,7 +4,7 @@ use Rattle.std.{specs.List.{list_any, IsDistinct, AllByRecursion}, proofs.{Math.
 use Rattle.std.proofs.lemmas.Bool.{false≢true, cases_Bool, cases_lt, or_cases, or_right, ne_eqb, eqb-true}
 use Rattle.std.proofs.lemmas.{List.Elements.{All-contains, Contains-push, Contains-append_left}, Map.Keys.IsDistinct-cons}
 use Rattle.std.proofs.lemmas.{List.Sums.list_all-from_AllPass, Map.Steps.length-le_from_distinct_below}
-use Rattle.list_laws.proofs.{Each.all_contained}
+use Rattle.list_laws.proofs.Each.{all_contained}
 use Rattle.cnf_formula.specs.{Literals.{LitValue, yes, no, has_literal, is_superset}, Formulas.{FormulaValue, IsAbout, IsClause}, Lines.ProofLineValue}
 use Rattle.proof_rules.specs.{Held.{Entry, CheckerValue, start_of, has_none}, Refuting.{with_line, is_fresh, SpentLog}, Learning.{AllImplied, AllFresh}}
 use Rattle.proof_rules.proofs.{InTurn.learned_in_turn, Verdicts.implied_by}
@@ -160,7 +160,4 @@ few_lines lines c a f =
     omega (arith, few, length-map lines (λ line. number_to line.lits n))
 
 pub few_spent : (f : FormulaValue) (lines : List ProofLineValue) (n : ℕ) → SpentLog lines f n → n < 3 ^ f.vars
-few_spent f lines n s =
-    let each = learned_in_turn lines (start_of f) s.learned in
-    let few = few_lines lines (start_of f) each.0 each.1 in
-    omega (arith, few, s.count)
+few_spent f lines n s = grind (arith, learned_in_turn lines (start_of f) s.learned, few_lines lines (start_of f) (learned_in_turn lines (start_of f) s.learned).0 (learned_in_turn lines (start_of f) s.learned).1)

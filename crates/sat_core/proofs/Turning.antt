@@ -77,19 +77,10 @@ not_empty {n} lits is full len = ⊎_elim (λ w. w) (λ z. absurd (eqb-false n 0
 -- ---- what is kept beside the core
 
 pub guided_more : (core core' : CoreValue) (guide : Guide) → IsRested core.vars guide.walk.stamp guide.walk.marks.items → guide.decider ≡ core.vars → IsListed core'.clauses guide.awake → guide.sleepers.vars ≡ core.vars → AreFew guide.sleepers → core'.vars ≡ core.vars → IsGuided core' guide
-guided_more core core' guide r d listed sleepers few vars = record {
-  rested = record { len = r.len ∙ ap (λ m. m + 1) (sym vars); below = r.below };
-  decider = d ∙ sym vars;
-  listed = listed;
-  sleepers = sleepers ∙ sym vars;
-  few = few;
-}
+guided_more core core' guide r d listed sleepers few vars = grind arith
 
 -- ---- after a line was learned
 
 pub grown_guided : (core core' : CoreValue) (guide guide' : Guide) (line : ProofLineValue) (id : ℕ) → IsGuided core guide → AllPairs (λ a b. a ≢ b) line.lits → IsGrown core core' guide.awake guide'.awake line → id ≡ length core.clauses → guide'.awake.ids.items ≡ guide.awake.ids.items ++ id ∷ [] → guide'.walk ≡ guide.walk → guide'.decider ≡ guide.decider → guide'.sleepers ≡ guide.sleepers
     → IsGuided core' guide'
-grown_guided core core' guide guide' line id g once w at ids walk decider sleepers =
-    guided_more core core' guide' (subst (λ x. IsRested core.vars x.stamp x.marks.items) (sym walk) g.rested) (decider ∙ g.decider)
-    (listed_more core.clauses core'.clauses line.lits guide.awake guide'.awake id (guide.awake.held + 1) g.listed w.clauses at ids w.names once)
-    (ap (λ s. s.vars) sleepers ∙ g.sleepers) (subst AreFew (sym sleepers) g.few) w.vars
+grown_guided core core' guide guide' line id g once w at ids walk decider sleepers = grind (arith, guided_more, listed_more)

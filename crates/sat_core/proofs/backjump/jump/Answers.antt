@@ -1,20 +1,14 @@
-use Rattle.std.proofs.Common.{◌≡◌, ◌-◌, [], ◌∷◌, ◌++◌, length, sym, ap, ◌∙◌, subst, arith, All}
+use Rattle.std.proofs.Common.{◌≡◌, ◌-◌, length, sym, ◌∙◌, subst, arith, All}
 use Rattle.cnf_formula.specs.{Literals.LitValue, Formulas.IsAbout}
 use Rattle.trail_core.specs.{Search.IsUnit, Meaning.trues, Kept.{IsDue, CanAdd}}
 use Rattle.sat_core.{specs.inner.Jumping.gone_back, proofs.Jumping.{IsJump, jump_unit, jump_can, jump_due, backed_some, backed_within, backed_differ, last_is}}
 use Rattle.sat_core.proofs.backjump.jump.Goals as goal
 
 pub overflow_sub-lits : goal.overflow_sub-lits
-overflow_sub-lits c =
-    let core = c.args.core.now in
-    let lits = c.args.lits.now in
-    let some = backed_some core lits c.requires.backed in omega (arith, some)
+overflow_sub-lits c = grind (arith, backed_some)
 
 pub bounds-lits-lits : goal.bounds-lits-lits
-bounds-lits-lits c =
-    let core = c.args.core.now in
-    let lits = c.args.lits.now in
-    let some = backed_some core lits c.requires.backed in omega (arith, some)
+bounds-lits-lits c = grind (arith, backed_some)
 
 pub learn-requires : goal.learn-requires
 learn-requires c =
@@ -37,18 +31,7 @@ learn-requires c =
     }
 
 pub returns : goal.returns
-returns c =
-    let b : c.back_to.new.self ≡ gone_back c.args.core.now c.args.level = c.back_to.ensures.back c.requires.above in
-    let ok = c.in_ok-learn.ensures.ok in
-    record {
-      vars = ap (λ x. x.vars) ok.1 ∙ ap (λ x. x.vars) b;
-      id = ok.0 ∙ ap (λ x. length x.clauses) b;
-      added = ap (λ x. x.clauses) ok.1 ∙ ap (λ x. x.clauses ++ c.args.lits.now ∷ []) b;
-    }
+returns c = grind arith
 
 pub returns-in_err-learn-clause-vars : goal.returns-in_err-learn-clause-vars
-returns-in_err-learn-clause-vars c =
-    let core = c.args.core.now in
-    let level = c.args.level in
-    let b : c.back_to.new.self ≡ gone_back core level = c.back_to.ensures.back c.requires.above in
-    ap (λ x. x.vars) c.in_err-learn.ensures.err ∙ ap (λ x. x.vars) b
+returns-in_err-learn-clause-vars c = grind arith

@@ -1,6 +1,6 @@
-use Rattle.std.proofs.Common.{◌≡◌, ℕ, ◌+◌, ◌<◌, ◌≤◌, [], ◌∷◌, ◌++◌, length, get_or, set, take, sym, ap, ◌∙◌, subst, arith, ◌≢◌, All, AllPairs}
+use Rattle.std.proofs.Common.{◌≡◌, ℕ, ◌+◌, ◌<◌, ◌≤◌, [], ◌∷◌, ◌++◌, length, get_or, set, take, sym, ap, ◌∙◌, subst, arith}
 use Rattle.std.proofs.lemmas.List.{take_more, take_all, length-set}
-use Rattle.cnf_formula.specs.Literals.{LitValue, IsLit, code_of}
+use Rattle.cnf_formula.specs.Literals.{LitValue, code_of}
 use Rattle.sat_core.proofs.Loaded.{IsKeeping, keeping_new, marks_below}
 use Rattle.sat_core.proofs.loading.are_apart.Goals as goal
 
@@ -28,20 +28,7 @@ pub returns-then-not-marks_at-clause-len : goal.returns-then-not-marks_at-clause
 returns-then-not-marks_at-clause-len c = ap length c.marks_at.ensures.marked ∙ length-set c.loop-lit.seen.items c.code.result c.args.mark ∙ c.loop-lit.invariant.len
 
 pub returns-then-not-marks_at-clause-marked : goal.returns-then-not-marks_at-clause-marked
-returns-then-not-marks_at-clause-marked c = λ j.
-    let seen = c.loop-lit.seen.items in
-    let code = c.requires.room c.lit-item.result c.code.ensures.limits (c.loop-lit.lit-index, c.loop-lit-test.true, sym c.lit-item.is) in
-    let room : c.code.result < length seen = omega (arith, code, c.code.ensures.code, c.loop-lit.invariant.len) in
-    subst (λ ms. get_or ms j 0 ≤ c.args.mark) (sym c.marks_at.ensures.marked) (marks_below seen c.code.result c.args.mark room c.loop-lit.invariant.below j)
+returns-then-not-marks_at-clause-marked c = grind (arith, marks_below)
 
 pub returns : goal.returns
-returns c =
-    let i = c.loop-lit.invariant in
-    let k = c.loop-lit.lit-index in
-    let all : take k c.args.lits.now ≡ c.args.lits.now = take_all k c.args.lits.now (omega (arith, c.loop-lit-test.false)) in
-    record {
-      len = i.len;
-      marked = i.below;
-      once = λ _. subst (AllPairs (λ a b. a ≢ b)) all i.keeping.once;
-      lits = λ _. subst (All IsLit) all i.keeping.lits;
-    }
+returns c = grind (arith, take_all)

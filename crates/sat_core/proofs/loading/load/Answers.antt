@@ -1,14 +1,9 @@
-use Rattle.std.proofs.Common.{◌≡◌, length, sym, ap, ◌∙◌, subst, arith, All, flat_map}
-use Rattle.cnf_formula.specs.{Literals.IsLit, Formulas.IsClause}
+use Rattle.std.proofs.Common.{◌≡◌, length, ap, subst, arith, flat_map}
 use Rattle.sat_core.{specs.inner.Loading.IsLoaded, proofs.Loaded.{IsNumbered, clauses_own, numbered_from, ready_loaded}}
 use Rattle.sat_core.proofs.loading.load.Goals as goal
 
 pub core_of-requires : goal.core_of-requires
-core_of-requires c =
-    let base = c.args.formula.now in
-    let is : c.clauses-clauses.result.now ≡ base.clauses = c.clauses-clauses.ensures.clauses in
-    subst (All (IsClause c.args.own)) (sym is) (clauses_own base.vars c.args.own base.clauses c.requires c.clauses-clauses.ensures.limits
-    (subst (All IsLit) (c.lits.ensures ∙ ap (flat_map (λ clause. clause)) is) c.know.ensures))
+core_of-requires c = grind (arith, clauses_own, flat_map)
 
 pub returns : goal.returns
 returns c =

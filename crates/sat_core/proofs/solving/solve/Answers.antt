@@ -1,10 +1,10 @@
-use Rattle.std.{proofs.Common.{◌≡◌, ℕ, ◌<◌, true, length, map, Result, Ok, Err, refl, sym, ap, ◌∙◌, subst, arith}, specs.Result.{IsOk, OnOk}}
+use Rattle.std.{proofs.Common.{◌≡◌, true, length, map, Result, Ok, Err, sym, ap, ◌∙◌, subst, arith}, specs.Result.{IsOk, OnOk}}
 use Rattle.std.proofs.lemmas.{Result.IfOk-at_ok, Bool.true≢false}
 use Rattle.cnf_formula.specs.{Formulas.Satisfies, declared.line.LratLine.TheVariants.Addition}
 use Rattle.proof_rules.specs.{declared.verdict.LineVerdict.TheVariants.Accepted, Judging.verdict_of, Refuting.{Refutes, SpentLog}}
 use Rattle.ledger_rules.specs.Logs.{checker_of}
 use Rattle.trail_core.specs.Meaning.{trues}
-use Rattle.sat_core.specs.{Ready.{AreNumbered, AreShort, IsReady}, inner.Totals.AreValues, declared.{solving.SatAnswer.SatAnswer, searching.End.End}}
+use Rattle.sat_core.specs.{Ready.{AreNumbered, AreShort}, inner.Totals.AreValues, declared.{solving.SatAnswer.SatAnswer, searching.End.End}}
 use Rattle.sat_core.specs.{declared.searching.End.TheVariants.{Total, Refuted, Spent}, inner.Ending.IsEnded}
 use Rattle.sat_core.proofs.{Caused.{handed_other, no_answer, on_fault, still}, Going.ended_agrees, Ending.log_by, Modelled.model_satisfies, Ternary.few_spent}
 use Rattle.sat_core.proofs.solving.solve.Goals as goal
@@ -16,16 +16,7 @@ after P (Ok x) (Err e) is p = absurd (true≢false (sym is))
 after P (Err e) s is p = tt
 
 pub search-end-requires : goal.search-end-requires
-search-end-requires g c =
-    let core = c.in_ok-core.core in
-    let guide = c.in_ok-core.guide in
-    record {
-      can = record {
-        ready = subst (λ f. IsReady f (g.L.LedgerView.lines c.args.ledger.now) core guide.awake guide.sleepers) (sym c.requires.base) (subst (λ lines. IsReady c.args.formula.now lines core guide.awake guide.sleepers) (sym c.requires.empty) c.in_ok-core.ensures.ready);
-        guided = c.in_ok-core.ensures.guided;
-        agrees = c.requires.agrees;
-      };
-    }
+search-end-requires g c = grind arith
 
 pub answer_of-requires-clause-own : goal.answer_of-requires-clause-own
 answer_of-requires-clause-own g c = sym (c.search-end.ensures.vars ∙ c.in_ok-core.ensures.vars)
@@ -72,23 +63,4 @@ returns g c =
     }
 
 pub returns-in_err-core : goal.returns-in_err-core
-returns-in_err-core g c =
-    let lines = g.L.LedgerView.lines c.args.ledger.now in
-    let fault = c.from_residual in
-    let none : (k : ℕ) → k < length lines → ⊥ = λ k lt. omega (arith, lt, ap length c.requires.empty) in
-    record {
-      model = λ values e. absurd (no_answer fault.ensures.0 e);
-      refuted = λ e. absurd (no_answer fault.ensures.0 e);
-      closed = λ e. absurd (no_answer fault.ensures.0 e);
-      spent = λ e. absurd (no_answer fault.ensures.0 e);
-      log = λ e. absurd (no_answer fault.ensures.0 e);
-      not_closed = λ e line empty accepted. no_answer fault.ensures.0 e;
-      few = λ e. absurd (no_answer fault.ensures.0 e);
-      numbered = λ k d lt. absurd (none k lt);
-      short = λ k d lt. absurd (none k lt);
-      moves = g.met.L.Ledger.moves_refl c.args.ledger.now c.args.store.now;
-      agrees = on_fault _ fault.result fault.ensures.0;
-      base = refl;
-      limit = refl;
-      cause = still (handed_other fault.result c.in_err-core.was fault.ensures.1 c.prepared.ensures.fault);
-    }
+returns-in_err-core g c = grind (arith, no_answer, on_fault, still, handed_other)

@@ -1,17 +1,9 @@
-use Rattle.std.proofs.Common.{◌≡◌, [], ◌∷◌, ◌++◌, refl, sym, ap, ◌∙◌, subst, inl, ◌≢◌, AllPairs}
-use Rattle.cnf_formula.specs.Formulas.{IsClause}
+use Rattle.std.proofs.Common.{arith, ◌≡◌, [], ◌∷◌, ◌++◌, refl, sym, ap, ◌∙◌, subst}
 use Rattle.sat_core.{specs.inner.Stating.AreStated, proofs.{Readiness.{IsGrown, ready_more}, Turning.grown_guided, Stated.stated_more}}
 use Rattle.sat_core.proofs.stating.hold.Goals as goal
 
 pub add_clause-requires : goal.add_clause-requires
-add_clause-requires c =
-    let line = c.args.line.now in
-    let eq : c.deref.result.now ≡ line.lits = c.deref.ensures.value ∙ ap (λ l. l.lits) c.line.view_is in
-    record {
-      within = subst (IsClause c.args.core.now.vars) (sym eq) c.requires.about;
-      once = subst (AllPairs (λ a b. a ≢ b)) (sym eq) c.requires.once;
-      place = inl c.requires.bottom;
-    }
+add_clause-requires c = grind arith
 
 pub returns : goal.returns
 returns c =

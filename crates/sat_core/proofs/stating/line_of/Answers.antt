@@ -1,4 +1,4 @@
-use Rattle.std.proofs.Common.{◌≡◌, sym, ap, ◌∙◌, subst, Contains, get_or, true}
+use Rattle.std.proofs.Common.{arith, ◌≡◌, sym, ap, ◌∙◌, subst, Contains, get_or, true}
 use Rattle.cnf_formula.specs.Literals.{LitValue, code_of}
 use Rattle.conflict_analysis.{specs.{Met.lit_at, UnitLines.denied}, proofs.Resolved.place_read}
 use Rattle.sat_core.proofs.{Hinted.hints_names, Turning.none_by, Stated.{HasUnitLine, stating_is, stating_about}}
@@ -11,11 +11,7 @@ named-requires c =
     record { known = hints_names c.args.core.now.clauses (denied c.args.core.now c.args.place) is.resolved is.conflict unit.lits unit.hints _ is.analysis is.hints c.requires.guided.listed.names }
 
 pub subset_of-requires : goal.subset_of-requires
-subset_of-requires c =
-    let core = c.args.core.now in
-    let line = c.in_ok-line.line in
-    let eq : c.deref.result.now ≡ line.lits = c.deref.ensures.value ∙ ap (λ l. l.lits) c.line.view_is in
-    stating_about core c.args.place c.args.guide.now.sleepers.vars c.deref.result.now c.trail.ensures.formed c.requires.place c.requires.guided.sleepers (eq ∙ c.in_ok-line.ensures.line.lits ∙ c.in_ok-unit.ensures.settled.lits)
+subset_of-requires c = grind (arith, stating_about)
 
 pub returns-clause-line : goal.returns-clause-line
 returns-clause-line c = λ base lines ready.

@@ -6,10 +6,7 @@ pub loop-place-init : goal.loop-place-init
 loop-place-init c = stated_nil c.in_ok-stated.stated.items
 
 pub mark-requires : goal.mark-requires
-mark-requires c =
-    let clauses = c.args.core.now.clauses in
-    let w : c.loop-place.place < length clauses = omega (arith, c.loop-place-test.true, c.loop-place.auto.place-end, c.len-place-end.ensures, c.requires.ids_len) in
-    once_is clauses c.args.awake.now c.loop-place.place c.index.result.now c.clause.result.now c.requires w c.index.ensures (c.clause.ensures [])
+mark-requires c = grind (arith, once_is)
 
 pub loop-place-preserved : goal.loop-place-preserved
 loop-place-preserved c =
