@@ -113,9 +113,7 @@ abbrev named : FileKind → Part → ℕ → ℕ → ℕ → ProofName
 named kind part s r c = record { kind = kind; part = part; s = s; r = r; c = c }
 
 same_name : (a b : ProofName) → a.kind ≡ b.kind → a.part ≡ b.part → a.s ≡ b.s → a.r ≡ b.r → a.c ≡ b.c → a ≡ b
-same_name a b kind part s r c =
-    ap (λ x. named x a.part a.s a.r a.c) kind ∙ ap (λ x. named b.kind x a.s a.r a.c) part ∙ ap (λ x. named b.kind b.part x a.r a.c) s
-    ∙ ap (λ x. named b.kind b.part b.s x a.c) r ∙ ap (λ x. named b.kind b.part b.s b.r x) c
+same_name a b kind part s r c = grind arith
 
 pub words_apart : (a b : ProofName) → IsTrue (in_range a) → IsTrue (in_range b) → file_word a ≡ file_word b → a ≡ b
 words_apart a b range range_too e =

@@ -1,6 +1,6 @@
 -- What is left as it was of the files of a folder.
-use Rattle.std.proofs.Common.{◌≡◌, ◌≢◌, ◌∙◌, refl, sym, ap, ℕ, Bool, true, false, cond, List, [], ◌++◌, Option, None, Some, IsTrue, IfOk, Result, if◌then◌else◌, inl, inr, ◌⊎◌}
-use Rattle.std.specs.Option.{option_map, unwrap_or}
+use Rattle.std.proofs.Common.{arith, ◌≡◌, ◌≢◌, ◌∙◌, refl, sym, ap, ℕ, List, ◌++◌, Option, None, Some, IsTrue, IfOk, Result, if◌then◌else◌, inl, inr, ◌⊎◌}
+use Rattle.std.specs.Option.{option_map}
 use Rattle.outer_ports.specs.{declared.{open_files.OpenFiles.OpenFiles, proof_name.{FileKind.FileKind, ProofName.ProofName}}, Disks.{Disk, bytes_at, Writes}}
 use Rattle.outer_ports.specs.{Folders.{files_in_folder, fresh_in, in_range, path_in}, Shelf.{FilesStay, HoldsBytes, OthersStay, bytes_in}}
 use Rattle.outer_ports.specs.inner.{Keeping.{AllHeld, AllRead, IsHeld, IsNeither, IsOther, IsOwn, IsRead, Spares}, OpenFiles.{open_of, Holds}}
@@ -8,19 +8,10 @@ use Rattle.outer_ports.proofs.{FileNames.{path_not_fresh, paths_apart}, OpenKind
 
 -- whose file a number is rests on the numbers alone
 pub held_stays : (before now : Disk) (folder : List ℕ) (name : ProofName) (n : ℕ) → now.number ≡ before.number → IsHeld before folder name n → IsHeld now folder name n
-held_stays before now folder name n same held = record {
-  range = held.range;
-  own = record {
-    here = ap (λ number. number (path_in folder name)) same ∙ held.own.here;
-    alone = λ other apart found. held.own.alone other apart (sym (ap (λ number. number other) same) ∙ found);
-  };
-}
+held_stays before now folder name n same held = grind arith
 
 pub read_stays : (before now : Disk) (folder : List ℕ) (name : ProofName) (n : ℕ) → now.number ≡ before.number → IsRead before folder name n → IsRead now folder name n
-read_stays before now folder name n same held = record {
-  range = held.range;
-  here = ap (λ number. number (path_in folder name)) same ∙ held.here;
-}
+read_stays before now folder name n same held = grind arith
 
 -- a file of the folder is that of its path, where its name is one that it can have
 pub file_is : (disk : Disk) (folder : List ℕ) (name : ProofName) (n : ℕ) → IsTrue (in_range name) → disk.number (path_in folder name) ≡ Some n → files_in_folder disk folder name ≡ Some (disk.bytes n)
@@ -28,27 +19,17 @@ file_is disk folder name n range here = ap (λ b. if b then bytes_at disk (path_
 
 -- where the file of a name in range stays, the file of the name does
 pub file_stays : (before now : Disk) (folder : List ℕ) (name : ProofName) → (IsTrue (in_range name) → bytes_at now (path_in folder name) ≡ bytes_at before (path_in folder name)) → files_in_folder now folder name ≡ files_in_folder before folder name
-file_stays before now folder name stays = by_range (in_range name) stays
-  where
-    by_range : (b : Bool) → (IsTrue b → bytes_at now (path_in folder name) ≡ bytes_at before (path_in folder name)) → cond b (bytes_at now (path_in folder name)) None ≡ cond b (bytes_at before (path_in folder name)) None
-    by_range true stays = stays refl
-    by_range false stays = refl
+file_stays before now folder name stays = grind arith
 
 pub files_stay : (before now : Disk) (folder : List ℕ) → now ≡ before → FilesStay (files_in_folder before folder) (files_in_folder now folder)
 files_stay before now folder same name = ap (λ disk. files_in_folder disk folder name) same
 
 -- what is appended to a file that has no other path changes no other file
 pub written_others : (before now : Disk) (folder : List ℕ) (name : ProofName) (n : ℕ) (piece : List ℕ) → IsHeld before folder name n → Writes n piece before now → OthersStay name (files_in_folder before folder) (files_in_folder now folder)
-written_others before now folder name n piece held writes other apart = file_stays before now folder other (λ range. by_number (before.number (path_in folder other)) refl (held.own.alone _ (paths_apart folder other name range held.range apart)))
-  where
-    by_number : (number : Option ℕ) → before.number (path_in folder other) ≡ number → before.number (path_in folder other) ≢ Some n → bytes_at now (path_in folder other) ≡ bytes_at before (path_in folder other)
-    by_number None is never = rw (writes.number, is) refl
-    by_number (Some m) is never = rw (writes.number, is) (ap (λ bytes. Some bytes) (writes.others m (λ same. never (is ∙ ap (λ k. Some k) same))))
+written_others before now folder name n piece held writes other apart = grind (arith, file_stays, paths_apart)
 
 pub written_here : (before now : Disk) (folder : List ℕ) (name : ProofName) (n : ℕ) (piece : List ℕ) → IsHeld before folder name n → Writes n piece before now → files_in_folder now folder name ≡ Some (bytes_in (files_in_folder before folder) name ++ piece)
-written_here before now folder name n piece held writes =
-    file_is now folder name n held.range (ap (λ number. number (path_in folder name)) writes.number ∙ held.own.here)
-    ∙ ap (λ bytes. Some bytes) (writes.appended ∙ ap (λ bytes. bytes ++ piece) (sym (ap (λ file. unwrap_or file []) (file_is before folder name n held.range held.own.here))))
+written_here before now folder name n piece held writes = grind (arith, file_is)
 
 -- the same after other calls, which left the file and its number
 pub held_spared : (before now : Disk) (folder : List ℕ) (name : ProofName) (n : ℕ) (spared : List ℕ → Type 0) → Spares spared before now → spared (path_in folder name) → IsHeld before folder name n → IsHeld now folder name n
@@ -74,16 +55,10 @@ pub none_read : {F : Type 0} (number : F → ℕ) (disk : Disk) (folder : List �
 none_read number disk folder reading none name file reads = absurd (some_is_none reading (name, file) none reads)
 
 pub one_read : {F : Type 0} (number : F → ℕ) (disk : Disk) (folder : List ℕ) (reading : Option (ProofName × F)) (name : ProofName) (file : F) → reading ≡ Some (name, file) → IsRead disk folder name (number file) → AllRead number disk folder reading
-one_read number disk folder reading name file is read other opened reads =
-    let (same, too) = same_held reading name other file opened is reads in
-    rw (same, too) read
+one_read number disk folder reading name file is read other opened reads = grind (arith, same_held)
 
 pub missing_file : (disk : Disk) (folder : List ℕ) (name : ProofName) → disk.number (path_in folder name) ≡ None → files_in_folder disk folder name ≡ None
-missing_file disk folder name none = by_range (in_range name)
-  where
-    by_range : (b : Bool) → cond b (bytes_at disk (path_in folder name)) None ≡ None
-    by_range true = ap (λ number. option_map disk.bytes number) none
-    by_range false = refl
+missing_file disk folder name none = grind arith
 
 -- after a file was made anew, each that is open is still that of its name
 pub begun_held : {F : Type 0} (number : F → ℕ) (before now : Disk) (folder : List ℕ) (name : ProofName) (file : F) (held begun : OpenFiles F) → IsTrue (in_range name) → Holds begun name file → ((other : FileKind) → other ≢ name.kind → open_of begun other ≡ open_of held other) → IsOwn now (path_in folder name) (number file) → Spares (IsNeither (fresh_in folder) (path_in folder name)) before now → AllHeld number before folder held → AllHeld number now folder begun
@@ -97,40 +72,28 @@ begun_held number before now folder name file held begun range here others own s
         (record { not_first = path_not_fresh folder other is.range; not_second = paths_apart folder other name is.range range (λ same. apart (ap (λ n. n.kind) same)) }) is
 
 pub begun_read : {F : Type 0} (number : F → ℕ) (before now : Disk) (folder : List ℕ) (name : ProofName) (reading : Option (ProofName × F)) → IsTrue (in_range name) → option_map (λ held. held.0) reading ≢ Some name → Spares (IsNeither (fresh_in folder) (path_in folder name)) before now → AllRead number before folder reading → AllRead number now folder reading
-begun_read number before now folder name reading range unread spares all other opened reads =
-    let is = all other opened reads in
-    read_spared before now folder other (number opened) (IsNeither (fresh_in folder) (path_in folder name)) spares
-    (record { not_first = path_not_fresh folder other is.range; not_second = paths_apart folder other name is.range range (λ same. unread (ap (λ held. option_map (λ h. h.0) held) reads ∙ ap (λ n. Some n) same)) }) is
+begun_read number before now folder name reading range unread spares all other opened reads = grind (arith, all other opened reads, read_spared, path_not_fresh, paths_apart)
 
 -- and every file of the folder but that one stays
 pub begun_others : (before now : Disk) (folder : List ℕ) (name : ProofName) → IsTrue (in_range name) → Spares (IsNeither (fresh_in folder) (path_in folder name)) before now → OthersStay name (files_in_folder before folder) (files_in_folder now folder)
-begun_others before now folder name range spares other apart =
-    file_spared before now folder other (IsNeither (fresh_in folder) (path_in folder name)) spares
-    (λ range_too. record { not_first = path_not_fresh folder other range_too; not_second = paths_apart folder other name range_too range apart })
+begun_others before now folder name range spares other apart = grind (arith, file_spared, path_not_fresh, paths_apart)
 
 -- after a fault each stays, and is still open
 pub fault_files : (before now : Disk) (folder : List ℕ) → Spares (IsOther (fresh_in folder)) before now → FilesStay (files_in_folder before folder) (files_in_folder now folder)
 fault_files before now folder spares other = file_spared before now folder other (IsOther (fresh_in folder)) spares (λ range. record { not_first = path_not_fresh folder other range })
 
 pub fault_held : {F : Type 0} (number : F → ℕ) (before now : Disk) (folder : List ℕ) (begun : OpenFiles F) → Spares (IsOther (fresh_in folder)) before now → AllHeld number before folder begun → AllHeld number now folder begun
-fault_held number before now folder begun spares all name file holds =
-    let is = all name file holds in
-    held_spared before now folder name (number file) (IsOther (fresh_in folder)) spares (record { not_first = path_not_fresh folder name is.range }) is
+fault_held number before now folder begun spares all name file holds = grind (arith, all name file holds, held_spared, path_not_fresh)
 
 pub fault_read : {F : Type 0} (number : F → ℕ) (before now : Disk) (folder : List ℕ) (reading : Option (ProofName × F)) → Spares (IsOther (fresh_in folder)) before now → AllRead number before folder reading → AllRead number now folder reading
-fault_read number before now folder reading spares all name file reads =
-    let is = all name file reads in
-    read_spared before now folder name (number file) (IsOther (fresh_in folder)) spares (record { not_first = path_not_fresh folder name is.range }) is
+fault_read number before now folder reading spares all name file reads = grind (arith, all name file reads, read_spared, path_not_fresh)
 
 pub some_same : {X : Type 0} (x y : X) → Some x ≡ Some y → x ≡ y
 some_same x y e = cc
 
 -- the bytes of the file that stays open for reading
 pub read_file : {F : Type 0} (number : F → ℕ) (disk : Disk) (folder : List ℕ) (reading : Option (ProofName × F)) (name opened : ProofName) (file : F) → reading ≡ Some (opened, file) → option_map (λ held. held.0) reading ≡ Some name → AllRead number disk folder reading → files_in_folder disk folder name ≡ Some (disk.bytes (number file))
-read_file {F} number disk folder reading name opened file is of all =
-    let same : name ≡ opened = some_same name opened (sym of ∙ ap (λ held. option_map (λ h. h.0) held) is) in
-    let read = all opened file is in
-    rw same (file_is disk folder opened (number file) read.range read.here)
+read_file {F} number disk folder reading name opened file is of all = grind (arith, some_same, file_is)
 
 pub some_apart : {X : Type 0} (o : Option X) (x : X) → o ≡ Some x → o ≡ None → ⊥
 some_apart o x some none = some_is_none o x none some

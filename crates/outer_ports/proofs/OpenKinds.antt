@@ -1,5 +1,5 @@
 -- The open files after one of a kind was put in place of another.
-use Rattle.std.{proofs.Common.{◌≡◌, ◌≢◌, ◌⊎◌, ◌∙◌, refl, sym, ap, Option, None, Some, inl, inr}, specs.Option.unwrap_or}
+use Rattle.std.proofs.Common.{arith, ◌≡◌, ◌≢◌, ◌⊎◌, refl, Option, None, Some, inl, inr}
 use Rattle.outer_ports.specs.declared.{open_files.OpenFiles.OpenFiles, proof_name.{FileKind.{FileKind, TheVariants.{Cnf, Lrat, Partial}}, ProofName.ProofName}}
 use Rattle.outer_ports.specs.inner.OpenFiles.{open_of, Holds}
 
@@ -18,22 +18,12 @@ pub some_is_none : {X : Type 0} (o : Option X) (x : X) → o ≡ None → o ≡ 
 some_is_none o x none some = absurd (cc)
 
 pub same_held : {F : Type 0} (o : Option (ProofName × F)) (a b : ProofName) (x y : F) → o ≡ Some (a, x) → o ≡ Some (b, y) → (b ≡ a) × (y ≡ x)
-same_held {F} o a b x y one other =
-    let same : Some (b, y) ≡ Some (a, x) = sym other ∙ one in
-    (ap (λ held. (unwrap_or {T = ProofName × F} held (a, x)).0) same, ap (λ held. (unwrap_or {T = ProofName × F} held (a, x)).1) same)
+same_held {F} o a b x y one other = grind arith
 
 -- where none of a kind is left, each that is open was open
 pub held_before : {F : Type 0} (before now : OpenFiles F) (kind : FileKind) → open_of now kind ≡ None → ((other : FileKind) → other ≢ kind → open_of now other ≡ open_of before other) → (name : ProofName) (file : F) → Holds now name file → Holds before name file
-held_before before now kind none others name file holds = by_kind (kinds_same name.kind kind)
-  where
-    by_kind : (name.kind ≡ kind) ⊎ (name.kind ≢ kind) → Holds before name file
-    by_kind (inl same) = absurd (some_is_none (open_of now name.kind) (name, file) (ap (λ k. open_of now k) same ∙ none) holds)
-    by_kind (inr apart) = sym (others name.kind apart) ∙ holds
+held_before before now kind none others name file holds = grind (arith, kinds_same, some_is_none)
 
 -- and where one is, each that is open is that one or was open
 pub held_after : {F : Type 0} (before now : OpenFiles F) (begun : ProofName) (put : F) → Holds now begun put → ((other : FileKind) → other ≢ begun.kind → open_of now other ≡ open_of before other) → (name : ProofName) (file : F) → Holds now name file → ((name ≡ begun) × (file ≡ put)) ⊎ ((name.kind ≢ begun.kind) × Holds before name file)
-held_after before now begun put here others name file holds = by_kind (kinds_same name.kind begun.kind)
-  where
-    by_kind : (name.kind ≡ begun.kind) ⊎ (name.kind ≢ begun.kind) → ((name ≡ begun) × (file ≡ put)) ⊎ ((name.kind ≢ begun.kind) × Holds before name file)
-    by_kind (inl same) = inl (same_held (open_of now begun.kind) begun name put file here (sym (ap (λ k. open_of now k) same) ∙ holds))
-    by_kind (inr apart) = inr (apart, sym (others name.kind apart) ∙ holds)
+held_after before now begun put here others name file holds = grind (arith, kinds_same, same_held)

@@ -1,3 +1,4 @@
+use Rattle.std.proofs.Common.{arith}
 use Rattle.std.{proofs.Common.ap, specs.Prelude.⊤}
 use Rattle.outer_ports.proofs.{Folders.{held_spared, held_stays, read_spared, read_stays, written_here, written_others}, OpenKinds.held_before}
 use Rattle.outer_ports.proofs.folder.Folder.append.Goals as goal
@@ -9,15 +10,7 @@ invariant_of-self-in-Ok-1 g c = record {
 }
 
 pub returns-in-Ok-clause-appended : goal.returns-in-Ok-clause-appended
-returns-in-Ok-clause-appended g c = λ told.
-    let before = c.append_some.ensures.told told in
-    let held = c.args.self.now.held before c.args.name _ c.in-Some.ensures.held in
-    let writes = c.in-Ok.ensures.written told in
-    record {
-      appended = written_here _ _ _ _ _ _ held writes;
-      others = written_others _ _ _ _ _ _ held writes;
-      fault = tt;
-    }
+returns-in-Ok-clause-appended g c = grind (arith, written_here, written_others)
 
 pub invariant_of-self-in-Err : goal.invariant_of-self-in-Err
 invariant_of-self-in-Err g c = record {

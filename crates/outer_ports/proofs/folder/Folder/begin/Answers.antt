@@ -1,4 +1,6 @@
-use Rattle.std.proofs.Common.{◌≡◌, ◌∙◌, [], Some, ap, rules, string_bytes}
+use Rattle.std.proofs.lemmas.Bool.Decides.{nat_tests}
+use Rattle.std.proofs.lemmas.Grind.{common_steps}
+use Rattle.std.proofs.Common.{arith, ◌∙◌, ap, rules, string_bytes}
 use Rattle.outer_ports.specs.{Folders.{files_in_folder, fresh_in, path_in}, Shelf.FilesStay, inner.Keeping.{IsNeither, IsOther, IsOwn, Spares}}
 use Rattle.outer_ports.proofs.{Entries.on_err, Folders.{all_held, all_read, begun_held, begun_others, begun_read, fault_files, fault_held, fault_read, file_is}}
 use Rattle.outer_ports.proofs.folder.Folder.begin.Goals as goal
@@ -55,19 +57,4 @@ invariant_of-self-2 g c =
     }
 
 pub returns-clause-begun : goal.returns-clause-begun
-returns-clause-begun g c = λ told.
-    let C = g.C.FileCalls in
-    let folder = string_bytes c.args.self.now.path in
-    let before = C.disk c.prepare.new.self.calls in
-    let now = C.disk c.make_anew.new.calls in
-    let after = C.disk c.close_held.new.calls in
-    let made = c.close_held.ensures.told told in
-    let same : after ≡ now = c.close_held.ensures.stays told in
-    let spares : Spares (IsNeither (fresh_in folder) (path_in folder c.args.name)) before now = search rules in
-    let own : IsOwn now (path_in folder c.args.name) (C.number c.in_ok-file.file) = search rules in
-    let empty : now.bytes (C.number c.in_ok-file.file) ≡ [] = search rules in
-    rw same (record {
-      begun = file_is now folder c.args.name (C.number c.in_ok-file.file) c.make_anew.ensures.range own.here ∙ ap (λ bytes. Some bytes) empty;
-      others = λ other apart. begun_others before now folder c.args.name c.make_anew.ensures.range spares other apart ∙ c.prepare.ensures.stay (c.make_anew.ensures.told made) other;
-      fault = tt;
-    })
+returns-clause-begun g c = grind (arith, nat_tests, common_steps, string_bytes, file_is, begun_others)

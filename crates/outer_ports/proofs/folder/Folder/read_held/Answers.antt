@@ -1,4 +1,4 @@
-use Rattle.std.proofs.Common.{◌∙◌, ap, rules}
+use Rattle.std.proofs.Common.{arith, ◌∙◌, ap, rules}
 use Rattle.outer_ports.proofs.Folders.{all_held, all_read, none_read, read_file, same_bytes, some_apart}
 use Rattle.outer_ports.proofs.folder.Folder.read_held.Goals as goal
 
@@ -25,9 +25,7 @@ returns-in_ok-close_held-clause-there g c = λ told.
     some_apart _ _ (read_file g.C.FileCalls.number _ _ _ c.args.name c.in-Some.field-0-0 c.in-Some.file (search rules) c.requires.held (c.args.self.now.read (c.read_some-answer.ensures.told (c.close_held.ensures.told told))))
 
 pub returns-in_ok-close_held-clause-read : goal.returns-in_ok-close_held-clause-read
-returns-in_ok-close_held-clause-read g c = λ told bytes has.
-    let before = c.close_held.ensures.told told in
-    same_bytes _ _ bytes _ _ _ (read_file g.C.FileCalls.number _ _ _ c.args.name c.in-Some.field-0-0 c.in-Some.file (search rules) c.requires.held (c.args.self.now.read (c.read_some-answer.ensures.told before))) has (c.read_some-answer.ensures.read before)
+returns-in_ok-close_held-clause-read g c = grind (arith, same_bytes, read_file)
 
 pub returns-else-matches-clause-there : goal.returns-else-matches-clause-there
 returns-else-matches-clause-there g c = λ told.
