@@ -1,6 +1,6 @@
 -- What two judged files say of a candidate, and of its formula.
 use Rattle.std.proofs.Common.{◌≡◌, ℕ, Bool, true, false, List, Result, Ok, Err, Option, refl, sym, ap, ◌∙◌, subst, IfOk, bytes_eq}
-use Rattle.outer_ports.specs.{declared.{part.Part.Part, proof_name.{FileKind.TheVariants.{Cnf, Lrat}, ProofName.ProofName}}, Files.Files, Port.HasCause}
+use Rattle.outer_ports.specs.{declared.{part.Part.Part, proof_name.FileKind.TheVariants.{Cnf, Lrat}}, Files.Files, Port.HasCause}
 use Rattle.cnf_formula.specs.Formulas.{FormulaValue}
 use Rattle.lrat_text.specs.Printing.{cnf_text}
 use Rattle.candidate_order.specs.{declared.candidate.Candidate.Candidate, Frontiers.QuestionValue}
@@ -16,18 +16,16 @@ use Rattle.kept_proofs.specs.inner.Judged.{stands}
 
 pub stood : (v : Result FileVerdict AuditFault) → stands v ≡ Ok true → v ≡ Ok Stands
 stood (Ok Stands) e = refl
-stood (Ok Missing) e = absurd (cc)
-stood (Ok Refused) e = absurd (cc)
+stood (Ok _) e = absurd (cc)
 stood (Err audit.ShelfFailed) e = absurd (cc)
 stood (Err audit.OutOfMemory) e = absurd (cc)
 
 -- a judgement that an engine takes for a fault of the shelf is one
 failed : (v : Result FileVerdict AuditFault) → stands v ≡ Err engine.ShelfFailed → v ≡ Err audit.ShelfFailed
-failed (Ok Stands) e = absurd (cc)
-failed (Ok Missing) e = absurd (cc)
-failed (Ok Refused) e = absurd (cc)
 failed (Err audit.ShelfFailed) e = refl
 failed (Err audit.OutOfMemory) e = absurd (cc)
+failed (Ok Stands) e = absurd (cc)
+failed (Ok _) e = absurd (cc)
 
 pub same_cause : (before now : ℕ) (v : Result FileVerdict AuditFault) → HasCause audit.ShelfFailed before now v → HasCause engine.ShelfFailed before now (stands v)
 same_cause before now v cause = record {
@@ -48,7 +46,7 @@ module _ (test : List ℕ → Bool) (file : Option (List ℕ)) where
 
 -- ---- both files of a candidate
 
-module _ (part : Part) (q : QuestionValue) (files : Files) (x : Candidate) (f : FormulaValue) (same : f ≡ formula_for q x) where
+module _ (part : Part) (q : QuestionValue) (files : Files) (x : Candidate) {f : FormulaValue} (same : f ≡ formula_for q x) where
   abbrev text_verdict : FormulaValue → FileVerdict
   text_verdict g = file_verdict (λ bytes. bytes_eq bytes (cnf_text g)) (files (file_of Cnf part x))
 
@@ -73,10 +71,3 @@ module _ (part : Part) (q : QuestionValue) (files : Files) (x : Candidate) (f : 
 
   pub no_proof : (w : Result FileVerdict AuditFault) → ProofSaid w → stands w ≡ Ok false → HasRefutation part q files x → ⊥
   no_proof w proof e has = verdict_falls (is_refutation f) (files (file_of Lrat part x)) w proof e (subst (λ g. proof_verdict g ≡ Stands) (sym same) ((standing_refute part q files x).1 has).1)
-
--- what is said of a file under the name that it has, and of one that is as before
-pub said_at : (test : List ℕ → Bool) (files : Files) (v : Result FileVerdict AuditFault) (name own : ProofName) → name ≡ own → IfOk v (λ verdict. verdict ≡ file_verdict test (files name)) → IfOk v (λ verdict. verdict ≡ file_verdict test (files own))
-said_at test files v name own same said = subst (λ n. IfOk v (λ verdict. verdict ≡ file_verdict test (files n))) same said
-
-pub said_before : (test : List ℕ → Bool) (before files : Files) (v : Result FileVerdict AuditFault) (name : ProofName) → files name ≡ before name → IfOk v (λ verdict. verdict ≡ file_verdict test (files name)) → IfOk v (λ verdict. verdict ≡ file_verdict test (before name))
-said_before test before files v name same said = subst (λ o. IfOk v (λ verdict. verdict ≡ file_verdict test o)) same said

@@ -33,8 +33,8 @@ pub failed_there : (stopped : Option Candidate) (x y : Candidate) → stopped �
 failed_there stopped x y at also = let same : Some x ≡ Some y = sym at ∙ also in cc
 
 -- an engine that has settled nothing, and has not failed
-pub stands_new : (kept : Bool) (q : QuestionValue) (f : Candidate → FormulaValue) (inner : RecordValue) (failed : Option Candidate) (entries : RecordValue) (stopped : Option Candidate) → inner ≡ [] → failed ≡ None → entries ≡ [] → Standing kept q f inner failed entries stopped
-stands_new kept q f inner failed entries stopped none_below running none = record {
+pub stands_new : {kept : Bool} (q : QuestionValue) (f : Candidate → FormulaValue) {inner : RecordValue} {failed : Option Candidate} {entries : RecordValue} (stopped : Option Candidate) → inner ≡ [] → failed ≡ None → entries ≡ [] → Standing kept q f inner failed entries stopped
+stands_new q f {inner} {failed} {entries} stopped none_below running none = record {
   among = λ x kind lacks there. nothing inner (x, kind) none_below there;
   stops = λ x s. never failed x running s;
   right = λ x there solvable. nothing entries (x, Refuted) none there;
@@ -42,11 +42,11 @@ stands_new kept q f inner failed entries stopped none_below running none = recor
   searches = λ off. none_below ∙ sym none;
 }
 
-module _ (kept : Bool) (q : QuestionValue) (f : Candidate → FormulaValue) (inner : RecordValue) (failed : Option Candidate) (entries : RecordValue) (stopped : Option Candidate) (old : Standing kept q f inner failed entries stopped) where
+module _ {kept : Bool} {q : QuestionValue} {f : Candidate → FormulaValue} {inner : RecordValue} {failed : Option Candidate} {entries : RecordValue} {stopped : Option Candidate} (old : Standing kept q f inner failed entries stopped) where
   -- with the same records
-  pub stands_still : (p : QuestionValue) (g : Candidate → FormulaValue) (below now : RecordValue) (fails at : Option Candidate) → p ≡ q → ((x : Candidate) → g x ≡ f x) → below ≡ inner → now ≡ entries
+  pub stands_still : {p : QuestionValue} {g : Candidate → FormulaValue} {below now : RecordValue} (fails at : Option Candidate) → p ≡ q → ((x : Candidate) → g x ≡ f x) → below ≡ inner → now ≡ entries
       → ((x : Candidate) → fails ≡ Some x → at ≡ Some x) → Standing kept p g below fails now at
-  stands_still p g below now fails at asked formula same_below same stops = record {
+  stands_still {p} {g} {below} {now} fails at asked formula same_below same stops = record {
     among = λ x kind none there. old.among x kind (λ c. none (subst (λ es. Contains es (x, kind)) (sym same) c)) (subst (λ es. Contains es (x, kind)) same_below there);
     stops = stops;
     right = λ x there solvable. old.right x (subst (λ es. Contains es (x, Refuted)) same there) (subst (λ r. IsSolvable r x) asked solvable);
@@ -54,24 +54,19 @@ module _ (kept : Bool) (q : QuestionValue) (f : Candidate → FormulaValue) (inn
     searches = λ off. same_below ∙ old.searches off ∙ sym same;
   }
 
-  -- where the engine is ready for one more
-  pub stands_ready : (now : RecordValue) (at : Option Candidate) → now ≡ entries → at ≡ stopped → Standing kept q f inner failed now at
-  stands_ready now at same calm = stands_still q f inner now failed at refl (λ x. refl) refl same (λ x s. calm ∙ old.stops x s)
-
   -- where it failed at a candidate, and so did the inner one, or not at all
-  pub stands_failed : (x : Candidate) (p : QuestionValue) (g : Candidate → FormulaValue) (below now : RecordValue) (fails at : Option Candidate) → p ≡ q → ((y : Candidate) → g y ≡ f y) → below ≡ inner → now ≡ entries
+  pub stands_failed : (x : Candidate) {p : QuestionValue} {g : Candidate → FormulaValue} {below now : RecordValue} (fails : Option Candidate) {at : Option Candidate} → p ≡ q → ((y : Candidate) → g y ≡ f y) → below ≡ inner → now ≡ entries
       → ((y : Candidate) → fails ≡ Some y → y ≡ x) → at ≡ Some x → Standing kept p g below fails now at
-  stands_failed x p g below now fails at asked formula same_below same own there = stands_still p g below now fails at asked formula same_below same
-      (λ y s. there ∙ ap Some (sym (own y s)))
+  stands_failed x fails {at} asked formula same_below same own there = stands_still fails at asked formula same_below same (λ y s. there ∙ ap Some (sym (own y s)))
 
   -- the inner one has not failed where the engine has not
-  pub calm_below : stopped ≡ None → (y : Candidate) (x : Candidate) → failed ≡ Some y → y ≡ x
-  calm_below running y x s = never stopped y running (old.stops y s)
+  pub calm_below : stopped ≡ None → (x y : Candidate) → failed ≡ Some y → y ≡ x
+  calm_below running x y s = never stopped y running (old.stops y s)
 
   -- where room for one more was made, or was not
-  pub stands_prepared : {U : Type 0} (x : Candidate) (now : RecordValue) (at : Option Candidate) (made : Result U EngineFault) → now ≡ entries → stopped ≡ None → OnOk made (at ≡ stopped) → OnErr made (at ≡ Some x) → Standing kept q f inner failed now at
-  stands_prepared x now at (Ok u) same running ok err = stands_ready now at same ok
-  stands_prepared x now at (Err fault) same running ok err = stands_failed x q f inner now failed at refl (λ y. refl) refl same (λ y s. never stopped y running (old.stops y s)) err
+  pub stands_prepared : {U : Type 0} (x : Candidate) {now : RecordValue} (at : Option Candidate) (made : Result U EngineFault) → now ≡ entries → stopped ≡ None → OnOk made (at ≡ stopped) → OnErr made (at ≡ Some x) → Standing kept q f inner failed now at
+  stands_prepared x at (Ok u) same running ok err = stands_still failed at refl (λ y. refl) refl same (λ y s. ok ∙ old.stops y s)
+  stands_prepared x at (Err fault) same running ok err = stands_failed x failed refl (λ y. refl) refl same (calm_below running x) err
 
   -- the inner one has not failed either
   pub calm : stopped ≡ None → failed ≡ None
@@ -82,8 +77,8 @@ module _ (kept : Bool) (q : QuestionValue) (f : Candidate → FormulaValue) (inn
       go (Some y) is = never stopped y running (old.stops y is)
 
   -- with one candidate more, that its files refute
-  pub stands_taken : (x : Candidate) (now : RecordValue) (at : Option Candidate) → now ≡ entries ++ (x, Refuted) ∷ [] → (IsSolvable q x → ⊥) → kept ≡ true → failed ≡ None → Standing kept q f inner failed now at
-  stands_taken x now at added unsolvable on running = record {
+  pub stands_taken : (x : Candidate) {now : RecordValue} (at : Option Candidate) → now ≡ entries ++ (x, Refuted) ∷ [] → (IsSolvable q x → ⊥) → kept ≡ true → failed ≡ None → Standing kept q f inner failed now at
+  stands_taken x at added unsolvable on running = record {
     among = λ y kind none there. old.among y kind (λ c. none (subst (λ es. Contains es (y, kind)) (sym added) (Contains-append_left entries ((x, Refuted) ∷ []) (y, kind) c))) there;
     stops = λ y s. never failed y running s;
     right = λ y there solvable. ⊎_elim
@@ -98,9 +93,9 @@ module _ (kept : Bool) (q : QuestionValue) (f : Candidate → FormulaValue) (inn
   }
 
   -- with one candidate more, that the inner engine settled
-  pub stands_searched : (x : Candidate) (kind : Settled) (p : QuestionValue) (g : Candidate → FormulaValue) (below now : RecordValue) (fails at : Option Candidate) → p ≡ q → ((y : Candidate) → g y ≡ f y) → below ≡ inner ++ (x, kind) ∷ [] → now ≡ entries ++ (x, kind) ∷ []
+  pub stands_searched : (x : Candidate) (kind : Settled) {p : QuestionValue} {g : Candidate → FormulaValue} {below now : RecordValue} {fails : Option Candidate} (at : Option Candidate) → p ≡ q → ((y : Candidate) → g y ≡ f y) → below ≡ inner ++ (x, kind) ∷ [] → now ≡ entries ++ (x, kind) ∷ []
       → fails ≡ None → (kind ≡ Refuted → IsSolvable q x → ⊥) → (kind ≡ Unknown → Exhausted (f x) q.limits.conflicts) → Standing kept p g below fails now at
-  stands_searched x kind p g below now fails at asked formula below_added added running unsolvable spent = record {
+  stands_searched x kind {p} {g} {below} {now} {fails} at asked formula below_added added running unsolvable spent = record {
     among = λ y k none there. ⊎_elim
         (λ c. old.among y k (λ d. none (subst (λ es. Contains es (y, k)) (sym added) (Contains-append_left entries ((x, kind) ∷ []) (y, k) d))) c)
         (λ e. none (subst (λ es. Contains es (y, k)) (sym added) (subst (Contains (entries ++ (x, kind) ∷ [])) e (Contains-push entries (x, kind)))))

@@ -1,5 +1,5 @@
 -- What is taken up, by the files of a candidate.
-use Rattle.std.proofs.Common.{◌≡◌, ◌≢◌, [], Some, ap, ◌∙◌, inl, inr}
+use Rattle.std.proofs.Common.{◌≡◌, ◌≢◌, [], Some, ap, ◌∙◌, inl, inr, subst}
 use Rattle.outer_ports.specs.{declared.{part.Part.Part, proof_name.{FileKind.TheVariants.{Cnf, Lrat, Partial}, ProofName.ProofName}}, Files.Files}
 use Rattle.outer_ports.specs.Shelf.{FilesStay, OthersStay}
 use Rattle.cnf_formula.specs.Formulas.{FormulaValue}
@@ -15,9 +15,12 @@ begins_none f part x before now stay = record { each = λ name. inl (stay name) 
 partial_apart : Partial ≢ Cnf
 partial_apart e = absurd (cc)
 
-module _ (part : Part) (x : Candidate) (before middle now : Files) (stay : FilesStay before middle) (others : OthersStay (file_of Partial part x) middle now) (emptied : now (file_of Partial part x) ≡ Some []) where
+module _ (part : Part) (x : Candidate) {before middle now : Files} (stay : FilesStay before middle) {name : ProofName} (is : name ≡ file_of Partial part x) (others : OthersStay name middle now) (begun : now name ≡ Some []) where
   others_from : OthersStay (file_of Partial part x) before now
-  others_from name apart = others name apart ∙ stay name
+  others_from other apart = others other (λ e. apart (e ∙ is)) ∙ stay other
+
+  emptied : now (file_of Partial part x) ≡ Some []
+  emptied = subst (λ n. now n ≡ Some []) is begun
 
   pub begins_log : (f : FormulaValue) → BeginsOwn f part x before now
   begins_log f = begins_one f Partial part x before now others_from (inr (none_begun f Partial part x now partial_apart emptied))

@@ -12,7 +12,7 @@ invariant_of-result c =
     let question = c.in_ok-question.ensures in
     let tried = c.new-tried.result in
     let q : QuestionValue = asked inner.question in
-    let s = stands_new c.args.kept q (formula_for q) inner.tried.entries inner.tried.stopped tried.entries tried.stopped told.entries told.stopped c.new-tried.ensures.entries in
+    let s = stands_new {kept = c.args.kept} q (formula_for q) tried.stopped told.entries told.stopped c.new-tried.ensures.entries in
     record {
       same_part = told.part;
       same_question = told.question ∙ sym (asked_alike _ _ _ _ _ _ question.topology question.spec question.limits);
