@@ -1,4 +1,5 @@
 -- What a core keeps, as a clause is added.
+use Rattle.std.proofs.lemmas.Grind.{common_steps}
 use Rattle.std.proofs.Common.{◌≡◌, ◌≢◌, ◌==◌, ℕ, ◌+◌, ◌<◌, ◌≤◌, List, [], ◌∷◌, ◌++◌, length, get_or, set, take, Some, leb, cond, count_by, refl, sym, ap, ◌∙◌, subst, inl, inr, ⊎_elim, arith, ◌⊎◌, Contains, All}
 use Rattle.std.proofs.lemmas.{Bool.{cases_lt, cases_eq, le-leb, lt-leb, Decides.nat_tests}, List.Sums.{sum_by_push, sum_by-set, count_by-le-length}}
 use Rattle.std.proofs.lemmas.List.{get_or_past, get_or_append_left, get_or_push, get_or-take, get_or_default, length_push, map_push, length-take-le, get_or-set_same, get_or-set_other, length-set, length-map, take-append-le, take-take}
@@ -37,10 +38,7 @@ watched_add rows w w' r i put uses fits own = grind (arith, exact_add rows w.lis
 
 -- a clause watches no literal more often than it stands in it
 pub own_count : (r : RowValue) (k : ℕ) → (1 < length r.lits → Contains r.lits r.first) → (1 < length r.lits → Contains r.lits r.second) → (1 < length r.lits → r.first ≢ r.second) → watch_count r k ≤ occurrences r k
-own_count r k f s d = ⊎_elim
-    (λ h. grind (arith, count_long r k h, occurs r.lits r.first (f h), occurs r.lits r.second (s h), d h, same_code r.first r.second, nat_tests))
-    (λ h. omega (arith, count_short r k h))
-    (cases_lt 1 (length r.lits))
+own_count r k f s d = grind (arith, nat_tests, common_steps, ⊎_elim, count_long, occurs, same_code, nat_tests, count_short, cases_lt)
 
 pub put_short : (lists : List (List ℕ)) (r : RowValue) (id : ℕ) → length r.lits ≤ 1 → (k : ℕ) → Put lists lists r id k
 put_short lists r id h k = inl (refl, count_short r k h)
@@ -118,9 +116,7 @@ pub watched_more : (rows : List RowValue) (w w' : ListsValue) → IsWatched rows
 watched_more rows w w' i e more has = grind arith
 
 pub kept_lists : (rows : List RowValue) (w w' : ListsValue) (t : TrailValue) (head : ℕ) (short : List ℕ) → IsKept rows w t head short → AreLists t.vars w' → IsWatched rows w' → w'.watches ≡ w.watches → IsKept rows w' t head short
-kept_lists rows w w' t head short k a i same =
-    let blocked = subst (AreBlocked (clauses_of rows)) (sym same) k.can.blocked in
-    assumption (k, a, i, blocked)
+kept_lists rows w w' t head short k a i same = grind (arith, subst (AreBlocked (clauses_of rows)) (sym same) k.can.blocked)
 
 -- the clause makes a literal true, and so nothing waits on its account
 pub kept_learned : (rows : List RowValue) (r : RowValue) (w w' : ListsValue) (t : TrailValue) (head below : ℕ) (short short' : List ℕ) (x : LitValue) → IsKept rows w t head short → IsKept (rows ++ r ∷ []) w' t below short' → IsUnit (lits_of t.steps) r.lits x → IsDue t.limits t.steps r.lits

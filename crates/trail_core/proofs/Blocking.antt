@@ -1,5 +1,7 @@
 -- Entries of watch lists and their blocking literals, as entries and clauses come.
-use Rattle.std.proofs.Common.{◌≡◌, ◌≢◌, ◌==◌, ℕ, ◌-◌, ◌<◌, true, false, List, [], ◌∷◌, ◌++◌, map, length, get_or, set, refl, sym, ap, ◌∙◌, subst, inl, inr, ⊎_elim, arith, ◌⊎◌, Contains, swap_remove}
+use Rattle.std.proofs.lemmas.Bool.Decides.{nat_tests}
+use Rattle.std.proofs.lemmas.Grind.{common_steps}
+use Rattle.std.proofs.Common.{◌≡◌, ◌≢◌, ◌==◌, ℕ, ◌-◌, ◌<◌, true, false, List, [], ◌∷◌, ◌++◌, map, length, get_or, set, refl, sym, ◌∙◌, subst, inl, inr, ⊎_elim, arith, ◌⊎◌, Contains, swap_remove}
 use Rattle.std.proofs.lemmas.{Bool.{eqb-true, cases_lt, false≢true}, List.Elements.{All-contains, Contains-push_cases}}
 use Rattle.std.proofs.lemmas.List.{get_or-set_same, get_or-set_other, get_or_append_left, get_or_default, get_or_past, get_or_push, length-set, length-take-le, get_or-take, length-map, get_or-map, map-set, map_push, take-map}
 use Rattle.cnf_formula.{specs.{Literals.{LitValue, code_of}, Formulas.IsAbout}, proofs.Codes.same_code}
@@ -53,10 +55,7 @@ two_only lits a b n ca cb d o co = grind (arith, get_or_default)
 
 -- the entry of a new clause in the list of one of the two literals that it watches
 pub entry_blocked : (lits : List LitValue) (a b : LitValue) (id : ℕ) → Contains lits a → Contains lits b → a ≢ b → IsBlocked lits (code_of a) (record { clause = id; pair = length lits == 2; blocker = b })
-entry_blocked lits a b id ca cb d = record {
-  stands = cb;
-  pair = λ t o co. ⊎_elim (λ e. inr (ap code_of e)) (λ e. inl e) (two_only lits a b (eqb-true (length lits) 2 t) ca cb d o co);
-}
+entry_blocked lits a b id ca cb d = grind (arith, nat_tests, common_steps, ⊎_elim, two_only, eqb-true)
 
 pub blocked_held : (rows : List RowValue) (r : RowValue) (old mid new : List (List WatchValue)) (id : ℕ) → AreBlocked (clauses_of rows) old → id ≡ length rows → Contains r.lits r.first → Contains r.lits r.second → r.first ≢ r.second
     → IsOnlyNew old mid (code_of r.first) (record { clause = id; pair = length r.lits == 2; blocker = r.second }) → IsOnlyNew mid new (code_of r.second) (record { clause = id; pair = length r.lits == 2; blocker = r.first }) → AreBlocked (clauses_of (rows ++ r ∷ [])) new

@@ -1,5 +1,5 @@
 -- A trail as its fields hold it, and as a literal comes to it.
-use Rattle.std.proofs.Common.{◌≡◌, ◌≢◌, ℕ, ◌<◌, ◌≤◌, List, [], ◌∷◌, ◌++◌, Option, map, length, get_or, set, ap, ◌∙◌, subst, arith, Contains}
+use Rattle.std.proofs.Common.{◌≡◌, ◌≢◌, ℕ, ◌<◌, ◌≤◌, List, [], ◌∷◌, ◌++◌, Option, map, length, get_or, set, subst, arith, Contains}
 use Rattle.std.proofs.lemmas.List.{length-map}
 use Rattle.cnf_formula.specs.Literals.{LitValue, negation, code_of}
 use Rattle.trail_core.specs.{Assigned.IsOpen, Trails.{StepValue, TrailValue, lits_of, step_of, IsAssigned, IsLeveled}, inner.Packed.{reason_of, reasons_of}}
@@ -38,9 +38,7 @@ can_push vars values levels lits limits t x a v s some below o =
 -- and comes there with its reason
 pub pushed : (assignments : List Assignment) (lits : List LitValue) (x : LitValue) (a : Assignment) (r : Option ℕ) (steps : List StepValue) → map (step_of (reasons_of assignments)) lits ≡ steps → x.var < length assignments → ((k : ℕ) (d : LitValue) → k < length lits → (get_or lits k d).var ≢ x.var) → reason_of a ≡ r
     → map (step_of (reasons_of (set assignments x.var a))) (lits ++ x ∷ []) ≡ steps ++ record { lit = x; reason = r } ∷ []
-pushed assignments lits x a r steps v w new e =
-    ap (λ rs. map (step_of rs) (lits ++ x ∷ [])) (reasons_set assignments x.var a ∙ ap (set (reasons_of assignments) x.var) e)
-    ∙ steps_push (reasons_of assignments) lits x r (omega (arith, w, length-map assignments reason_of)) new ∙ ap (λ ss. ss ++ record { lit = x; reason = r } ∷ []) v
+pushed assignments lits x a r steps v w new e = grind (arith, reasons_set, steps_push, length-map)
 
 -- a literal of the trail is of its variables
 pub stands_within : (vars : ℕ) (values : List ℕ) (lits : List LitValue) (limits : List ℕ) (t : TrailValue) (x : LitValue) → IsAssigned vars values lits → IsSeen vars lits limits t → Contains (lits_of t.steps) x → Contains lits x × (x.var ≤ vars)

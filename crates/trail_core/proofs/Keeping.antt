@@ -25,15 +25,11 @@ pub implied_longer : {clauses : List (List LitValue)} {due : List StepValue → 
 implied_longer {clauses} {due} {ss} {ts} i = let r = implied_front i in omega (arith, ap length r.1, length-append ss r.0)
 
 pub front_same : {clauses : List (List LitValue)} {due : List StepValue → List LitValue → Type 0} {ss ts : List StepValue} → Implied clauses due ss ts → (n : ℕ) → n ≤ length ss → take n (lits_of ts) ≡ take n (lits_of ss)
-front_same {clauses} {due} {ss} {ts} i n w =
-    let r = implied_front i in
-    ap (λ xs. take n (lits_of xs)) r.1 ∙ ap (take n) (map-append (λ s. s.lit) ss r.0) ∙ take-append-le n (lits_of ss) (lits_of r.0) (omega (arith, w, lits_length ss))
+front_same {clauses} {due} {ss} {ts} i n w = grind (arith, implied_front, map-append, take-append-le, lits_length)
 
 -- a literal of the trail stays at its place
 pub stays_at : {clauses : List (List LitValue)} {due : List StepValue → List LitValue → Type 0} {ss ts : List StepValue} → Implied clauses due ss ts → (k : ℕ) (d : LitValue) → k < length ss → get_or (lits_of ts) k d ≡ get_or (lits_of ss) k d
-stays_at {clauses} {due} {ss} {ts} i k d w =
-    let r = implied_front i in
-    ap (λ xs. get_or (lits_of xs) k d) r.1 ∙ ap (λ xs. get_or xs k d) (map-append (λ s. s.lit) ss r.0) ∙ get_or_append_left (lits_of ss) (lits_of r.0) d k (omega (arith, w, lits_length ss))
+stays_at {clauses} {due} {ss} {ts} i k d w = grind (arith, implied_front, map-append, get_or_append_left, lits_length)
 
 -- ---- reasons
 

@@ -1,5 +1,7 @@
 -- Lists that lie in one pool, as entries of one of them change or it is moved.
-use Rattle.std.proofs.Common.{◌≡◌, ◌≢◌, ℕ, ◌+◌, ◌-◌, ◌<◌, ◌≤◌, false, List, [], ◌∷◌, ◌++◌, map, length, get_or, set, drop, sym, ap, ◌∙◌, subst, arith, rules, ◌⊎◌, swap_remove}
+use Rattle.std.proofs.lemmas.Bool.Decides.{nat_tests}
+use Rattle.std.proofs.lemmas.Grind.{common_steps}
+use Rattle.std.proofs.Common.{◌≡◌, ◌≢◌, ℕ, ◌+◌, ◌-◌, ◌<◌, ◌≤◌, false, List, [], ◌∷◌, ◌++◌, map, length, get_or, set, drop, sym, ◌∙◌, arith, rules, ◌⊎◌, swap_remove}
 use Rattle.std.proofs.lemmas.Bool.{cases_lt, cases_eq}
 use Rattle.std.proofs.lemmas.List.{places, same_lists, ext_get_or, get_or-take, get_or-drop, get_or-set_same, get_or-set_other, get_or_read, get_or_append_left, get_or_push, get_or_past, length-set, length-map, length-drop, length-take-le, length_push, map-set, get_or-map}
 use Rattle.list_laws.proofs.Fronts.{at_map}
@@ -57,14 +59,10 @@ others_stay pool spans k j y x p w is low high i d u ne =
     part_away pool j s.start s.len y (omega (arith, inside.holds, inside.ends)) away
 
 pub push_entries : (pool : List WatchValue) (s t : Span) (y : WatchValue) → IsInside (length pool) s → s.len < s.room → t.start ≡ s.start → t.len ≡ s.len + 1 → entries_of (set pool (s.start + s.len) y) t ≡ entries_of pool s ++ y ∷ []
-push_entries pool s t y inside w a b =
-    let pool' = set pool (s.start + s.len) y in
-    ap (λ n. part pool' n t.len) a ∙ ap (part pool' s.start) b ∙ part_push pool s.start s.len y (omega (arith, inside.ends, w))
+push_entries pool s t y inside w a b = grind (arith, part_push)
 
 pub removed_entries : (pool : List WatchValue) (s t : Span) (i : ℕ) (d : WatchValue) → IsInside (length pool) s → i < s.len → t.start ≡ s.start → t.len ≡ s.len - 1 → entries_of (set pool (s.start + i) (get_or pool (s.start + (s.len - 1)) d)) t ≡ swap_remove (entries_of pool s) i d
-removed_entries pool s t i d inside w a b =
-    let pool' = set pool (s.start + i) (get_or pool (s.start + (s.len - 1)) d) in
-    ap (λ n. part pool' n t.len) a ∙ ap (part pool' s.start) b ∙ part_removed pool s.start s.len i d (omega (arith, inside.holds, inside.ends)) w
+removed_entries pool s t i d inside w a b = grind (arith, part_removed)
 
 -- entries stay where they are in a pool that grows
 pub longer_entries : (pool pool' : List WatchValue) (s : Span) (d : WatchValue) → IsInside (length pool) s → length pool ≤ length pool' → ((i : ℕ) (d : WatchValue) → i < length pool → get_or pool' i d ≡ get_or pool i d) → entries_of pool' s ≡ entries_of pool s
@@ -82,9 +80,7 @@ pooled_set size size' spans k s p w more small inside apart = grind (arith, get_
 
 -- a list that keeps its room
 pub pooled_same : (size : ℕ) (spans : List Span) (k : ℕ) (x s : Span) → ArePooled size spans → k < length spans → x ≡ get_or spans k x → s.start ≡ x.start → s.room ≡ x.room → s.uses ≡ x.uses → s.len ≤ s.room → ArePooled size (set spans k s)
-pooled_same size spans k x s p w is a r u holds =
-    let q : IsInside size x = subst (IsInside size) (sym is) (p.inside k x w) in
-    pooled_set size size spans k s p w (omega arith) p.small (record { holds = holds; fits = omega (arith, q.fits, r, u); ends = omega (arith, a, r, q.ends) }) (λ i d v ne. grind (arith, p.apart i k d v w ne, get_or_read spans k x w is d))
+pooled_same size spans k x s p w is a r u holds = grind (arith, nat_tests, common_steps, pooled_set, get_or_read)
 
 -- a list that stays where it is, or is moved behind all others
 pub pooled_roomy : (size size' : ℕ) (spans : List Span) (k : ℕ) (x s : Span) → ArePooled size spans → k < length spans → x ≡ get_or spans k x → size ≤ size' → size' < 4294967296 → IsInside size' s → ((s.start ≡ x.start) × (s.room ≡ x.room)) ⊎ (s.start ≡ size) → ArePooled size' (set spans k s)

@@ -1,5 +1,5 @@
 -- What the values of literals keep, as literals become true and are taken back.
-use Rattle.std.proofs.Common.{◌≡◌, ◌≢◌, ◌==◌, ℕ, ◌+◌, ◌<◌, ◌≤◌, true, List, [], ◌∷◌, ◌++◌, Some, length, get_or, set, cond, eqb, count_by, refl, sym, ap, ◌∙◌, subst, inl, inr, ⊎_elim, arith, ◌⊎◌, Contains}
+use Rattle.std.proofs.Common.{◌≡◌, ◌≢◌, ◌==◌, ℕ, ◌+◌, ◌<◌, ◌≤◌, List, [], ◌∷◌, ◌++◌, Some, length, get_or, set, cond, eqb, count_by, refl, sym, ap, ◌∙◌, subst, inl, inr, ⊎_elim, arith, ◌⊎◌, Contains}
 use Rattle.std.proofs.lemmas.{Bool.cases_eq, List.{Sums.{sum_by-set, get_or-le-sum_by}, Elements.{Contains-push, Contains-push_cases, Contains-append_left}}}
 use Rattle.std.proofs.lemmas.List.{get_or-set_same, get_or-set_other, get_or_default, get_or_append_left, get_or_push, length_push, length-set}
 use Rattle.cnf_formula.{specs.{Literals.{LitValue, negation, code_of}, Formulas.IsAbout}, proofs.Codes.code_within}
@@ -34,9 +34,7 @@ valued_there : (values : List ℕ) (x : LitValue) (a b : ℕ) → code_of (negat
 valued_there values x a b w = get_or-set_same (set values (code_of x) a) (code_of (negation x)) b 0 (omega (arith, w, length-set values (code_of x) a))
 
 valued_else : (values : List ℕ) (x l : LitValue) (a b : ℕ) → l.var ≢ x.var → get_or (valued values x a b) (code_of l) 0 ≡ get_or values (code_of l) 0
-valued_else values x l a b d =
-    get_or-set_other (set values (code_of x) a) (code_of (negation x)) (code_of l) b 0 (codes_apart l (negation x) d)
-    ∙ get_or-set_other values (code_of x) (code_of l) a 0 (codes_apart l x d)
+valued_else values x l a b d = grind (arith, get_or-set_other, codes_apart)
 
 -- how many values are 0, where two of them change
 abbrev pub zero_hit : ℕ → ℕ
@@ -44,11 +42,7 @@ zero_hit n = cond {A = ℕ} (eqb n 0) 1 0
 
 valued_zeros : (values : List ℕ) (x : LitValue) (a b : ℕ) → code_of x < length values → code_of (negation x) < length values
     → count_by (λ n. n == 0) (valued values x a b) + (zero_hit (get_or values (code_of x) 0) + zero_hit (get_or values (code_of (negation x)) 0)) ≡ count_by (λ n. n == 0) values + (zero_hit a + zero_hit b)
-valued_zeros values x a b w v =
-    let one = sum_by-set (λ n. cond (eqb n 0) 1 0) values (code_of x) a 0 w in
-    let two = sum_by-set (λ n. cond (eqb n 0) 1 0) (set values (code_of x) a) (code_of (negation x)) b 0 (omega (arith, v, length-set values (code_of x) a)) in
-    let e : zero_hit (get_or (set values (code_of x) a) (code_of (negation x)) 0) ≡ zero_hit (get_or values (code_of (negation x)) 0) = ap zero_hit (get_or-set_other values (code_of x) (code_of (negation x)) a 0 (code_turned x)) in
-    omega (arith, one, two, e)
+valued_zeros values x a b w v = grind (arith, sum_by-set, length-set, get_or-set_other, code_turned)
 
 -- ---- what a value says
 
@@ -79,10 +73,7 @@ consistent vars values lits a l p q = absurd (omega (arith, value_by_true vars v
 -- ---- a literal becomes true
 
 turned_open : (lits : List LitValue) (x : LitValue) → IsOpen lits x → IsOpen lits (negation x)
-turned_open lits x o = record {
-  not_true = o.not_false;
-  not_false = λ c. o.not_true (subst (Contains lits) (negated_twice x) c);
-}
+turned_open lits x o = grind (arith, negated_twice)
 
 pub code_of_within : (vars : ℕ) (values : List ℕ) (lits : List LitValue) (x : LitValue) → IsAssigned vars values lits → 0 < x.var → x.var ≤ vars → (code_of x < length values) × (code_of (negation x) < length values)
 code_of_within vars values lits x a some within =

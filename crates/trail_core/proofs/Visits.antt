@@ -116,10 +116,7 @@ rewatched_scanned rows t id falsified other x p n = record {
 }
 
 pub rewatched_not : (rows : List RowValue) (trues : List LitValue) (id : ℕ) (falsified other x : LitValue) → Pair rows id falsified other → IsFalse trues falsified → Found trues (row_at rows id).lits other x → watch_count (row_at (rewatched rows id other x) id) (code_of falsified) ≡ 0
-rewatched_not rows trues id falsified other x p f n =
-    let a = code_of falsified in
-    let r = ap (λ r. watch_count r a) (get_or-set_same rows id (record { lits = (row_at rows id).lits; first = other; second = x }) no_row p.within) in
-    omega (arith, r, new_counts rows id falsified other x p a, hit_no (code_of other) a (codes_differ other falsified p.apart), hit_no (code_of x) a (λ e. found_apart trues (row_at rows id).lits falsified other x f n (sym e)))
+rewatched_not rows trues id falsified other x p f n = grind (arith, get_or-set_same, new_counts, hit_no, codes_differ, found_apart)
 
 -- below the place that is taken out the list stays
 pub removed_front : (xs : List ℕ) (place c j : ℕ) → place < length xs → j < place → get_or (swap_remove xs place c) j 0 ≡ get_or xs j 0

@@ -1,5 +1,5 @@
 -- The lists and the rows agree, before and after a clause watches another literal.
-use Rattle.std.proofs.Common.{suc, ◌≡◌, ◌≢◌, ◌==◌, ℕ, ◌+◌, ◌-◌, ◌<◌, ◌≤◌, List, [], ◌∷◌, ◌++◌, length, get_or, set, cond, eqb, count_by, sum_by, refl, ap, ◌∙◌, ⊎_elim, arith, ◌⊎◌, Contains, swap_remove}
+use Rattle.std.proofs.Common.{suc, ◌≡◌, ◌≢◌, ◌==◌, ℕ, ◌+◌, ◌-◌, ◌<◌, ◌≤◌, List, [], ◌∷◌, ◌++◌, length, get_or, set, cond, eqb, count_by, sum_by, ap, ◌∙◌, ⊎_elim, arith, ◌⊎◌, Contains, swap_remove}
 use Rattle.std.proofs.lemmas.Bool.{eq-eqb, ne_eqb, cases_eq, Decides.nat_tests}
 use Rattle.std.proofs.lemmas.List.{get_or-set_same, get_or-set_other, get_or_past, get_or_default, length_push, length-set, length-take-le}
 use Rattle.std.proofs.lemmas.List.Sums.{sum_by_push, sum_by-cons, sum_by-set, sum_by-swap_remove, get_or-le-sum_by}
@@ -36,12 +36,7 @@ watch_within rows e k h = grind (arith, nat_tests, get_or_past)
 
 -- a clause in a literal's list watches it
 pub entry_watches : (rows : List RowValue) (w : ListsValue) (k place : ℕ) → IsWatched rows w → place < length (list_at w.lists k) → 0 < watch_count (row_at rows (get_or (list_at w.lists k) place 0)) k
-entry_watches rows w k place i h =
-    let xs = list_at w.lists k in
-    let e = get_or xs place 0 in
-    let one : hit (get_or xs place 0) e ≡ 1 = hit_yes e e refl in
-    let some = get_or-le-sum_by (λ x. hit x e) xs place 0 h in
-    omega (arith, some, one, i.exact e k)
+entry_watches rows w k place i h = grind (arith, hit_yes, get_or-le-sum_by)
 
 cons_counts : (x : ℕ) (xs : List ℕ) (e : ℕ) → 0 < count_by (λ y. y == e) (x ∷ xs) → (x ≡ e) ⊎ (0 < count_by (λ y. y == e) xs)
 cons_counts x xs e h = grind (arith, nat_tests, sum_by-cons)
@@ -55,9 +50,7 @@ pub watch_entry : (rows : List RowValue) (w : ListsValue) (e k : ℕ) → IsWatc
 watch_entry rows w e k i h = find (list_at w.lists k) e (omega (arith, i.exact e k, h))
 
 pub occurs : (xs : List LitValue) (l : LitValue) → Contains xs l → 0 < count_by (λ o. code_of o == code_of l) xs
-occurs xs l c =
-    let one : hit (code_of (get_or xs c.0 l)) (code_of l) ≡ 1 = hit_yes (code_of (get_or xs c.0 l)) (code_of l) (ap code_of c.2) in
-    omega (arith, get_or-le-sum_by (λ o. hit (code_of o) (code_of l)) xs c.0 l c.1, one)
+occurs xs l c = grind (arith, hit_yes, get_or-le-sum_by)
 
 -- there is room in the list of a literal of a clause that does not watch it
 pub room_in_list : (rows : List RowValue) (w : ListsValue) (e k : ℕ) → IsWatched rows w → e < length rows → 0 < occurrences (row_at rows e) k → watch_count (row_at rows e) k ≡ 0 → length (list_at w.lists k) < get_or w.rooms k 0
@@ -75,9 +68,7 @@ shifted_a lists a place b c w d =
     get_or-set_other (set lists a (swap_remove (list_at lists a) place c)) b a (list_at lists b ++ c ∷ []) [] d ∙ get_or-set_same lists a (swap_remove (list_at lists a) place c) [] w
 
 pub length_removed : (xs : List ℕ) (place c : ℕ) → place < length xs → length (swap_remove xs place c) + 1 ≡ length xs
-length_removed xs place c w =
-    let n = sum_by-swap_remove (λ y. 1) xs place c w in
-    omega (arith, length-take-le (length xs - 1) (set xs place (get_or xs (length xs - 1) c)) (omega (arith, length-set xs place (get_or xs (length xs - 1) c))), length-set xs place (get_or xs (length xs - 1) c), w)
+length_removed xs place c w = grind (arith, sum_by-swap_remove, length-take-le, length-set)
 
 pub moved : (rows : List RowValue) (w : ListsValue) (c a b place : ℕ) (r : RowValue) → IsWatched rows w → c < length rows → a < length w.lists → b < length w.lists → a ≢ b → place < length (list_at w.lists a) → get_or (list_at w.lists a) place 0 ≡ c
     → r.lits ≡ (row_at rows c).lits → watch_count (row_at rows c) a ≡ 1 → watch_count r a ≡ 0 → watch_count (row_at rows c) b ≡ 0 → watch_count r b ≡ 1 → ((k : ℕ) → k ≢ a → k ≢ b → watch_count r k ≡ watch_count (row_at rows c) k) → 0 < occurrences (row_at rows c) b

@@ -1,4 +1,6 @@
-use Rattle.std.proofs.Common.{◌≡◌, ◌≢◌, ◌==◌, ℕ, ◌+◌, ◌<◌, ◌≤◌, List, [], ◌∷◌, ◌++◌, length, get_or, set, take, sym, ap, ◌∙◌, subst, arith}
+use Rattle.std.proofs.lemmas.Bool.Decides.{nat_tests}
+use Rattle.std.proofs.lemmas.Grind.{common_steps}
+use Rattle.std.proofs.Common.{◌≡◌, ◌==◌, ℕ, ◌+◌, ◌<◌, ◌≤◌, List, [], ◌∷◌, ◌++◌, length, get_or, set, take, sym, ap, ◌∙◌, subst, arith}
 use Rattle.std.proofs.lemmas.List.{get_or-set_other, length-set, Elements.{All-contains, Contains-append_left, Contains-push}}
 use Rattle.cnf_formula.{specs.{Literals.{LitValue, code_of}, Formulas.IsAbout}, proofs.Codes.{same_code, code_within}}
 use Rattle.trail_core.specs.{Watching.{RowValue, IsRow, IsWatched, AreLists, occurrences, list_at, AreBlocked, WatchValue, IsOnlyNew}, Kept.IsKept}
@@ -17,36 +19,16 @@ admitted c =
     kept_lists rows c.args.lists.now n c.args.trail.now c.args.head.now c.args.short.now.items c.requires.kept (subst (λ m. AreLists m n) c.vars.ensures e.are_lists) (watched_more rows c.args.lists.now n c.requires.kept.can.watched e.lists e.more e.room) e.watches
 
 pub returns-in_err-number-clause-kept : goal.returns-in_err-number-clause-kept
-returns-in_err-number-clause-kept c =
-    let n = c.admit_all.new.lists in
-    let t = c.args.trail.now in
-    subst (λ ss. IsKept c.push.new.self n t c.args.head.now ss) (sym c.admit_short.ensures.items) (subst (λ rs. IsKept rs n t c.args.head.now c.args.short.now.items) (sym c.in_err-number.ensures.err) (admitted (goal.at.returns-in_err-number-clause-kept c).After-admit_all))
+returns-in_err-number-clause-kept c = grind (arith, admitted)
 
 pub returns-in_err-admit_all-clause-kept : goal.returns-in_err-admit_all-clause-kept
 returns-in_err-admit_all-clause-kept c = subst (λ ss. IsKept c.args.store.now c.admit_all.new.lists c.args.trail.now c.args.head.now ss) (sym c.admit_short.ensures.items) (admitted (goal.at.returns-in_err-admit_all-clause-kept c).After-admit_all)
 
 pub add-requires-clause-room : goal.add-requires-clause-room
-add-requires-clause-room c =
-    let old = c.args.lists.now in
-    let n = c.admit_all.new.lists in
-    let h = c.if-lits-gt1.true in
-    let a = code_of c.watches-first.result.0 in
-    let same : list_at n.lists a ≡ list_at old.lists a = ap (λ ls. list_at ls a) c.admit_all.ensures.lists in
-    let one = occurs c.args.lits.now c.watches-first.result.0 (c.watches-first.ensures.first h) in
-    omega (arith, ap length same, c.requires.kept.can.watched.room a, c.in_ok-admit_all.ensures.ok a, one, c.admit_all.ensures.room.fits a)
+add-requires-clause-room c = grind (arith, nat_tests, common_steps, occurs)
 
 pub add-requires-then-lits-gt1-clause-room : goal.add-requires-then-lits-gt1-clause-room
-add-requires-then-lits-gt1-clause-room c =
-    let old = c.args.lists.now in
-    let n = c.admit_all.new.lists in
-    let h = c.if-lits-gt1.true in
-    let a = code_of c.watches-first.result.0 in
-    let b = code_of c.watches-first.result.1 in
-    let apart : b ≢ a = λ e. c.watches-first.ensures.differ h (same_code c.watches-first.result.0 c.watches-first.result.1 (sym e)) in
-    let same : list_at c.add.new.self.lists b ≡ list_at old.lists b = ap (λ ls. list_at ls b) c.add.ensures.lists ∙ get_or-set_other n.lists a b (list_at n.lists a ++ c.new.result.clause ∷ []) [] apart ∙ ap (λ ls. list_at ls b) c.admit_all.ensures.lists in
-    let rooms : get_or c.add.new.self.rooms b 0 ≡ get_or n.rooms b 0 = ap (λ rs. get_or rs b 0) c.add.ensures.rooms in
-    let one = occurs c.args.lits.now c.watches-first.result.1 (c.watches-first.ensures.second h) in
-    omega (arith, ap length same, rooms, c.requires.kept.can.watched.room b, c.in_ok-admit_all.ensures.ok b, one, c.admit_all.ensures.room.fits b)
+add-requires-then-lits-gt1-clause-room c = grind (arith, nat_tests, common_steps, same_code, get_or-set_other, occurs)
 
 pub returns-then-lits-gt1-clause-kept : goal.returns-then-lits-gt1-clause-kept
 returns-then-lits-gt1-clause-kept c =

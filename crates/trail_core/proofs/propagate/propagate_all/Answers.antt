@@ -20,9 +20,7 @@ kept : (c : After-scan) → IsKept c.scan.new.store c.scan.new.lists c.scan.new.
 kept c = let s = c.scan.ensures.scanned in kept_extend c.loop-at.store c.scan.new.store c.loop-at.lists c.scan.new.lists c.loop-at.trail c.scan.new.trail c.loop-at.at c.args.short.now c.loop-at.invariant.kept c.scan.ensures.can s.limits s.count s.same s.watches (due c)
 
 implied : (c : After-scan) → Implied (clauses_of c.args.store.now) (IsDue c.args.trail.now.limits) c.args.trail.now.steps c.scan.new.trail.steps
-implied c =
-    let l = c.loop-at in
-    implied_trans l.invariant.implied (subst (λ ls. Implied (clauses_of c.args.store.now) (IsDue ls) l.trail.steps c.scan.new.trail.steps) l.invariant.limits (subst (λ cs. Implied cs (IsDue l.trail.limits) l.trail.steps c.scan.new.trail.steps) l.invariant.same (due c)))
+implied c = grind (arith, implied_trans, due)
 
 pub settle_all-requires : goal.settle_all-requires
 settle_all-requires c =
@@ -34,9 +32,7 @@ returns-in-Some-clause-kept c =
     kept_settled c.args.store.now c.args.lists.now c.args.trail.now c.settle_all.new.trail c.args.head.now c.args.short.now c.requires (ap (λ u. u.vars) e.same) (ap (λ u. u.limits) e.same) (omega (arith, c.if-depth-eq0.true, c.depth.ensures)) e.implied
 
 pub returns-in-Some-clause-implied : goal.returns-in-Some-clause-implied
-returns-in-Some-clause-implied c =
-    let t = c.args.trail.now in
-    subst (λ ls. Implied (clauses_of c.args.store.now) (IsDue ls) t.steps c.settle_all.new.trail.steps) (sym (nil_limits t.limits (omega (arith, c.if-depth-eq0.true, c.depth.ensures)))) c.settle_all.ensures.implied
+returns-in-Some-clause-implied c = grind (arith, nil_limits)
 
 pub loop-at-init : goal.loop-at-init
 loop-at-init c =

@@ -5,16 +5,7 @@ use Rattle.trail_core.proofs.{Watching.watch_entry, Visits.scanned_same, Scans.{
 use Rattle.trail_core.proofs.propagate.scan.Goals as goal
 
 pub loop-place-init : goal.loop-place-init
-loop-place-init c = record {
-  can = c.requires.can;
-  scanned = scanned_same c.args.falsified c.args.store.now c.args.trail.now;
-  of = c.requires.of;
-  is_false = c.requires.is_false;
-  long = omega (arith, c.count-place.ensures);
-  done = λ e h.
-      let w = watch_entry c.args.store.now c.args.lists.now e (code_of c.args.falsified) c.requires.can.watched h in
-      inr (w.0, omega (arith, w.1, c.count-place.ensures), w.2);
-}
+loop-place-init c = grind (arith, scanned_same, watch_entry)
 
 pub returns-in-Some-clause-scanned : goal.returns-in-Some-clause-scanned
 returns-in-Some-clause-scanned c = scanned_trans c.args.falsified c.args.store.now c.loop-place.store c.visit.new.store c.args.trail.now c.loop-place.trail c.visit.new.trail c.loop-place.invariant.scanned c.visit.ensures.scanned

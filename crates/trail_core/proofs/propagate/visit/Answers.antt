@@ -16,10 +16,7 @@ pub returns-then-is_true-clause-scanned : goal.returns-then-is_true-clause-scann
 returns-then-is_true-clause-scanned c = scanned_same c.args.falsified c.args.store.now c.args.trail.now
 
 pub returns-then-is_true-clause-handled : goal.returns-then-is_true-clause-handled
-returns-then-is_true-clause-handled c = λ h.
-    let t = c.args.trail.now in
-    let v = visited (goal.at.returns-then-is_true-clause-handled c).After-entry-watch in
-    subst (λ n. IsSatisfied (lits_of t.steps) (row_at c.args.store.now n).lits) c.entry-watch.ensures.clause (c.entry-watch.result.blocker, v.own, subst (Contains (lits_of t.steps)) c.blocker-blocker.ensures (c.is_true.ensures.0 c.if-is_true.true))
+returns-then-is_true-clause-handled c = grind (arith, visited)
 
 pub is_false-requires : goal.is_false-requires
 is_false-requires c = let v = visited (goal.at.is_false-requires c).After-entry-watch in omega (arith, v.of_vars.within, ap (λ l. l.var) c.blocker-blocker.ensures)

@@ -21,9 +21,7 @@ pair c =
     pair_is c.args.trail.now.vars c.args.store.now c.args.lists.now c.clause-id.result c.args.place c.args.falsified c.watched-first.result.0 c.watched-first.result.1 c.if-eq.other c.requires.can.are_rows c.requires.can.watched c.requires.within (c.clause-id.ensures ∙ c.requires.is) (c.watched-first.ensures.first no_row) (c.watched-first.ensures.second no_row) o
 
 about : (c : Joined-eq) → IsAbout c.args.trail.now.vars c.if-eq.other
-about c =
-    let p = pair c in
-    All-contains (IsAbout c.args.trail.now.vars) (row_at c.args.store.now c.clause-id.result).lits c.if-eq.other (c.requires.can.are_rows c.clause-id.result p.within).within p.own
+about c = grind (arith, pair, All-contains)
 
 found : (c : In-Some) → Found (lits_of c.args.trail.now.steps) (row_at c.args.store.now c.clause-id.result).lits c.if-eq.other c.in-Some.lit
 found c = record { stands = subst (λ xs. Contains xs c.in-Some.lit) (c.clause.ensures.lits no_row) c.in-Some.ensures.0; differs = c.in-Some.ensures.1; not_false = c.in-Some.ensures.2 }
@@ -47,9 +45,7 @@ pub returns-then-is_true-clause-scanned : goal.returns-then-is_true-clause-scann
 returns-then-is_true-clause-scanned c = scanned_same c.args.falsified c.args.store.now c.args.trail.now
 
 pub returns-then-is_true-clause-handled : goal.returns-then-is_true-clause-handled
-returns-then-is_true-clause-handled c = λ h.
-    let p = pair (goal.at.returns-then-is_true-clause-handled c).Joined-eq in
-    subst (λ n. IsSatisfied (lits_of c.args.trail.now.steps) (row_at c.args.store.now n).lits) (c.clause-id.ensures ∙ c.requires.is) (c.if-eq.other, p.own, c.is_true.ensures.0 c.if-is_true.true)
+returns-then-is_true-clause-handled c = grind (arith, pair)
 
 pub clause-requires : goal.clause-requires
 clause-requires c = known (goal.at.clause-requires c).After-clause-id

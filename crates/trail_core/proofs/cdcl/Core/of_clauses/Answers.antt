@@ -1,5 +1,5 @@
-use Rattle.std.proofs.Common.{◌≡◌, [], map, sym, ap, ◌∙◌, subst, arith}
-use Rattle.trail_core.specs.{Trails.TrailValue, Search.clauses_of, Kept.IsKept, inner.Begun.front_row}
+use Rattle.std.proofs.Common.{[], map, sym, subst, arith}
+use Rattle.trail_core.specs.{Trails.TrailValue, Kept.IsKept, inner.Begun.front_row}
 use Rattle.trail_core.proofs.{Storing.occurrences_joined, Begun.{kept_begun, rows_front, lits_front}}
 use Rattle.trail_core.proofs.cdcl.Core.of_clauses.Goals as goal
 
@@ -16,7 +16,4 @@ invariant_of-result-2 c =
     (subst (λ rows. IsKept rows w c.in_ok-new.field-0 0 short) (sym c.in_ok-of_clauses.ensures) (subst (λ u. IsKept (map front_row clauses) w u 0 short) (sym c.in_ok-new.ensures) k))
 
 pub returns : goal.returns
-returns c =
-    let clauses : clauses_of c.in_ok-of_clauses.field-0 ≡ c.args.clauses.now = ap clauses_of c.in_ok-of_clauses.ensures ∙ lits_front c.args.clauses.now in
-    let t = c.in_ok-new.ensures in
-    λ i. record { vars = (t i).vars; clauses = clauses i; trail = (t i).steps; limits = (t i).limits }
+returns c = grind (arith, lits_front)

@@ -1,4 +1,6 @@
-use Rattle.std.proofs.Common.{◌+◌, arith}
+use Rattle.std.proofs.lemmas.Bool.Decides.{nat_tests}
+use Rattle.std.proofs.lemmas.Grind.{common_steps}
+use Rattle.std.proofs.Common.{arith}
 use Rattle.cnf_formula.specs.Literals.{code_of}
 use Rattle.trail_core.proofs.Listing.{Known, known, pooled_len, added}
 use Rattle.trail_core.proofs.lists.WatchLists.add.Goals as goal
@@ -14,9 +16,7 @@ pub overflow_add-span : goal.overflow_add-span
 overflow_add-span c = let n = found (goal.at.overflow_add-span c).After-index_mut-span in omega arith
 
 pub invariant_of-self : goal.invariant_of-self
-invariant_of-self c =
-    let n = found (goal.at.invariant_of-self c).After-index_mut-span in
-    pooled_len _ _ _ _ _ _ n (c.index_mut-span.result.now.len + 1) _ _ (omega arith)
+invariant_of-self c = grind (arith, nat_tests, common_steps, found, pooled_len)
 
 pub returns : goal.returns
 returns c =

@@ -1,4 +1,6 @@
-use Rattle.std.proofs.Common.{length, map, ap, ◌∙◌, rules}
+use Rattle.std.proofs.lemmas.Bool.Decides.{nat_tests}
+use Rattle.std.proofs.lemmas.Grind.{common_steps}
+use Rattle.std.proofs.Common.{arith, map, ap, ◌∙◌, rules}
 use Rattle.cnf_formula.specs.Literals.{code_of}
 use Rattle.trail_core.{specs.inner.Pooled.numbers_of, proofs.{Pooling.{pooled_longer, pooled_roomy, views_same}, Listing.{Known, known, admitted}}}
 use Rattle.trail_core.proofs.lists.WatchLists.admit.Goals as goal
@@ -19,10 +21,7 @@ returns-in_err-roomy-clause-lists c =
     ap (map numbers_of) (views_same c.self.inside.pool.items c.admitted.new.pool.items c.self.inside.spans.items c.self.invariant c.admitted.ensures.long c.admitted.ensures.front) ∙ ap (λ w. w.lists) c.self.view_is
 
 pub invariant_of-self-2 : goal.invariant_of-self-2
-invariant_of-self-2 c =
-    let n = found (goal.at.invariant_of-self-2 c).After-index-span in
-    let o = c.in_ok-roomy.ensures in
-    pooled_roomy (length c.self.inside.pool.items) _ _ _ c.index-span.result.now _ n.pooled n.within n.is c.admitted.ensures.long c.admitted.ensures.small o.ok.0 o.place
+invariant_of-self-2 c = grind (arith, nat_tests, common_steps, found, pooled_roomy)
 
 pub returns : goal.returns
 returns c =

@@ -14,9 +14,7 @@ pub index_mut-requires : goal.index_mut-requires
 index_mut-requires c = let n = found (goal.at.index_mut-requires c).After-index in omega arith
 
 pub returns-clause-lists : goal.returns-clause-lists
-returns-clause-lists c =
-    let n = found (goal.at.returns-clause-lists c).After-index in
-    (replaced _ _ _ _ _ _ n c.args.place c.args.watch (omega arith) c.requires.is).0
+returns-clause-lists c = grind (arith, found, replaced)
 
 pub returns-clause-watches : goal.returns-clause-watches
 returns-clause-watches c =

@@ -1,3 +1,5 @@
+use Rattle.std.proofs.lemmas.Bool.Decides.{nat_tests}
+use Rattle.std.proofs.lemmas.Grind.{common_steps}
 use Rattle.std.proofs.Common.{◌-◌, arith}
 use Rattle.cnf_formula.specs.Literals.{code_of}
 use Rattle.trail_core.proofs.Listing.{Known, known, pooled_len, taken}
@@ -23,9 +25,7 @@ pub overflow_sub-span : goal.overflow_sub-span
 overflow_sub-span c = let n = found (goal.at.overflow_sub-span c).After-index-span in omega arith
 
 pub invariant_of-self : goal.invariant_of-self
-invariant_of-self c =
-    let n = found (goal.at.invariant_of-self c).After-index-span in
-    pooled_len _ _ _ _ _ _ n (c.index-span.result.now.len - 1) _ _ (omega arith)
+invariant_of-self c = grind (arith, nat_tests, common_steps, found, pooled_len)
 
 pub returns : goal.returns
 returns c =

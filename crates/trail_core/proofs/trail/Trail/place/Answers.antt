@@ -5,10 +5,7 @@ use Rattle.trail_core.proofs.Fields.{seen, stands_within}
 use Rattle.trail_core.proofs.trail.Trail.place.Goals as goal
 
 pub index-requires : goal.index-requires
-index-requires c =
-    let i = c.self.inside in
-    let s = seen i.vars i.assignments.items i.lits.items i.limits.items c.args.self.now c.self.view_is in
-    omega (arith, (stands_within i.vars i.values.items i.lits.items i.limits.items c.args.self.now c.args.lit c.self.invariant.0 s c.requires).1, c.self.invariant.2, c.var.ensures.var)
+index-requires c = grind (arith, c.self.inside, seen c.self.inside.vars c.self.inside.assignments.items c.self.inside.lits.items c.self.inside.limits.items c.args.self.now c.self.view_is, stands_within)
 
 pub returns : goal.returns
 returns c =

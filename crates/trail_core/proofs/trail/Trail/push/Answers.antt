@@ -11,14 +11,10 @@ ready c =
     can_push i.vars i.values.items (levels_of i.assignments.items) i.lits.items i.limits.items c.args.self.now c.args.lit c.self.invariant.0 c.self.invariant.1 (seen i.vars i.assignments.items i.lits.items i.limits.items c.args.self.now c.self.view_is) c.var-var.ensures.limits.some c.requires.within c.requires.open
 
 pub set_values-requires-clause-here : goal.set_values-requires-clause-here
-set_values-requires-clause-here c =
-    let i = c.self.inside in
-    (code_of_within i.vars i.values.items i.lits.items c.args.lit c.self.invariant.0 c.var-var.ensures.limits.some (omega (arith, ap (λ t. t.vars) c.self.view_is, c.requires.within))).0
+set_values-requires-clause-here c = grind (arith, code_of_within)
 
 pub set_values-requires-clause-opposite : goal.set_values-requires-clause-opposite
-set_values-requires-clause-opposite c =
-    let i = c.self.inside in
-    (code_of_within i.vars i.values.items i.lits.items c.args.lit c.self.invariant.0 c.var-var.ensures.limits.some (omega (arith, ap (λ t. t.vars) c.self.view_is, c.requires.within))).1
+set_values-requires-clause-opposite c = grind (arith, code_of_within)
 
 pub push_reserved-requires : goal.push_reserved-requires
 push_reserved-requires c = let r = ready (goal.at.push_reserved-requires c).After-len in omega (arith, r, c.self.invariant)
