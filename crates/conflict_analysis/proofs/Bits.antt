@@ -1,5 +1,5 @@
 -- Bits of words, and of sets of places.
-use Rattle.std.proofs.Common.{suc, ◌≡◌, ℕ, ◌+◌, ◌-◌, ◌*◌, ◌/◌, ◌%◌, ◌^◌, ◌<◌, ◌≤◌, List, length, get_or, set, sym, ap, ◌∙◌, subst, inl, inr, ⊎_elim, arith, ◌≢◌, ◌⊎◌, ◌↔◌, IsBitSet}
+use Rattle.std.proofs.Common.{suc, ◌≡◌, ℕ, ◌+◌, ◌-◌, ◌*◌, ◌/◌, ◌%◌, ◌^◌, ◌<◌, ◌≤◌, List, length, get_or, set, sym, ap, ◌∙◌, ⊎_elim, arith, ◌≢◌, ◌⊎◌, ◌↔◌, IsBitSet}
 use Rattle.std.proofs.{Math.Nat.{pow-succ', pow-le-pow_right}, lemmas.{Bool.{cases_lt, cases_eq}, List.{get_or-set_same, get_or-set_other, get_or_default}}}
 use Rattle.std.proofs.lemmas.Nat.{pow_pos, pow-add, pow_below, pow_apart, and_comm, and_mask, and_assoc, and_le_l, and_or_self, and_or_apart, mod_low, shr_high, bit_set_by_shift, leading_top}
 use lib.{Bits.{bit_and, bit_or}, Count.count_leading_zeros}
@@ -55,31 +55,11 @@ highest_last n some fits k gt s =
 
 -- a place more
 has_more : (words : List ℕ) (place n : ℕ) → n ≡ get_or words (place / 64) 0 → place / 64 < length words → (k : ℕ) → HasPlace (set words (place / 64) (bit_or n (2 ^ (place % 64)))) k ↔ (HasPlace words k ⊎ (k ≡ place))
-has_more words place n at room k = ⊎_elim
-    (λ e.
-    let new = ap (λ i. get_or (set words (place / 64) (bit_or n (2 ^ (place % 64)))) i 0) e ∙ get_or-set_same words (place / 64) (bit_or n (2 ^ (place % 64))) 0 room in
-    let was : n ≡ get_or words (k / 64) 0 = at ∙ ap (λ i. get_or words i 0) (sym e) in
-    let b = bits_more n (place % 64) (k % 64) in (
-      λ h. ⊎_elim (λ s. inl (subst Has was s)) (λ s. inr (omega (arith, s, e))) (b.0 (subst Has new h)),
-      λ h. subst Has (sym new) (b.1 (⊎_elim (λ s. inl (subst Has (sym was) s)) (λ s. inr (ap (λ x. x % 64) s)) h)),
-    ))
-    (λ d.
-    let same = get_or-set_other words (place / 64) (k / 64) (bit_or n (2 ^ (place % 64))) 0 d in
-    (λ h. inl (subst Has same h), λ h. subst Has (sym same) (⊎_elim (λ s. s) (λ s. absurd (d (ap (λ x. x / 64) s))) h)))
-    (cases_eq (k / 64) (place / 64))
-  where
-    Has : ℕ → Type 0
-    Has word = IsBitSet word (k % 64)
+has_more words place n at room k = grind (arith, ⊎_elim, get_or-set_same, bits_more, get_or-set_other, cases_eq)
 
 -- a place more, where room was made before
 pub has_inserted : (old words words' : List ℕ) (place n bit : ℕ) → ((i : ℕ) → get_or words i 0 ≡ get_or old i 0) → words' ≡ set words (place / 64) (bit_or n bit) → bit ≡ 2 ^ (place % 64) → n ≡ get_or words (place / 64) n → place / 64 < length words → (k : ℕ) → HasPlace words' k ↔ (HasPlace old k ⊎ (k ≡ place))
-has_inserted old words words' place n bit same is b r room k =
-    let at : n ≡ get_or words (place / 64) 0 = r ∙ get_or_default words (place / 64) n 0 room in
-    let more = has_more words place n at room k in
-    let new = is ∙ ap (λ x. set words (place / 64) (bit_or n x)) b in (
-      λ h. ⊎_elim (λ s. inl (subst (λ x. IsBitSet x (k % 64)) (same (k / 64)) s)) inr (more.0 (subst (λ ws. HasPlace ws k) new h)),
-      λ h. subst (λ ws. HasPlace ws k) (sym new) (more.1 (⊎_elim (λ s. inl (subst (λ x. IsBitSet x (k % 64)) (sym (same (k / 64))) s)) inr h)),
-    )
+has_inserted old words words' place n bit same is b r room k = grind (arith, get_or_default, has_more, ⊎_elim)
 
 -- on a way down from a place, of a word those bits are left that lie below the place
 pub record IsScan (words : List ℕ) (place index word : ℕ) : Type 0 where

@@ -29,10 +29,7 @@ waits_some mark marks v w e = omega (arith, get_or-le-sum_by (one_if mark) marks
 
 -- two are counted twice
 pub waits_two : (mark : ℕ) (marks : List ℕ) (u v : ℕ) → mark ≢ 0 → u < length marks → v < length marks → u ≢ v → get_or marks u 0 ≡ mark → get_or marks v 0 ≡ mark → 1 < waiting mark marks
-waits_two mark marks u v z i j n e f =
-    let less = waits_less mark marks u 0 i e (λ h. z (sym h)) in
-    let rest = waits_some mark (set marks u 0) v (omega (arith, j, length-set marks u 0)) (get_or-set_other marks u v 0 0 (λ h. n (sym h)) ∙ f) in
-    omega (arith, less, rest)
+waits_two mark marks u v z i j n e f = grind (arith, waits_less mark marks u 0 i e (λ h. z (sym h)), waits_some mark (set marks u 0) v (omega (arith, j, length-set marks u 0)) (get_or-set_other marks u v 0 0 (λ h. n (sym h)) ∙ f))
 
 -- what is counted stands somewhere
 pub waits_where : (mark : ℕ) (marks : List ℕ) → 0 < waiting mark marks → (v : ℕ) × (v < length marks) × (get_or marks v 0 ≡ mark)

@@ -59,13 +59,7 @@ pub record IsWalked (core : CoreValue) (place : ℕ) (w : WalkValue) : Type 0 wh
 
 -- on level 0 all that was met is taken for its reason
 taken_at : (core : CoreValue) (place : ℕ) (w : WalkValue) (k : ℕ) → IsWalked core place w → k < length core.trail → w.stamp ≤ mark_of w (lit_at core k) → mark_of w (lit_at core k) ≡ w.stamp + 2
-taken_at core place w k d v seen = ⊎_elim
-    (λ e. let low = d.sorted.marked.low k v e in absurd (omega (arith, low, d.bottom)))
-    (λ q. ⊎_elim
-    (λ e. let top = d.sorted.marked.top k v e in absurd (omega (arith, top.1, d.bottom)))
-    (λ q. ⊎_elim (λ e. e) (λ e. let waits = d.passed.waits k v e in absurd (omega (arith, waits))) q)
-    q)
-    (kinds (mark_of w (lit_at core k)) w.stamp seen (d.sorted.marked.over (lit_at core k).var))
+taken_at core place w k d v seen = grind (arith, ⊎_elim, kinds)
 
 pub reasoned_at : (core : CoreValue) (place : ℕ) (w : WalkValue) (k : ℕ) → IsWalked core place w → k < length core.trail → w.stamp ≤ mark_of w (lit_at core k) → IsReasoned core w k
 reasoned_at core place w k d v seen = (d.passed.each k v (taken_at core place w k d v seen)).1
@@ -74,27 +68,18 @@ pub reasoned_here : (core : CoreValue) (place : ℕ) (w : WalkValue) → IsWalke
 reasoned_here core place w d = reasoned_at core place w place d d.within d.seen
 
 resolved_at : (core : CoreValue) (place : ℕ) (w : WalkValue) (k : ℕ) → IsWalked core place w → k < length core.trail → w.stamp ≤ mark_of w (lit_at core k) → resolved_of w (step_at core k) ≡ true
-resolved_at core place w k d v seen =
-    let r = reasoned_at core place w k d v seen in
-    reason_kept (step_at core k).reason (resolved_by w (step_at core k)) r.id r.reason ∙ eq-eqb (mark_of w (lit_at core k)) (w.stamp + 2) (taken_at core place w k d v seen)
+resolved_at core place w k d v seen = grind (arith, reasoned_at, reason_kept, eq-eqb, taken_at)
 
 -- ---- the trail with the negation
 
 denied_at : (core : CoreValue) (place k : ℕ) (d : StepValue) → place < length core.trail → k < place → get_or (denied core place) k d ≡ step_at core k
-denied_at core place k d w lt =
-    let n : length (take place core.trail) ≡ place = length-take-le place core.trail (omega (arith, w)) in
-    get_or_append_left (take place core.trail) (record { lit = negation (lit_at core place); reason = None } ∷ []) d k (omega (arith, n, lt))
-    ∙ get_or-take place core.trail k d lt
-    ∙ get_or_default core.trail k d no_step (omega (arith, lt, w))
+denied_at core place k d w lt = grind (arith, length-take-le, get_or_append_left, get_or-take, get_or_default)
 
 denied_end : (core : CoreValue) (place : ℕ) (d : StepValue) → place < length core.trail → get_or (denied core place) place d ≡ record { lit = negation (lit_at core place); reason = None }
 denied_end core place d w = get_or_push (take place core.trail) (record { lit = negation (lit_at core place); reason = None }) d place (length-take-le place core.trail (omega (arith, w)))
 
 denied_length : (core : CoreValue) (place : ℕ) → place < length core.trail → length (denied core place) ≡ place + 1
-denied_length core place w =
-    let n : length (take place core.trail) ≡ place = length-take-le place core.trail (omega (arith, w)) in
-    let m = length_push (take place core.trail) (record { lit = negation (lit_at core place); reason = None }) in
-    omega (arith, n, m)
+denied_length core place w = grind (arith, length-take-le, length_push)
 
 -- what was met and is false before a step is out there
 out_under : (core : CoreValue) (place : ℕ) (w : WalkValue) (k : ℕ) (before : List StepValue) (clause : List LitValue) (o : LitValue) → IsWalked core place w → k ≤ place → ((j : ℕ) → j < k → Contains before (step_at core j)) → IsSeen w o → IsFalse (lits_of (take k core.trail)) o → IsOut (resolved_of w) before clause o

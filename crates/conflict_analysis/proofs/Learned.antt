@@ -27,10 +27,7 @@ pub record IsEnded (core : CoreValue) (conflict : ℕ) (w : WalkValue) (point : 
 -- a step of the last level that waits is the point
 waits_kept : (core : CoreValue) (w : WalkValue) (point : Option LitValue) (o : LitValue) (k : ℕ) → MatchOption point (length core.limits ≡ 0) (λ l. IsImplicationPoint core w l × (0 < length core.limits)) → IsSorted core w → IsAt core o k → mark_of w (lit_at core k) ≡ w.stamp + 1 → Contains (point_lits point) o
 waits_kept core w None o k p s a e = let t = s.marked.top k a.within e in absurd (omega (arith, t.1, p))
-waits_kept core w (Some l) o k p s a e =
-    let i : k ≡ p.0.place = p.0.only k a.within e in
-    let same : o ≡ negation l = sym (negated_twice o) ∙ ap negation (sym a.is ∙ ap (lit_at core) i ∙ p.0.is) in
-    subst (λ x. Contains (negation l ∷ []) x) (sym same) (here (negation l) [])
+waits_kept core w (Some l) o k p s a e = grind (arith, negated_twice, here)
 
 -- what was met is in the clause, or its step is resolved
 kept_or_resolved : (core : CoreValue) (conflict : ℕ) (w : WalkValue) (point : Option LitValue) (o : LitValue) → IsEnded core conflict w point → IsSeen w o → IsFalse (trues core) o → Contains (w.lits ++ point_lits point) o ⊎ (mark_of w o ≡ w.stamp + 2)

@@ -1,5 +1,5 @@
 -- Of what is kept the literals are left that are marked so still.
-use Rattle.std.proofs.Common.{◌≡◌, ℕ, ◌+◌, ◌<◌, true, List, [], ◌∷◌, ◌++◌, length, get_or, take, cond, sym, ap, ◌∙◌, inl, arith, eq-eqb, ◌≢◌, ◌==◌, Contains, Option, None, Some, MatchOption}
+use Rattle.std.proofs.Common.{◌≡◌, ℕ, ◌+◌, ◌<◌, true, List, [], ◌∷◌, ◌++◌, length, get_or, take, sym, ap, ◌∙◌, inl, arith, eq-eqb, ◌≢◌, ◌==◌, Contains, Option, None, Some, MatchOption}
 use Rattle.std.proofs.lemmas.{Bool.{eqb-true, ne_eqb}, List.{append-nil, Elements.{All-contains, All-contains_itself, All-filter, filter_more, filter_passes}}}
 use Rattle.std.proofs.lemmas.List.Kept.{AllPairs-filter}
 use Rattle.list_laws.proofs.Members.{Contains-filter}
@@ -10,11 +10,7 @@ use Rattle.conflict_analysis.{specs.Met.{WalkValue, IsSorted, IsPassed, IsImplic
 -- one more that is kept, or is not
 pub left_more : (stamp : ℕ) (marks : List ℕ) (lits left : List LitValue) (k : ℕ) (x : LitValue) → k < length lits → x ≡ get_or lits k x → left ≡ left_of stamp marks (take k lits)
     → (get_or marks x.var 0 ≡ stamp → left ++ x ∷ [] ≡ left_of stamp marks (take (k + 1) lits)) × (get_or marks x.var 0 ≢ stamp → left ≡ left_of stamp marks (take (k + 1) lits))
-left_more stamp marks lits left k x w is e =
-    let more : left_of stamp marks (take (k + 1) lits) ≡ left_of stamp marks (take k lits) ++ left_of stamp marks (x ∷ []) = filter_more (λ o. get_or marks o.var 0 == stamp) lits k x w ∙ ap (λ y. left_of stamp marks (take k lits) ++ left_of stamp marks (y ∷ [])) (sym is) in (
-      λ h. let t = eq-eqb (get_or marks x.var 0) stamp h in ap (λ xs. xs ++ x ∷ []) e ∙ ap (λ b. left_of stamp marks (take k lits) ++ cond b (x ∷ []) []) (sym t) ∙ sym more,
-      λ h. let f = ne_eqb (get_or marks x.var 0) stamp h in e ∙ sym (append-nil (left_of stamp marks (take k lits))) ∙ ap (λ b. left_of stamp marks (take k lits) ++ cond b (x ∷ []) []) (sym f) ∙ sym more,
-    )
+left_more stamp marks lits left k x w is e = grind (arith, filter_more (λ o. get_or marks o.var 0 == stamp) lits k x w ∙ ap (λ y. left_of stamp marks (take k lits) ++ left_of stamp marks (y ∷ [])) (sym is), eq-eqb, ne_eqb, append-nil)
 
 -- what is left is kept, and marked so
 pub left_kept : (stamp : ℕ) (marks : List ℕ) (lits : List LitValue) (o : LitValue) → Contains (left_of stamp marks lits) o → Contains lits o × (get_or marks o.var 0 ≡ stamp)
@@ -49,7 +45,4 @@ left_point core w (Some l) p = (record { place = p.0.place; within = p.0.within;
 
 -- what is kept is about the core's variables
 pub kept_room : (core : CoreValue) (w : WalkValue) → IsTrail core.vars core.trail core.limits → IsSorted core w → (o : LitValue) → Contains w.lits o → o.var < length w.marks
-kept_room core w t s o c =
-    let i = false_at core o (s.kept.of o c).1 in
-    let a = lit_about core i.0 t i.1.within in
-    omega (arith, a.within, i.1.var, s.marked.len)
+kept_room core w t s o c = grind (arith, false_at core o (s.kept.of o c).1, lit_about core (false_at core o (s.kept.of o c).1).0 t (false_at core o (s.kept.of o c).1).1.within)

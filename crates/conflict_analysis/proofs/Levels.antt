@@ -12,10 +12,7 @@ none m k w = ap (λ b. cond {A = ℕ} b 1 0) (lt-leb m k w)
 
 -- a higher place counts no less
 grows : (m p k : ℕ) → p ≤ k → cond {A = ℕ} (leb m p) 1 0 ≤ cond {A = ℕ} (leb m k) 1 0
-grows m p k w = ⊎_elim
-    (λ h. let a = none m p h in omega (arith, a))
-    (λ h. let a = one m p h in let b = one m k (omega (arith, h, w)) in omega (arith, a, b))
-    (cases_lt p m)
+grows m p k w = grind (arith, ⊎_elim, none, one, cases_lt)
 
 pub level_grows : (limits : List ℕ) (p k : ℕ) → p ≤ k → level_at limits p ≤ level_at limits k
 level_grows limits p k w = sum_by-le-sum_by (λ n. cond {A = ℕ} (leb n p) 1 0) (λ n. cond {A = ℕ} (leb n k) 1 0) limits (λ n. grows n p k w)
@@ -40,10 +37,7 @@ level_below (m ∷ limits) p k w c =
 
 -- where a level begins it is not level 0
 pub some_level : (limits : List ℕ) (k : ℕ) → Contains limits k → level_at limits k ≡ 0 → ⊥
-some_level limits k c z =
-    let counted = get_or-le-sum_by (λ n. cond {A = ℕ} (leb n k) 1 0) limits c.0 k c.1 in
-    let yes' = one (get_or limits c.0 k) k (omega (arith, c.2)) in
-    omega (arith, counted, yes', z)
+some_level limits k c z = grind (arith, get_or-le-sum_by, one)
 
 -- a level begins no higher than one after it
 pub limits_rise : (limits : List ℕ) (len i j : ℕ) → AreLimits limits len → i ≤ j → j < length limits → get_or limits i 0 ≤ get_or limits j 0

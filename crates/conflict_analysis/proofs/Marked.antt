@@ -1,4 +1,6 @@
 -- A literal that is met is marked.
+use Rattle.std.proofs.lemmas.Bool.Decides.{nat_tests}
+use Rattle.std.proofs.lemmas.Grind.{common_steps}
 use Rattle.std.proofs.Common.{◌≡◌, ℕ, ◌+◌, ◌<◌, ◌≤◌, List, [], ◌∷◌, ◌++◌, length, get_or, set, take, refl, sym, ap, ◌∙◌, subst, inl, inr, ⊎_elim, arith, ◌≢◌, ◌⊎◌, ◌↔◌, Contains, nat_le}
 use Rattle.std.proofs.lemmas.{List.{Sums.count_by-le-length, Quantifiers.all_pairs_push}, Bool.{cases_eq, cases_order}}
 use Rattle.std.proofs.lemmas.List.{get_or-set_same, get_or-set_other, get_or-map, get_or_default, length-set, take_more, take_all}
@@ -83,15 +85,11 @@ noted_same core stamp marks places k y t w len high n met = grind (arith, noted_
 
 -- a mark of what is kept is no lower than the stamp
 unmet : (stamp : ℕ) (marks : List ℕ) (v u : ℕ) → u ≡ v → get_or marks v 0 < stamp → ((get_or marks u 0 ≡ stamp) ⊎ (get_or marks u 0 ≡ stamp + 2)) → ⊥
-unmet stamp marks v u e low h =
-    let s : get_or marks u 0 ≡ get_or marks v 0 = ap (λ x. get_or marks x 0) e in
-    ⊎_elim (λ a. omega (arith, a, s, low)) (λ b. omega (arith, b, s, low)) h
+unmet stamp marks v u e low h = grind (arith, ⊎_elim)
 
 -- another's mark is as before
 kept_other : (stamp : ℕ) (marks : List ℕ) (v u y : ℕ) → u ≢ v → ((get_or marks u 0 ≡ stamp) ⊎ (get_or marks u 0 ≡ stamp + 2)) → ((get_or (set marks v y) u 0 ≡ stamp) ⊎ (get_or (set marks v y) u 0 ≡ stamp + 2))
-kept_other stamp marks v u y n h =
-    let s = get_or-set_other marks v u y 0 n in
-    ⊎_elim (λ a. inl (s ∙ a)) (λ b. inr (s ∙ b)) h
+kept_other stamp marks v u y n h = grind (arith, get_or-set_other, ⊎_elim)
 
 -- one whose step is resolved is kept no more, nor one of another kind that was not met
 pub kept_set : (core : CoreValue) (stamp : ℕ) (marks : List ℕ) (lits : List LitValue) (v y : ℕ) → v < length marks → AreKept core stamp marks lits → y ≢ stamp → (y ≡ stamp + 2) ⊎ (get_or marks v 0 < stamp) → AreKept core stamp (set marks v y) lits
@@ -130,22 +128,11 @@ pub record IsUnmet (core : CoreValue) (w : WalkValue) (l : LitValue) (k : ℕ) :
   pub room : l.var < length w.marks
 
 pub unmet_by : (core : CoreValue) (w : WalkValue) (l : LitValue) (var read : ℕ) → IsTrail core.vars core.trail core.limits → IsSorted core w → l.var ≤ core.vars → IsSeen w l ⊎ IsFalse (trues core) l → var ≡ l.var → read ≡ get_or w.marks var read → read < w.stamp → (k : ℕ) × IsUnmet core w l k
-unmet_by core w l var read t s v h e r less = ⊎_elim
-    (λ g. absurd (omega (arith, g, low)))
-    (λ f. let a = false_at core l f in (a.0, record { formed = t; sorted = s; low = low; at = a.1; room = room }))
-    h
-  where
-    room : l.var < length w.marks
-    room = omega (arith, v, s.marked.len)
-
-    low : get_or w.marks l.var 0 < w.stamp
-    low = let z = get_or_default w.marks l.var 0 read room in omega (arith, z, r, ap (λ x. get_or w.marks x read) e, less)
+unmet_by core w l var read t s v h e r less = grind (arith, nat_tests, common_steps, ⊎_elim, false_at, get_or_default)
 
 -- it is known where it stands
 pub unmet_at : (core : CoreValue) (w : WalkValue) (l this : LitValue) (k place : ℕ) → IsUnmet core w l k → this ≡ negation l → place < length core.trail → get_or (trues core) place this ≡ this → IsUnmet core w l place
-unmet_at core w l this k place u e within is =
-    let at : lit_at core place ≡ negation l = sym (lit_read core place this within) ∙ is ∙ e in
-    record { formed = u.formed; sorted = u.sorted; low = u.low; at = record { within = within; is = at; var = ap (λ x. x.var) at }; room = u.room }
+unmet_at core w l this k place u e within is = grind (arith, lit_read)
 
 module _ (core : CoreValue) (w : WalkValue) (l : LitValue) (k : ℕ) (places : List ℕ) (u : IsUnmet core w l k) (added : (j : ℕ) → HasPlace places j ↔ (HasPlace w.met_places j ⊎ (j ≡ k))) where
   same_mark : (y : ℕ) → get_or (set w.marks l.var y) l.var 0 ≡ y

@@ -1,4 +1,6 @@
 -- Places between level 0 and the last level.
+use Rattle.std.proofs.lemmas.Bool.Decides.{nat_tests}
+use Rattle.std.proofs.lemmas.Grind.{common_steps}
 use Rattle.std.proofs.{Common.{◌≡◌, ℕ, ◌+◌, ◌-◌, ◌<◌, ◌≤◌, length, get_or, ⊎_elim, arith}, lemmas.Bool.cases_lt}
 use Rattle.trail_core.specs.{Assigned.level_at, Meaning.CoreValue, Formed.IsTrail}
 use Rattle.conflict_analysis.specs.{Met.{WalkValue, IsSorted, IsPassed}, inner.Walks.HasWalked}
@@ -25,13 +27,7 @@ middle_at core level k t below lt =
 
 -- no step of level 0 waits at any lower place above level 0
 pub passed_lower : (core : CoreValue) (w : WalkValue) (low from to : ℕ) → IsTrail core.vars core.trail core.limits → low < length core.limits → get_or core.limits low 0 ≤ to → to ≤ from → IsSorted core w → IsPassed core 3 w from → IsPassed core 3 w to
-passed_lower core w low from to t below above le s p =
-    let first = limits_rise core.limits (length core.trail) 0 low t.levels (omega arith) below in
-    record {
-      each = λ k v e. let q = p.each k v e in (omega (arith, q.0, le), q.1);
-      waits = λ k v e. let b = bottom_place core.limits k (omega (arith, below)) (s.marked.bottom k v e) in omega (arith, b, first, above);
-      hints = p.hints;
-    }
+passed_lower core w low from to t below above le s p = grind (arith, nat_tests, common_steps, limits_rise, bottom_place)
 
 pub walked_lower : (core : CoreValue) (a w : WalkValue) (low from to : ℕ) → IsTrail core.vars core.trail core.limits → low < length core.limits → get_or core.limits low 0 ≤ to → to ≤ from → HasWalked core 3 a w from → HasWalked core 3 a w to
 walked_lower core a w low from to t below above le h = record { within = omega (arith, le, h.within); sorted = h.sorted; onward = h.onward; passed = passed_lower core w low from to t below above le h.sorted h.passed }

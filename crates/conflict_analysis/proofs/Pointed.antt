@@ -1,4 +1,6 @@
 -- Where the walk begins and ends: one literal of the last level is left, and all others that are kept became false below it.
+use Rattle.std.proofs.lemmas.Bool.Decides.{nat_tests}
+use Rattle.std.proofs.lemmas.Grind.{common_steps}
 use Rattle.std.proofs.Common.{suc, ◌-◌, ◌≡◌, ℕ, ◌+◌, ◌<◌, ◌≤◌, Bool, false, List, [], ◌∷◌, length, get_or, take, refl, sym, ap, ◌∙◌, inl, inr, ⊎_elim, arith, ◌≢◌, ◌⊎◌, Contains, filter, nat_le}
 use Rattle.std.proofs.lemmas.{List.{get_or-take, length-take-le, Sums.count_by-le-length}, Bool.{cases_lt, cases_eq, ne_eqb}}
 use Rattle.std.proofs.lemmas.List.Elements.{All-contains, Contains-get_or}
@@ -30,23 +32,11 @@ low_place limits len last k a e low = ⊎_elim
 
 -- what is of the last level does not
 pub high_place : (limits : List ℕ) (last k : ℕ) → last + 1 ≡ length limits → level_at limits k ≡ length limits → get_or limits last 0 ≤ k
-high_place limits last k e top = ⊎_elim
-    (λ lt. let r = level_below limits k (get_or limits last 0) lt (Contains-get_or limits last 0 (omega (arith, e))) in let w = count_by-le-length (λ m. nat_le m (get_or limits last 0)) limits in absurd (omega (arith, r, w, top)))
-    (λ ge. ge)
-    (cases_lt k (get_or limits last 0))
+high_place limits last k e top = grind (arith, nat_tests, common_steps, ⊎_elim, level_below, Contains-get_or, count_by-le-length, nat_le, cases_lt)
 
 -- level 0 lies below the first
 pub bottom_place : (limits : List ℕ) (k : ℕ) → 0 < length limits → level_at limits k ≡ 0 → k < get_or limits 0 0
-bottom_place limits k w z = ⊎_elim
-    (λ lt. lt)
-    (λ ge. absurd (⊎_elim
-    (λ s. some_level limits (get_or limits 0 0) (Contains-get_or limits 0 0 w) s)
-    (λ s. s)
-    (zero_or limits (get_or limits 0 0) k ge z)))
-    (cases_lt k (get_or limits 0 0))
-  where
-    zero_or : (limits : List ℕ) (m k : ℕ) → m ≤ k → level_at limits k ≡ 0 → (level_at limits m ≡ 0) ⊎ ⊥
-    zero_or limits m k ge z = inl (let g = level_grows limits m k ge in omega (arith, g, z))
+bottom_place limits k w z = grind (arith, nat_tests, common_steps, ⊎_elim, some_level, Contains-get_or, cases_lt, level_grows)
 
 -- a literal that became false below a place is false there
 pub false_below : (core : CoreValue) (o : LitValue) (k m : ℕ) → IsAt core o k → k < m → m ≤ length core.trail → IsFalse (take m (trues core)) o

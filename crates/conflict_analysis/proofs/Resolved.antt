@@ -1,5 +1,5 @@
 -- A step is taken for its reason.
-use Rattle.std.proofs.Common.{zero, suc, ◌≡◌, ℕ, ◌+◌, ◌<◌, ◌≤◌, ℤ, Bool, true, false, List, [], ◌∷◌, ◌++◌, Option, length, get_or, set, take, cond, refl, sym, ap, ◌∙◌, subst, inl, inr, ⊎_elim, arith, eq-eqb, ◌≢◌, ◌⊎◌, ◌==◌, Contains, None, Some, IsSome, map, filter, pos, reverse}
+use Rattle.std.proofs.Common.{zero, suc, ◌≡◌, ℕ, ◌+◌, ◌<◌, ◌≤◌, ℤ, Bool, true, false, List, [], ◌∷◌, ◌++◌, Option, length, get_or, set, take, cond, refl, sym, ap, ◌∙◌, subst, inl, inr, ⊎_elim, arith, eq-eqb, ◌≢◌, ◌⊎◌, ◌==◌, Contains, Some, IsSome, map, filter, pos, reverse}
 use Rattle.std.proofs.lemmas.{Bool.{cases_eq, cases_lt, eqb-true, ne_eqb}, List.Elements.All-contains}
 use Rattle.std.proofs.lemmas.List.{get_or-set_other, get_or_default, length-take-le, reverse-append, get_or-take, take-map}
 use Rattle.list_laws.proofs.Tests.{same_test}
@@ -39,12 +39,7 @@ step_read core k l r t w e c =
 
 -- a step that has a reason is implied
 pub reason_implied : (core : CoreValue) (k : ℕ) (l : LitValue) (id : ℕ) → AreGrounded core → IsTrail core.vars core.trail core.limits → k < length core.trail → l ≡ lit_at core k → Contains core.trail (record { lit = l; reason = Some id }) → IsImplied core.clauses (IsDue core.limits) (take k core.trail) (step_at core k)
-reason_implied core k l id g t w e c =
-    let r : (step_at core k).reason ≡ Some id = step_read core k l (Some id) t w e c in
-    ⊎_elim (λ d. absurd (other id (sym r ∙ d.0))) (λ i. i) (g k no_step w)
-  where
-    other : (id : ℕ) → Some id ≡ None → ⊥
-    other id h = cc
+reason_implied core k l id g t w e c = grind (arith, step_read core k l (Some id) t w e c, ⊎_elim)
 
 -- ---- a step is taken
 
@@ -120,19 +115,10 @@ module _ (core : CoreValue) (w w' : WalkValue) (place : ℕ) (t : IsTaken core p
   resolved_after k v n e = let s = marks_stay k v n (omega (arith, e)) in omega (arith, s, e, t.met.stamp)
 
   resolved_here : mark_of w' (lit_at core place) ≡ w'.stamp + 2
-  resolved_here =
-      let m = without_mark core w place t.step in
-      let k = t.met.stays (lit_at core place).var (omega (arith, m)) in
-      omega (arith, k, m, t.met.stamp)
+  resolved_here = grind (arith, without_mark core w place t.step, t.met.stays (lit_at core place).var (omega (arith, (without_mark core w place t.step))))
 
   pub taken_seen : (o : LitValue) → IsSeen w o → IsSeen w' o
-  taken_seen o h = ⊎_elim
-      (λ e. let m = resolved_here in let at = ap (λ v. get_or w'.marks v 0) e in omega (arith, m, at))
-      (λ n.
-      let at = get_or-set_other w.marks (lit_at core place).var o.var (w.stamp + 2) 0 n in
-      let k = t.met.stays o.var (omega (arith, at, h)) in
-      omega (arith, k, at, h, t.met.stamp))
-      (cases_eq o.var (lit_at core place).var)
+  taken_seen o h = grind (arith, ⊎_elim, resolved_here, get_or-set_other, cases_eq)
 
   taken_hints : (kind : ℕ) → IsPassed core kind w (place + 1) → reverse w'.hints ≡ hints_of (resolved_by w') core.trail
   taken_hints kind p =
@@ -211,9 +197,7 @@ module _ (core : CoreValue) (a w b : WalkValue) (opens bottoms place : ℕ) (t :
   }
 
   pub open_on : (0 < length core.limits → level_at core.limits place < length core.limits) → HasSameOpen core a w → HasSameOpen core a b
-  open_on low p =
-      let q = taken_open core (record w { open_ = opens; zeros = bottoms }) b place t low in
-      record { before = λ k v e. p.before k v (q.before k v e); after = λ k v e. q.after k v (p.after k v e) }
+  open_on low p = grind (arith, taken_open core (record w { open_ = opens; zeros = bottoms }) b place t low)
 
   pub above_on : (from : ℕ) → place < from → HasSameAbove core from a w → HasSameAbove core from a b
   above_on from lt p = record { above = λ k v ge e. p.above k v ge (resolved_before core (record w { open_ = opens; zeros = bottoms }) b place t k v (λ h. omega (arith, h, lt, ge)) e) }

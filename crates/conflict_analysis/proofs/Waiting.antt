@@ -1,4 +1,6 @@
 -- A step that waits has a reason.
+use Rattle.std.proofs.lemmas.Bool.Decides.{nat_tests}
+use Rattle.std.proofs.lemmas.Grind.{common_steps}
 use Rattle.std.proofs.Common.{◌≡◌, ℕ, ◌+◌, ◌-◌, ◌<◌, ◌≤◌, length, get_or, set, take, refl, sym, ap, ◌∙◌, subst, ⊎_elim, arith, ◌≢◌, Contains}
 use Rattle.std.proofs.lemmas.{Bool.{cases_lt, cases_eq}, List.{get_or_default, length-take-le}}
 use Rattle.cnf_formula.specs.Literals.{LitValue}
@@ -26,10 +28,7 @@ passed_over core kind w place p n = grind arith
 
 -- the mark at a place, as it is read
 pub mark_read : (core : CoreValue) (w : WalkValue) (place : ℕ) (x : LitValue) (var read : ℕ) → IsTrail core.vars core.trail core.limits → length w.marks ≡ core.vars + 1 → place < length core.trail → x ≡ lit_at core place → var ≡ x.var → read ≡ get_or w.marks var read → read ≡ mark_of w (lit_at core place)
-mark_read core w place x var read t s v e i r =
-    let a = lit_about core place t v in
-    let at : var ≡ (lit_at core place).var = i ∙ ap (λ l. l.var) e in
-    r ∙ get_or_default w.marks var read 0 (omega (arith, at, a.within, s)) ∙ ap (λ y. get_or w.marks y 0) at
+mark_read core w place x var read t s v e i r = grind (arith, lit_about, get_or_default)
 
 -- ---- steps that can be taken
 
@@ -76,9 +75,7 @@ bottom_step core w place t g s n =
 
 -- of a literal that was kept
 pub kept_step : (core : CoreValue) (w : WalkValue) (place : ℕ) → IsTrail core.vars core.trail core.limits → IsSorted core w → place < length core.trail → mark_of w (lit_at core place) ≡ w.stamp + 0 → IsImplied core.clauses (IsDue core.limits) (take place core.trail) (step_at core place) → IsStep core (record w { open_ = w.open_; zeros = w.zeros }) place
-kept_step core w place t s v e i =
-    let same = others_wait core w place 0 t s v e (λ h. omega (arith, h)) in
-    step_by core w place 0 t s v e (λ h. omega (arith, h)) w.open_ w.zeros i (s.open_ ∙ same 1 (λ h. omega (arith, h)) (λ h. omega (arith, h))) (s.zeros ∙ same 3 (λ h. omega (arith, h)) (λ h. omega (arith, h)))
+kept_step core w place t s v e i = grind (arith, nat_tests, common_steps, others_wait, step_by)
 
 -- ---- walks
 
@@ -107,19 +104,7 @@ walked_then core first kind a b c from place p q = record { within = q.within; s
 
 -- where no step of level 0 waits, all are passed
 pub walked_all : (core : CoreValue) (a w : WalkValue) (place : ℕ) → IsTrail core.vars core.trail core.limits → w.zeros ≡ 0 → HasWalked core 3 a w place → HasWalked core 3 a w 0
-walked_all core a w place t none h = record {
-  within = omega arith;
-  sorted = h.sorted;
-  onward = h.onward;
-  passed = record {
-    each = λ k v e. (omega arith, (h.passed.each k v e).1);
-    waits = λ k v e.
-        let b = lit_about core k t v in
-        let some = waits_some (w.stamp + 3) w.marks (lit_at core k).var (omega (arith, b.within, h.sorted.marked.len)) e in
-        absurd (omega (arith, some, h.sorted.zeros, none));
-    hints = h.passed.hints;
-  };
-}
+walked_all core a w place t none h = grind (arith, nat_tests, common_steps, lit_about, waits_some)
 
 -- where one step of the last level waits, it is the only one
 pub point_alone : (core : CoreValue) (w : WalkValue) (place k : ℕ) → IsTrail core.vars core.trail core.limits → IsSorted core w → w.open_ ≡ 1 → place < length core.trail → k < length core.trail → mark_of w (lit_at core place) ≡ w.stamp + 1 → mark_of w (lit_at core k) ≡ w.stamp + 1 → k ≡ place

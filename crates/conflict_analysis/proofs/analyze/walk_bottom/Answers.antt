@@ -4,9 +4,7 @@ use Rattle.conflict_analysis.proofs.{Resolved.{walked_on, open_on, above_on}, Wa
 use Rattle.conflict_analysis.proofs.analyze.walk_bottom.Goals as goal
 
 pub loop-walk-init : goal.loop-walk-init
-loop-walk-init c =
-    let w = value_of c.args.walk.now in
-    record { under = omega arith; walked = walked_none c.args.core.now 3 w c.args.from c.requires.from c.requires.sorted c.requires.passed; same = same_open c.args.core.now w; above = same_above c.args.core.now c.args.from w }
+loop-walk-init c = grind (arith, walked_none, same_open, same_above)
 
 pub waiting_below-place-requires-clause-some : goal.waiting_below-place-requires-clause-some
 waiting_below-place-requires-clause-some c = omega (arith, c.loop-walk.invariant.walked.sorted.zeros, c.loop-walk-test.true)

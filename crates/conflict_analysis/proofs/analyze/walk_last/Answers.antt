@@ -1,13 +1,10 @@
-use Rattle.std.proofs.Common.{◌≡◌, ◌-◌, length, sym, ap, ◌∙◌, subst, arith}
+use Rattle.std.proofs.Common.{◌-◌, arith}
 use Rattle.trail_core.proofs.Keeping.{lits_length}
-use Rattle.conflict_analysis.{specs.{Met.value_of, inner.Walks.HasWalked}, proofs.{Resolved.walked_on, Waiting.{walked_none, open_step}}}
+use Rattle.conflict_analysis.{specs.Met.value_of, proofs.{Resolved.walked_on, Waiting.{walked_none, open_step}}}
 use Rattle.conflict_analysis.proofs.analyze.walk_last.Goals as goal
 
 pub loop-walk-init : goal.loop-walk-init
-loop-walk-init c =
-    let core = c.args.core.now in
-    let end : length c.trail-place.result.now ≡ length core.trail = ap length c.trail-place.ensures.value ∙ lits_length core.trail in
-    record { some = c.requires.some; walked = subst (HasWalked core 1 (value_of c.args.walk.now) (value_of c.args.walk.now)) (sym end) (walked_none core 1 (value_of c.args.walk.now) (length core.trail) (omega arith) c.requires.sorted c.requires.passed) }
+loop-walk-init c = grind (arith, lits_length, walked_none)
 
 pub waiting_below-place-requires-clause-some : goal.waiting_below-place-requires-clause-some
 waiting_below-place-requires-clause-some c = omega (arith, c.loop-walk.invariant.walked.sorted.open_, c.loop-walk-test.true)

@@ -1,3 +1,5 @@
+use Rattle.std.proofs.lemmas.Bool.Decides.{nat_tests}
+use Rattle.std.proofs.lemmas.Grind.{common_steps}
 use Rattle.std.proofs.Common.{◌≡◌, ◌+◌, [], ◌∷◌, ◌++◌, set, sym, subst, arith, Contains}
 use Rattle.trail_core.specs.{Assigned.level_at, Meaning.trues}
 use Rattle.conflict_analysis.specs.Met.{value_of, WalkValue, HasMet}
@@ -7,10 +9,7 @@ use Rattle.conflict_analysis.proofs.meeting.meet.Goals.{After-negated-this, Afte
 
 -- the literal's negation stands on the trail
 stands : (c : After-negated-this) → Contains (trues c.args.core.now) c.negated-this.result
-stands c =
-    let core = c.args.core.now in
-    let was = unmet_by core (value_of c.args.walk.now) c.args.lit c.var-var.result c.index.result.now c.requires.formed c.requires.sorted c.requires.within c.requires.met c.var-var.ensures.var c.index.ensures (omega (arith, c.if-index-walk.false)) in
-    subst (Contains (trues core)) (sym c.negated-this.ensures) (at_false core c.args.lit was.0 was.1.at)
+stands c = grind (arith, nat_tests, common_steps, unmet_by, at_false)
 
 pub place-place-requires : goal.place-place-requires
 place-place-requires c = stands (goal.at.place-place-requires c).After-negated-this
@@ -20,11 +19,7 @@ level-level-requires c = stands (goal.at.level-level-requires c).After-negated-t
 
 -- the literal was not met, and became false at this place
 unmet : (c : After-level-level) → IsUnmet c.args.core.now (value_of c.args.walk.now) c.args.lit c.place-place.result
-unmet c =
-    let core = c.args.core.now in
-    let w : WalkValue = value_of c.args.walk.now in
-    let was = unmet_by core w c.args.lit c.var-var.result c.index.result.now c.requires.formed c.requires.sorted c.requires.within c.requires.met c.var-var.ensures.var c.index.ensures (omega (arith, c.if-index-walk.false)) in
-    unmet_at core w c.args.lit c.negated-this.result was.0 c.place-place.result was.1 c.negated-this.ensures c.place-place.ensures.within c.place-place.ensures.is
+unmet c = grind (arith, nat_tests, common_steps, unmet_by, unmet_at)
 
 -- on this level
 level : (c : After-level-level) → c.level-level.result ≡ level_at c.args.core.now.limits c.place-place.result

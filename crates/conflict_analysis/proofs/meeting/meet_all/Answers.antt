@@ -13,11 +13,7 @@ pub meet-requires-clause-few : goal.meet-requires-clause-few
 meet-requires-clause-few c = omega (arith, c.loop-lit.invariant.stamp, c.requires.few)
 
 pub meet-requires-clause-met : goal.meet-requires-clause-met
-meet-requires-clause-met c =
-    let core = c.args.core.now in
-    let clause : List LitValue = get_or core.clauses c.args.id [] in
-    let x : LitValue = c.lit-item.result in
-    met_still core _ (value_of c.args.walk.now) (value_of c.loop-lit.walk) x c.loop-lit.invariant (c.requires.met x (read_stands clause c.clause-lit-items.result.now c.loop-lit.lit-index x (c.clause-lit-items.ensures []) c.loop-lit-test.true c.lit-item.is))
+meet-requires-clause-met c = grind (arith, met_still, read_stands)
 
 pub meet-requires-clause-within : goal.meet-requires-clause-within
 meet-requires-clause-within c =

@@ -1,4 +1,6 @@
-use Rattle.std.proofs.{Common.{of_z, to_z, rules, w64, ◌≡◌, ◌+◌, ◌<◌, [], length, get_or, set, sym, ◌∙◌, subst, ◌⊎◌, Contains, pos}, lemmas.Int.to_z-of_z}
+use Rattle.std.proofs.lemmas.Bool.Decides.{nat_tests}
+use Rattle.std.proofs.lemmas.Grind.{common_steps}
+use Rattle.std.proofs.{Common.{arith, of_z, to_z, rules, w64, ◌≡◌, ◌+◌, ◌<◌, [], length, get_or, set, sym, ◌∙◌, subst, ◌⊎◌, Contains, pos}, lemmas.Int.to_z-of_z}
 use Rattle.std.proofs.lemmas.Result.{on_ok_weaker}
 use Rattle.trail_core.specs.{Assigned.IsFalse, Meaning.trues}
 use Rattle.conflict_analysis.specs.{Met.{value_of, WalkValue, lit_at, IsSorted, IsSeen, HasMet}, inner.Walks.without}
@@ -7,10 +9,7 @@ use Rattle.conflict_analysis.proofs.meeting.resolve.Goals as goal
 use Rattle.conflict_analysis.proofs.meeting.resolve.Goals.{After-var}
 
 pub reason-requires : goal.reason-requires
-reason-requires c =
-    let core = c.args.core.now in
-    let at : c.index-trail-place.result ≡ lit_at core c.args.place = place_read core c.trail.result.now c.args.place c.index-trail-place.result c.trail.ensures.value c.requires.step.within c.index-trail-place.is in
-    subst (λ l. Contains (trues core) l) (sym at) (lit_stands core c.args.place c.requires.step.within)
+reason-requires c = grind (arith, nat_tests, common_steps, place_read, lit_stands)
 
 pub unwrap-reason-requires : goal.unwrap-reason-requires
 unwrap-reason-requires c =

@@ -1,6 +1,7 @@
-use Rattle.std.proofs.Common.{◌≡◌, sym, subst, Contains}
+use Rattle.std.proofs.lemmas.Bool.Decides.{nat_tests}
+use Rattle.std.proofs.lemmas.Grind.{common_steps}
+use Rattle.std.proofs.Common.{arith, ◌≡◌}
 use Rattle.cnf_formula.specs.Literals.{LitValue}
-use Rattle.trail_core.specs.Meaning.{trues}
 use Rattle.conflict_analysis.specs.{Met.{value_of, lit_at}, inner.Walks.IsStep}
 use Rattle.conflict_analysis.proofs.{Marked.lit_stands, Resolved.{place_read, reason_implied}, Waiting.kept_step}
 use Rattle.conflict_analysis.proofs.shrinking.is_spare.Goals as goal
@@ -10,11 +11,7 @@ pub is_waiting-requires-clause-len : goal.is_waiting-requires-clause-len
 is_waiting-requires-clause-len c = c.requires.sorted.marked.len
 
 pub reason-requires : goal.reason-requires
-reason-requires c =
-    let core = c.args.core.now in
-    let x : LitValue = c.index-trail-place.result in
-    let at : x ≡ lit_at core c.args.place = place_read core c.trail.result.now c.args.place x c.trail.ensures.value c.requires.place c.index-trail-place.is in
-    subst (λ l. Contains (trues core) l) (sym at) (lit_stands core c.args.place c.requires.place)
+reason-requires c = grind (arith, nat_tests, common_steps, place_read, lit_stands)
 
 -- a literal that is kept and has a reason
 step : (c : In-Some) → IsStep c.args.core.now (value_of c.args.walk.now) c.args.place

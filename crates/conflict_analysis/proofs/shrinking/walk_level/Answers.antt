@@ -1,40 +1,19 @@
-use Rattle.std.proofs.Common.{◌+◌, ◌-◌, length, get_or, sym, subst, arith, Contains}
-use Rattle.conflict_analysis.specs.Met.{value_of, WalkValue, IsPassed}
+use Rattle.std.proofs.lemmas.Bool.Decides.{nat_tests}
+use Rattle.std.proofs.lemmas.Grind.{common_steps}
+use Rattle.std.proofs.Common.{◌+◌, ◌-◌, subst, arith, Contains}
+use Rattle.conflict_analysis.specs.Met.{value_of, WalkValue}
 use Rattle.conflict_analysis.proofs.{Levels.limits_rise, Middle.{middle_at, passed_lower, walked_lower}, Resolved.{walked_on, open_on}}
 use Rattle.conflict_analysis.proofs.Waiting.{walked_none, same_open}
 use Rattle.conflict_analysis.proofs.shrinking.walk_level.Goals as goal
 
 pub returns-then-kept-lt2 : goal.returns-then-kept-lt2
-returns-then-kept-lt2 c =
-    let core = c.args.core.now in
-    let w : WalkValue = value_of c.args.walk.now in
-    let level = c.args.level in
-    let rise = limits_rise core.limits (length core.trail) (level - 1) level c.requires.formed.levels (omega arith) c.requires.below in
-    let end = c.requires.formed.levels.below level c.requires.below in
-    let begun = walked_none core 3 w (get_or core.limits level 0) (omega (arith, end)) c.requires.sorted c.requires.passed in
-    record { walked = walked_lower core w w (level - 1) (get_or core.limits level 0) (get_or core.limits (level - 1) 0) c.requires.formed (omega (arith, c.requires.below)) (omega arith) rise begun; same = same_open core w }
+returns-then-kept-lt2 c = grind (arith, nat_tests, common_steps, limits_rise, walked_none, walked_lower, same_open)
 
 pub loop-walk-init : goal.loop-walk-init
-loop-walk-init c =
-    let core = c.args.core.now in
-    let level = c.args.level in
-    let old : WalkValue = value_of c.args.walk.now in
-    let rise = limits_rise core.limits (length core.trail) (level - 1) level c.requires.formed.levels (omega arith) c.requires.below in
-    let to = c.height-to.ensures.below c.requires.below in
-    let end = c.requires.formed.levels.below level c.requires.below in
-    let begun = walked_none core 3 old c.height-to.result (omega (arith, to, end)) c.requires.sorted (subst (IsPassed core 3 old) (sym to) c.requires.passed) in
-    record {
-      under = omega (arith, to);
-      above = omega (arith, rise, to);
-      walked = begun;
-      same = same_open core old;
-    }
+loop-walk-init c = grind (arith, limits_rise, walked_none, same_open)
 
 pub is_spare-requires : goal.is_spare-requires
-is_spare-requires c =
-    let inv = c.loop-walk.invariant in
-    let middle = middle_at c.args.core.now c.args.level c.in-Some.next c.requires.formed c.requires.below (omega (arith, inv.under, c.in-Some.ensures.1)) in
-    record { sorted = inv.walked.sorted; few = omega (arith, inv.walked.onward.stamp, c.requires.few); place = middle.within }
+is_spare-requires c = grind (arith, middle_at)
 
 pub resolve-requires : goal.resolve-requires
 resolve-requires c = record { few = omega (arith, c.loop-walk.invariant.walked.onward.stamp, c.requires.few); step = c.is_spare.ensures c.if-is_spare.true }
@@ -62,19 +41,7 @@ loop-walk-preserved-then-is_spare c =
     }
 
 pub loop-walk-preserved : goal.loop-walk-preserved
-loop-walk-preserved c =
-    let level = c.args.level in
-    let inv = c.loop-walk.invariant in
-    let from = c.height-from.ensures.below (omega (arith, c.requires.below)) in
-    record {
-      under = omega (arith, inv.under, c.in-Some.ensures.1);
-      above = omega (arith, from, c.in-Some.ensures.0);
-      walked = walked_lower c.args.core.now (value_of c.args.walk.now) (value_of c.loop-walk.walk) (level - 1) c.loop-walk.place c.in-Some.next c.requires.formed (omega (arith, c.requires.below)) (omega (arith, from, c.in-Some.ensures.0)) (omega (arith, c.in-Some.ensures.1)) inv.walked;
-      same = inv.same;
-    }
+loop-walk-preserved c = grind (arith, nat_tests, common_steps, walked_lower)
 
 pub returns-clause-walked : goal.returns-clause-walked
-returns-clause-walked c =
-    let level = c.args.level in
-    let inv = c.loop-walk.invariant in
-    walked_lower c.args.core.now (value_of c.args.walk.now) (value_of c.loop-walk.walk) (level - 1) c.loop-walk.place (get_or c.args.core.now.limits (level - 1) 0) c.requires.formed (omega (arith, c.requires.below)) (omega arith) inv.above inv.walked
+returns-clause-walked c = grind (arith, nat_tests, common_steps, walked_lower)

@@ -26,11 +26,7 @@ meet-requires-clause-met c =
     inr (subst (λ y. IsFalse (trues core) y) (sym c.negated.ensures) stands)
 
 pub meet-requires-clause-within : goal.meet-requires-clause-within
-meet-requires-clause-within c =
-    let core = c.args.core.now in
-    let at = read (goal.at.meet-requires-clause-within c).After-begin in
-    let about = lit_about core c.args.place c.trail.ensures.formed c.requires.place in
-    omega (arith, about.within, ap (λ y. y.var) c.negated.ensures, ap (λ y. y.var) at)
+meet-requires-clause-within c = grind (arith, c.args.core.now, read (goal.at.meet-requires-clause-within c).After-begin, lit_about c.args.core.now c.args.place c.trail.ensures.formed c.requires.place)
 
 pub walk_bottom-requires-clause-passed : goal.walk_bottom-requires-clause-passed
 walk_bottom-requires-clause-passed c =
