@@ -1,11 +1,11 @@
 -- The candidates that are not refuted tell which candidates are answered, and which marks are right.
-use Rattle.std.{proofs.Common.{◌≡◌, Bool, true, false, List, [], ◌∷◌, map, Option, None, Some, refl, sym, ap, ◌∙◌, ◌||◌, ◌&&◌, not, if◌then◌else◌}, specs.{List.{find, list_all}, Option.option_map}}
-use Rattle.text_lines.specs.Check.{◌>>=◌, refuse}
-use Rattle.candidate_order.specs.{declared.candidate.Candidate.Candidate, Frontiers.{QuestionValue, PointValue, UnknownValue, FrontierValue, given_up}}
+use Rattle.std.{proofs.Common.{arith, ◌≡◌, Bool, true, false, List, [], ◌∷◌, map, Option, None, Some, refl, sym, ap, ◌∙◌, ◌||◌, not}, specs.{List.{find, list_all}, Option.option_map}}
+use Rattle.text_lines.specs.Check.{refuse}
+use Rattle.candidate_order.specs.{declared.candidate.Candidate.Candidate, Frontiers.{QuestionValue, PointValue, UnknownValue, FrontierValue}}
 use Rattle.report_form.specs.Tests.{is_better}
 use Rattle.frontier_audit.specs.{declared.verdict.Reason.TheVariants.{CandidateMissing, MarkWrong}, Denials.{Denial, Checked, each}, Beside.denial_of}
 use Rattle.frontier_audit.specs.Candidates.{candidates_within, is_listed, same_candidate}
-use Rattle.frontier_audit.specs.inner.Steps.{answers_checked, candidate_checked, has_mark_among, is_answered, is_bettered, is_given_up, is_left_answered, is_mark, is_settled, mark_checked, unrefuted_among}
+use Rattle.frontier_audit.specs.inner.Steps.{answers_checked, candidate_checked, has_mark_among, is_answered, is_bettered, is_given_up, is_left_answered, is_mark, mark_checked, unrefuted_among}
 use Rattle.frontier_audit.proofs.Walking.{first_decides, rest_decides}
 
 -- ---- candidates
@@ -25,52 +25,17 @@ other_one false l g e = ap (λ b. false || b || g) (sym e)
 -- the first that fails a test is the first that is refused for it
 first_refused : {X C : Type 0} (test : X → Bool) (code : X → C) (xs : List X) → option_map code (find (λ x. not (test x)) xs) ≡ denial_of (each (λ x. refuse (not (test x)) (code x)) xs)
 first_refused test code [] = refl
-first_refused test code (x ∷ xs) = go (test x) (first_refused test code xs)
-  where
-    go : (b : Bool) → option_map code (find (λ y. not (test y)) xs) ≡ denial_of (each (λ y. refuse (not (test y)) (code y)) xs) → option_map code (if not b then Some x else find (λ y. not (test y)) xs) ≡ denial_of (refuse (not b) (code x) >>= (λ _. each (λ y. refuse (not (test y)) (code y)) xs))
-    go true later = later
-    go false later = refl
+first_refused test code (x ∷ xs) = grind (arith, first_refused test code xs)
 
 left_says : (f : FrontierValue) (xs : List Candidate) → find (λ x. not (is_left_answered f x)) (unrefuted_among f.refuted xs) ≡ find (λ x. not (is_answered f x)) xs
 left_says f [] = refl
-left_says f (x ∷ xs) = go (is_listed f.refuted x) refl (left_says f xs)
-  where
-    others : List Candidate
-    others = unrefuted_among f.refuted xs
-
-    rest : Option Candidate
-    rest = find (λ y. not (is_answered f y)) xs
-
-    settled : Bool
-    settled = is_settled f.points x
-
-    go : (l : Bool) → is_listed f.refuted x ≡ l → find (λ y. not (is_left_answered f y)) others ≡ rest → find (λ y. not (is_left_answered f y)) (if not l then x ∷ others else others) ≡ find (λ y. not (is_answered f y)) (x ∷ xs)
-    go true e later = later ∙ ap (λ b. if not b then Some x else rest) (sym (listed_one settled (is_listed f.refuted x) (is_listed (given_up f) x) e))
-    go false e later =
-        ap (λ b. if not b then Some x else find (λ y. not (is_left_answered f y)) others) (ap (λ b. settled || b) (up_any f.unknown x) ∙ other_one settled (is_listed f.refuted x) (is_listed (given_up f) x) e)
-        ∙ ap (λ o. if not (is_answered f x) then Some x else o) later
+left_says f (x ∷ xs) = grind (arith, listed_one, up_any, other_one, left_says f xs)
 
 -- ---- marks
 
 none_better : (refuted : List Candidate) (x : Candidate) (ys : List Candidate) → not (is_bettered (unrefuted_among refuted ys) x) ≡ list_all (λ y. not (is_better y x) || is_listed refuted y) ys
 none_better refuted x [] = refl
-none_better refuted x (y ∷ ys) = go (is_listed refuted y) (is_better y x) (none_better refuted x ys)
-  where
-    others : List Candidate
-    others = unrefuted_among refuted ys
-
-    go : (l b : Bool) → not (is_bettered others x) ≡ list_all (λ z. not (is_better z x) || is_listed refuted z) ys
-        → not (is_bettered (if not l then y ∷ others else others) x) ≡ ((not (is_better y x) || l) && list_all (λ z. not (is_better z x) || is_listed refuted z) ys)
-    go true b later = later ∙ passed (is_better y x) (list_all (λ z. not (is_better z x) || is_listed refuted z) ys)
-      where
-        passed : (c r : Bool) → r ≡ ((not c || true) && r)
-        passed true r = refl
-        passed false r = refl
-    go false b later = told (is_better y x) (is_bettered others x) (list_all (λ z. not (is_better z x) || is_listed refuted z) ys) later
-      where
-        told : (c n r : Bool) → not n ≡ r → not (c || n) ≡ ((not c || false) && r)
-        told true n r e = refl
-        told false n r e = e
+none_better refuted x (y ∷ ys) = grind (arith, none_better refuted x ys)
 
 -- ---- both
 

@@ -1,17 +1,17 @@
 -- What is asked in a part of a report, and the formulas of its candidates.
-use Rattle.std.proofs.Common.{◌≡◌, ◌≢◌, ℕ, ◌+◌, ◌*◌, ◌≤◌, Bool, true, false, [], ◌∷◌, Option, None, Some, length, refl, sym, ap, ◌∙◌, subst, arith, ◌<◌, if◌then◌else◌, All, Contains, sum_by}
+use Rattle.std.proofs.Common.{◌≡◌, ℕ, ◌≤◌, Bool, true, false, [], Option, None, Some, refl, sym, ap, ◌∙◌, subst, arith, ◌<◌, if◌then◌else◌, All, Contains, sum_by}
 use Rattle.std.{specs.Option.is_some, proofs.lemmas.List.Elements.{All-nil, All-cons, All-contains}}
 use Rattle.outer_ports.specs.declared.part.Part.{Part}
 use Rattle.outer_ports.specs.declared.part.Part.TheVariants as part
-use Rattle.schedule.{specs.Links.{TopologyValue, usable_links, reversed_of}, proofs.Turned.turned_topology}
+use Rattle.schedule.{specs.Links.{TopologyValue, reversed_of}, proofs.Turned.turned_topology}
 use Rattle.collective_spec.specs.{declared.{kind.Kind.Kind, spec.Spec.Spec}, Patterns.PatternValue, Kinds.allows}
-use Rattle.collective_spec.specs.Collectives.{adds_up, chunks_in, fits_kind, kind_in, spec_instance, spec_of}
+use Rattle.collective_spec.specs.Collectives.{adds_up, chunks_in, kind_in, spec_instance, spec_of}
 use Rattle.collective_spec.proofs.Sized.{fitting_spec}
 use Rattle.collective_spec.specs.declared.kind.Kind.TheVariants as kind
 use Rattle.candidate_order.specs.{declared.candidate.Candidate.Candidate, Ranges.LimitsValue, Frontiers.{QuestionValue, IsWithin}, Copied.copied_spec}
-use Rattle.round_encoding.specs.Candidates.{group_size, size_limit}
+use Rattle.round_encoding.specs.Candidates.{size_limit}
 use Rattle.report_form.specs.Reports.{ReportValue, IsReport, kind_of, parts_of, question_of}
-use Rattle.node_cuts.specs.{declared.sets.Sets.Sets, Cuts.first_cut_of, Cutting.{cut_in, sets_for}, Tables.{TableValue, IsTableOf}}
+use Rattle.node_cuts.specs.{declared.sets.Sets.Sets, Cuts.first_cut_of, Tables.{TableValue, IsTableOf}}
 use Rattle.candidate_formula.specs.{Formulas.{formula_for, searched_on}, Pruned.is_cut_away, Sizes.size_of}
 use Rattle.candidate_formula.specs.Questions.{IsSmallQuestion, IsSought, copying_question}
 use Rattle.candidate_formula.proofs.{CopyingQuestions.{same_size, small_by_copying, within_by, reduced_formula}, Copying.{same_allowed, copied_stays}}
@@ -69,14 +69,7 @@ module _ (t searched : TopologyValue) (s : Spec) (l : LimitsValue) (cuts : Table
       → b ≡ is_some (first_cut_of sets over (spec_instance spec over.nodes x.c).pre (spec_instance spec over.nodes x.c).post x.r)
 
   pub cut_is : (x : Candidate) (b : Bool) → IsWithin q x → Says x b → b ≡ is_cut_away q x
-  cut_is x b w says =
-      let nodes : searched.nodes ≡ t.nodes = ap (λ (links : TopologyValue). links.nodes) keeps.links ∙ nodes_on asked (adds_up s) in
-      let within = within_asked x w in
-      says (sets_for l.pruning) searched s keeps.cuts (subst (λ n. 0 < n) (sym nodes) (some_nodes keeps.question)) (subst (λ n. allows (kind_in s) n x.c ≡ true) (sym nodes) within.allowed)
-      ∙ (ap (λ links. is_some (cut_in (sets_for l.pruning) links s x)) keeps.links ∙ ap (λ p. is_cut_away p x) is)
-    where
-      some_nodes : IsAuditable asked → 0 < t.nodes
-      some_nodes a = let topology = a.topology in topology.some
+  cut_is x b w says = grind (arith, nodes_on, within_asked)
 
 -- ---- the parts of a report
 
@@ -96,9 +89,7 @@ module _ (c : Option PatternValue) (root nodes count : ℕ) where
   Whole k p = chunks_at k p ≡ chunks_at k part.Whole
 
   as_many : (k : Kind) → All (Whole k) (parts_of k)
-  as_many kind.Allreduce =
-      All-cons (Whole kind.Allreduce) part.Reduce (part.Gather ∷ []) (reduced_chunks c)
-      (All-cons (Whole kind.Allreduce) part.Gather [] (gathered_chunks c) (All-nil (Whole kind.Allreduce)))
+  as_many kind.Allreduce = grind (arith, All-cons, reduced_chunks, gathered_chunks, All-nil)
   as_many k = All-cons (Whole k) part.Whole [] refl (All-nil (Whole k))
 
 module _ (r : ReportValue) (ok : IsReport r) (p : Part) (has : Contains (parts_of r.words.collective.kind) p) where
@@ -106,24 +97,10 @@ module _ (r : ReportValue) (ok : IsReport r) (p : Part) (has : Contains (parts_o
   asks x = question_of r.words r.topology x
 
   sized_alike : size_of (asks p) ≡ size_of (asks part.Whole)
-  sized_alike =
-      let k : Kind = r.words.collective.kind in
-      let same = All-contains (Whole r.topology.custom r.words.collective.root r.topology.topology.nodes r.words.limits.max_c k) (parts_of k) p (as_many r.topology.custom r.words.collective.root r.topology.topology.nodes r.words.limits.max_c k) has in
-      ap (λ n. n * length (usable_links r.topology.topology) * r.words.limits.max_s + sum_by (group_size n r.words.limits.max_s r.words.limits.k) r.topology.topology.groups) same
+  sized_alike = grind (arith, All-contains, as_many, sum_by)
 
   pub part_asked : size_of (asks part.Whole) ≤ size_limit → IsAuditable (asks p)
-  part_asked small =
-      let k : Kind = r.words.collective.kind in
-      let fits = All-contains (λ x. fits_kind (kind_of k x) r.topology.custom ≡ true) (parts_of k) p (parts_fit k r.topology.custom ok.pattern) has in
-      let root = ok.words.root in
-      let many = ok.topology.as_many in
-      record {
-        topology = ok.topology.topology;
-        spec = fitting_spec r.topology.topology.nodes (record { kind = kind_of k p; root = r.words.collective.root }) r.topology.custom fits (omega (arith, root, many)) ok.topology.custom;
-        single = apart_in (record { kind = kind_of k p; root = r.words.collective.root }) r.topology.custom (All-contains (λ x. kind_of k x ≢ kind.Allreduce) (parts_of k) p (apart k) has);
-        limits = ok.words.limits;
-        size = subst (λ n. n ≤ size_limit) (sym sized_alike) small;
-      }
+  part_asked small = grind (arith, All-contains, parts_fit, fitting_spec, apart_in, apart, sized_alike)
 
 -- what the calls gave is what is asked
 pub made_of : (t : TopologyValue) (s : Spec) (l : LimitsValue) (q : QuestionValue) → t ≡ q.topology → s ≡ q.spec → l ≡ q.limits → record { topology = t; spec = s; limits = l } ≡ q

@@ -1,6 +1,5 @@
 -- What an audit that finds nothing to deny has found.
-use Rattle.std.proofs.Common.{◌≡◌, Ok, get_or, All}
-use Rattle.text_lines.specs.Check.{◌>>=◌}
+use Rattle.std.proofs.Common.{arith, ◌≡◌, Ok, get_or, All}
 use Rattle.outer_ports.specs.{declared.part.Part.Part, Files.Files}
 use Rattle.candidate_order.specs.Frontiers.{QuestionValue, FrontierValue, IsUnknown}
 use Rattle.report_form.specs.Reports.{ReportValue, IsReport, question_of}
@@ -19,35 +18,10 @@ pub record Passes (part : Part) (q : QuestionValue) (files : Files) (f : Frontie
   pub marks : All (λ p. mark_checked q f p ≡ Ok tt) f.points
 
 pub passes : (part : Part) (q : QuestionValue) (files : Files) (f : FrontierValue) → frontier_checked part q files f ≡ Ok tt → Passes part q files f
-passes part q files f e =
-    let points = each (point_checked q) f.points in
-    let refuted = each (refuted_checked part q files) f.refuted in
-    let unknown = each (unknown_checked part q files) f.unknown in
-    let candidates = each (candidate_checked f) (candidates_within q) in
-    let marks = each (mark_checked q f) f.points in
-    let one = then_ok points (refuted >>= (λ _. unknown >>= (λ _. candidates >>= (λ _. marks)))) e in
-    let two = then_ok refuted (unknown >>= (λ _. candidates >>= (λ _. marks))) one.1 in
-    let three = then_ok unknown (candidates >>= (λ _. marks)) two.1 in
-    let four = then_ok candidates marks three.1 in
-    record {
-      points = each_ok (point_checked q) f.points one.0;
-      refuted = each_ok (refuted_checked part q files) f.refuted two.0;
-      unknown = each_ok (unknown_checked part q files) f.unknown three.0;
-      candidates = each_ok (candidate_checked f) (candidates_within q) four.0;
-      marks = each_ok (mark_checked q f) f.points four.1;
-    }
+passes part q files f e = grind (arith, then_ok, each_ok)
 
 pub all_pass : (part : Part) (q : QuestionValue) (files : Files) (f : FrontierValue) → Passes part q files f → frontier_checked part q files f ≡ Ok tt
-all_pass part q files f p =
-    let points = each (point_checked q) f.points in
-    let refuted = each (refuted_checked part q files) f.refuted in
-    let unknown = each (unknown_checked part q files) f.unknown in
-    let candidates = each (candidate_checked f) (candidates_within q) in
-    let marks = each (mark_checked q f) f.points in
-    ok_then points (refuted >>= (λ _. unknown >>= (λ _. candidates >>= (λ _. marks)))) (ok_each (point_checked q) f.points p.points)
-    (ok_then refuted (unknown >>= (λ _. candidates >>= (λ _. marks))) (ok_each (refuted_checked part q files) f.refuted p.refuted)
-    (ok_then unknown (candidates >>= (λ _. marks)) (ok_each (unknown_checked part q files) f.unknown p.unknown)
-    (ok_then candidates marks (ok_each (candidate_checked f) (candidates_within q) p.candidates) (ok_each (mark_checked q f) f.points p.marks))))
+all_pass part q files f p = grind (arith, ok_then, ok_each)
 
 abbrev pub PartPasses : ReportValue → Files → Part × FrontierValue → Type 0
 PartPasses r files x = Passes x.0 (question_of r.words r.topology x.0) files x.1
@@ -64,10 +38,7 @@ part_passed : (r : ReportValue) (files : Files) (x : Part × FrontierValue) → 
 part_passed r files x p = ok_in_part x.0 (frontier_checked x.0 (question_of r.words r.topology x.0) files x.1) (all_pass x.0 (question_of r.words r.topology x.0) files x.1 p)
 
 pub report_passes : (r : ReportValue) (files : Files) → audit_of r files ≡ Verified → ReportPasses r files
-report_passes r files e =
-    let parts = then_ok (each (part_checked r files) r.frontiers) (joined_checked r r.frontiers) (verified_ok (report_checked r files) e) in
-    let every = each_ok (part_checked r files) r.frontiers parts.0 in
-    record { parts = λ k d w. part_passes r files (get_or r.frontiers k d) (every k d w); joined = parts.1 }
+report_passes r files e = grind (arith, then_ok, verified_ok, each_ok, part_passes)
 
 pub report_passed : (r : ReportValue) (files : Files) → ReportPasses r files → audit_of r files ≡ Verified
 report_passed r files p =

@@ -1,5 +1,7 @@
 -- The checks of a candidate's files pass exactly where the files are what they have to be.
-use Rattle.std.proofs.{Common.{◌≡◌, ℕ, Bool, true, false, List, length, Ok, Option, None, Some, refl, sym, ap, ◌∙◌, not, nat_le, bytes_eq, if◌then◌else◌}, lemmas.Bool.{and_parts, leb-true, le-leb, and_from}}
+use Rattle.std.proofs.lemmas.Bool.Decides.{nat_tests}
+use Rattle.std.proofs.lemmas.Grind.{common_steps}
+use Rattle.std.proofs.{Common.{arith, ◌≡◌, ℕ, Bool, true, false, List, length, Ok, Option, None, Some, refl, sym, ap, ◌∙◌, not, nat_le, bytes_eq, if◌then◌else◌}, lemmas.Bool.{and_parts, leb-true, le-leb, and_from}}
 use Rattle.text_lines.{specs.Check.{◌>>=◌, refuse, need}, proofs.Checks.need_ok}
 use Rattle.outer_ports.specs.{declared.{part.Part.Part, proof_name.FileKind.TheVariants.{Cnf, Lrat, Partial}}, Files.Files}
 use Rattle.cnf_formula.specs.Formulas.{FormulaValue}
@@ -52,9 +54,7 @@ has_refutation part q files x e =
     (standing_refute part q files x).0 (stands _ CnfDiffers x both.0, stands _ ProofRefused x both.1)
 
 pub passes_refutation : (part : Part) (q : QuestionValue) (files : Files) (x : Candidate) → HasRefutation part q files x → refutation_checked part q files x ≡ Ok tt
-passes_refutation part q files x h =
-    let both = (standing_refute part q files x).1 h in
-    by_verdicts part q x files ∙ ok_then (text_checked part q x files) (proof_checked part q x files) (ap (λ v. judged v CnfDiffers x) both.0) (ap (λ v. judged v ProofRefused x) both.1)
+passes_refutation part q files x h = grind (arith, (standing_refute part q files x).1 h, by_verdicts, ok_then)
 
 -- ---- an unknown candidate
 
@@ -71,10 +71,4 @@ has_log_of part q files u same e =
     }
 
 pub passes_log : (part : Part) (q : QuestionValue) (files : Files) (u : UnknownValue) → u.conflicts ≡ q.limits.conflicts → HasLog part q files u → unknown_checked part q files u ≡ Ok tt
-passes_log part q files u same h =
-    let f = formula_for q u.candidate in
-    alone (is_spent_log f u.conflicts) PartialRefused u.candidate (files (file_of Partial part u.candidate))
-    ∙ ap (λ file. judged (file_verdict (is_spent_log f u.conflicts) file) PartialRefused u.candidate) h.holds.found
-    ∙ ap (λ b. judged (if b then Stands else Refused) PartialRefused u.candidate)
-    (and_from (nat_le (length h.holds.bytes) longest_proof) (do_spend f u.conflicts (lines_said h.holds.bytes)) (le-leb (length h.holds.bytes) longest_proof h.holds.short)
-    (by_spending f u.conflicts (lines_said h.holds.bytes) h.lines (text_read h.holds.reads) (record { count = h.spent.count ∙ sym same; learned = h.spent.learned })))
+passes_log part q files u same h = grind (arith, nat_tests, common_steps, alone, and_from, nat_le, le-leb, by_spending, text_read)

@@ -1,13 +1,12 @@
 -- Of a candidate that is cut away no file is looked at, and it has no solution.
-use Rattle.std.proofs.Common.{◌≡◌, ◌≢◌, Bool, true, false, Ok, refl, sym, ap, ◌∙◌, subst, if◌then◌else◌}
+use Rattle.std.proofs.Common.{arith, ◌≡◌, ◌≢◌, Bool, true, false, Ok, refl, sym, ap, ◌∙◌, if◌then◌else◌}
 use Rattle.outer_ports.specs.{declared.part.Part.Part, Files.Files}
-use Rattle.schedule.specs.Solving.{Solvable}
 use Rattle.collective_spec.specs.declared.kind.Kind.TheVariants as kind
 use Rattle.collective_spec.specs.Collectives.{IsSpec, adds_up, kind_in}
-use Rattle.candidate_order.specs.{declared.candidate.Candidate.Candidate, Copied.copied_question, Frontiers.{QuestionValue, IsSolvable, instance_for}}
-use Rattle.candidate_order.proofs.Achieved.{Achievable, achieved}
+use Rattle.candidate_order.specs.{declared.candidate.Candidate.Candidate, Copied.copied_question, Frontiers.{QuestionValue, IsSolvable}}
+use Rattle.candidate_order.proofs.Achieved.{achieved}
 use Rattle.inversion.proofs.Copied.{solvable_exactly}
-use Rattle.node_cuts.{specs.Cutting.sets_for, proofs.Crossing.first_says}
+use Rattle.node_cuts.proofs.Crossing.{first_says}
 use Rattle.candidate_formula.{specs.{Files.HasRefutation, Pruned.is_cut_away}, proofs.{Copying.copies, CutAway.{copied_cut, reduced_cut}}}
 use Rattle.frontier_audit.specs.{Denials.{Denial, Checked}, Auditing.refutation_checked, inner.Steps.refuted_checked}
 use Rattle.frontier_audit.proofs.Beside.{has_refutation, passes_refutation}
@@ -28,19 +27,12 @@ module _ (part : Part) (q : QuestionValue) (files : Files) (x : Candidate) where
   owes_refutation e uncut = has_refutation part q files x (sym (checked_where_uncut uncut) ∙ e)
 
   pub passes_refuted : (is_cut_away q x ≡ false → HasRefutation part q files x) → refuted_checked part q files x ≡ Ok tt
-  passes_refuted has = by_cut (is_cut_away q x) refl
-    where
-      by_cut : (b : Bool) → is_cut_away q x ≡ b → refuted_checked part q files x ≡ Ok tt
-      by_cut true cut = passed_where_cut cut
-      by_cut false uncut = checked_where_uncut uncut ∙ passes_refutation part q files x (has uncut)
+  passes_refuted has = grind (arith, passed_where_cut, checked_where_uncut, passes_refutation)
 
 -- ---- no solution
 
 copied_unsolvable : (q : QuestionValue) (x : Candidate) → adds_up q.spec ≡ false → is_cut_away q x ≡ true → IsSolvable q x → ⊥
-copied_unsolvable q x copying cut solvable =
-    let i = instance_for q x in
-    let copied : Solvable q.topology i.pre i.post x.s x.r = subst (λ b. Achievable b q x) copying (achieved q x solvable) in
-    first_says (sets_for q.limits.pruning) q.topology i.pre i.post copied.schedule x.s x.r (sym (copied_cut q x copying) ∙ cut) copied.solves
+copied_unsolvable q x copying cut solvable = grind (arith, achieved, first_says, copied_cut)
 
 -- a reduction has the cuts of what copies over the links turned round
 pub cut_unsolvable : (q : QuestionValue) (x : Candidate) → IsSpec q.topology.nodes q.spec → kind_in q.spec ≢ kind.Allreduce → is_cut_away q x ≡ true → IsSolvable q x → ⊥

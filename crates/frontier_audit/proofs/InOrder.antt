@@ -1,5 +1,5 @@
 -- The candidates of a search come in its order.
-use Rattle.std.proofs.Common.{◌≡◌, ℕ, zero, suc, ◌+◌, ◌<◌, ◌≤◌, Bool, true, false, List, [], ◌∷◌, map, get_or, inl, inr, refl, sym, ap, ◌∙◌, arith, ◌≢◌, if◌then◌else◌, flat_map, All, AllPairs}
+use Rattle.std.proofs.Common.{◌≡◌, ℕ, zero, suc, ◌+◌, ◌<◌, ◌≤◌, Bool, true, false, List, [], ◌∷◌, map, get_or, inl, refl, sym, ap, arith, ◌≢◌, if◌then◌else◌, flat_map, All, AllPairs}
 use Rattle.std.{specs.List.range_with_len, proofs.lemmas.{Bool.false≢true, List.Elements.{All-nil, All-cons, All-head, All-tail, All-filter}}}
 use Rattle.std.proofs.lemmas.List.Kept.{AllPairs-cons, AllPairs-filter}
 use Rattle.list_laws.proofs.Pairs.{no_pairs, pairs_tail, pairs_head}
@@ -31,11 +31,7 @@ pairs_of_range {X} R K f kinds inner apart a (suc n) =
 -- ---- a list in the order of the search
 
 not_before : (x y : Candidate) → HasChunk x → HasChunk y → x ≢ y → is_before x y ≡ false → Before y x
-not_before x y a b apart e = elim (Before-total x y a b) [
-  | inl h ↦ absurd (false≢true (sym e ∙ (decides_before x y).1 h))
-  | inr (inl same) ↦ absurd (apart same)
-  | inr (inr h) ↦ h
-]
+not_before x y a b apart e = grind (arith, Before-total, false≢true, decides_before)
 
 before_all : (x y : Candidate) (ys : List Candidate) → HasChunk x → HasChunk y → All HasChunk ys → Before x y → All (Before y) ys → All (Before x) ys
 before_all x y ys a b some h later k d low = Before-trans x y (get_or ys k d) a b (some k d low) h (later k d low)
@@ -67,10 +63,7 @@ Less m n = m < n
 
 range_ascends : (a n : ℕ) → AllPairs Less (range_with_len a n)
 range_ascends a zero = no_pairs Less
-range_ascends a (suc n) = AllPairs-cons Less a (range_with_len (a + 1) n) (above (range_with_len (a + 1) n) (in_range (a + 1) n)) (range_ascends (a + 1) n)
-  where
-    above : (xs : List ℕ) → All (From (a + 1) n) xs → All (Less a) xs
-    above xs h k d low = let at = h k d low in omega (arith, at.0)
+range_ascends a (suc n) = grind (arith, AllPairs-cons, in_range, range_ascends (a + 1) n)
 
 counted_apart : (s r : ℕ) (cs : List ℕ) → AllPairs Less cs → AllPairs (λ x y. x ≢ y) (map (λ c. candidate_at s (r, c)) cs)
 counted_apart s r [] h = no_pairs (λ x y. x ≢ y)

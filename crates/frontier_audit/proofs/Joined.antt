@@ -1,26 +1,21 @@
 -- The checks of joined points pass exactly where they are the joins.
-use Rattle.std.proofs.Common.{◌≡◌, true, Decides, List, [], ◌∷◌, map, Ok, refl, sym, ap, ◌∙◌, subst, ◌&&◌, not, All}
-use Rattle.std.{specs.Cmp.Lexicographic.pointwise, proofs.lemmas.{Bool.{and_parts, eqb-true, eq-eqb, and_from, Decides.{Decides-and, Decides-eqb, Decides-like}}, Slice.Eq.{bytes_eq-Decides, slice_eq-Decides}}}
+use Rattle.std.proofs.Common.{arith, ◌≡◌, true, Decides, List, [], ◌∷◌, map, Ok, refl, sym, ap, ◌∙◌, ◌&&◌, not, All}
+use Rattle.std.proofs.lemmas.{Bool.{and_parts, eqb-true, eq-eqb, and_from, Decides.{Decides-and, Decides-eqb, Decides-like}}, Slice.Eq.{bytes_eq-Decides, slice_eq-Decides}}
 use Rattle.std.proofs.lemmas.List.Elements.{All-nil, All-cons, All-head, All-tail}
 use Rattle.text_lines.specs.Check.{refuse}
 use Rattle.schedule.specs.{declared.hop.Hop.Hop, Links.TopologyValue}
 use Rattle.collective_spec.specs.declared.kind.Kind.TheVariants as kind
-use Rattle.collective_spec.specs.Collectives.{chunks_of}
 use Rattle.candidate_order.specs.{declared.mark.Mark.Mark, Frontiers.PointValue}
 use Rattle.candidate_order.specs.declared.mark.Mark.TheVariants as mark
-use Rattle.allreduce_join.{specs.{Joins.{join_of, IsJoin}, Judging.joined_verdict_of}, proofs.Told.all_summed_exactly}
+use Rattle.allreduce_join.{specs.{Joins.{join_of, IsJoin}}, proofs.Told.all_summed_exactly}
 use Rattle.frontier_audit.specs.{declared.verdict.Reason.TheVariants.JoinWrong, inner.Steps.{same_hop, is_join}}
 use Rattle.frontier_audit.specs.Joining.{same_mark, same_point, joins_checked, IsSummable}
 use Rattle.frontier_audit.proofs.{Passing.{then_ok, ok_then, refused_not, not_refused}, Tried.same_decides, Solved.sums_said}
-use Rattle.inversion.specs.Saying.{says_sums}
 
 -- ---- the test of the same point
 
 hop_decides : (a b : Hop) → Decides (same_hop a b) (a ≡ b)
-hop_decides a b = Decides-like (same_hop a b)
-    (λ e i. record { chunk = e.0.0.0 i; from = e.0.0.1 i; to = e.0.1 i; step = e.1 i })
-    (λ e. (((ap (λ h. h.chunk) e, ap (λ h. h.from) e), ap (λ h. h.to) e), ap (λ h. h.step) e))
-    (Decides-and _ _ (Decides-and _ _ (Decides-and _ _ (Decides-eqb a.chunk b.chunk) (Decides-eqb a.from b.from)) (Decides-eqb a.to b.to)) (Decides-eqb a.step b.step))
+hop_decides a b = grind (arith, Decides-like, Decides-and, Decides-eqb)
 
 mark_is : (m n : Mark) → same_mark m n ≡ true → m ≡ n
 mark_is mark.Optimal mark.Optimal e = refl
@@ -34,12 +29,7 @@ mark_itself mark.Open = refl
 mark_itself (mark.Joined a) = eq-eqb a a refl
 
 point_decides : (a b : PointValue) → Decides (same_point a b) (a ≡ b)
-point_decides a b = Decides-like (same_point a b)
-    (λ e i. record { candidate = e.0.0 i; schedule = record { rounds = e.0.1.0 i; sends = e.0.1.1 i }; mark = e.1 i })
-    (λ e. ((ap (λ p. p.candidate) e, (ap (λ p. p.schedule.rounds) e, ap (λ p. p.schedule.sends) e)), ap (λ p. p.mark) e))
-    (Decides-and _ _ (Decides-and _ _ (same_decides a.candidate b.candidate)
-    (Decides-and _ _ (bytes_eq-Decides a.schedule.rounds b.schedule.rounds) (slice_eq-Decides hop_decides a.schedule.sends b.schedule.sends (pointwise same_hop a.schedule.sends b.schedule.sends) refl)))
-    (mark_is a.mark b.mark, λ e. subst (λ m. same_mark a.mark m ≡ true) e (mark_itself a.mark)))
+point_decides a b = grind (arith, Decides-like, Decides-and, same_decides, bytes_eq-Decides, slice_eq-Decides, hop_decides, mark_is, mark_itself)
 
 pub point_is : (a b : PointValue) → same_point a b ≡ true → a ≡ b
 point_is a b = (point_decides a b).0
@@ -52,15 +42,10 @@ pub record AreJoined (t : TopologyValue) (pairs : List (PointValue × PointValue
   pub summed : All (IsJoin t) pairs
 
 joined_by : (t : TopologyValue) (pair : PointValue × PointValue) (p : PointValue) → IsSummable t p → p ≡ join_of pair.0 pair.1 → is_join t pair ≡ true → IsJoin t pair
-joined_by t pair p ok same e =
-    let due : IsSummable t (join_of pair.0 pair.1) = subst (IsSummable t) same ok in
-    (all_summed_exactly t (chunks_of kind.Allreduce t.nodes pair.0.candidate.c) (join_of pair.0 pair.1).schedule pair.0.candidate.s due.schedule due.in_range).0
-    (sums_said (joined_verdict_of t (chunks_of kind.Allreduce t.nodes pair.0.candidate.c) (join_of pair.0 pair.1).schedule pair.0.candidate.s) e)
+joined_by t pair p ok same e = grind (arith, all_summed_exactly, sums_said)
 
 by_join : (t : TopologyValue) (pair : PointValue × PointValue) (p : PointValue) → IsSummable t p → p ≡ join_of pair.0 pair.1 → IsJoin t pair → is_join t pair ≡ true
-by_join t pair p ok same h =
-    let due : IsSummable t (join_of pair.0 pair.1) = subst (IsSummable t) same ok in
-    ap says_sums ((all_summed_exactly t (chunks_of kind.Allreduce t.nodes pair.0.candidate.c) (join_of pair.0 pair.1).schedule pair.0.candidate.s due.schedule due.in_range).1 h)
+by_join t pair p ok same h = grind (arith, all_summed_exactly)
 
 pub are_joined : (t : TopologyValue) (pairs : List (PointValue × PointValue)) (joined : List PointValue) → All (IsSummable t) joined → joins_checked t pairs joined ≡ Ok tt → AreJoined t pairs joined
 are_joined t [] [] a e = record { in_order = refl; summed = All-nil (IsJoin t) }

@@ -1,5 +1,5 @@
 -- What is joined, by the kind of the collective and by the parts of a valid report.
-use Rattle.std.proofs.Common.{◌≡◌, List, [], ◌∷◌, ◌++◌, append-nil, sym, ap, ◌∙◌, subst}
+use Rattle.std.proofs.Common.{arith, ◌≡◌, List, [], ◌∷◌, append-nil, sym, ap, ◌∙◌}
 use Rattle.outer_ports.specs.declared.part.Part.{Part}
 use Rattle.outer_ports.specs.declared.part.Part.TheVariants as part
 use Rattle.collective_spec.specs.declared.kind.Kind.{Kind}
@@ -12,10 +12,7 @@ use Rattle.frontier_audit.proofs.Jointly.{one_part, parts_are}
 
 two_joined : (r : ReportValue) (f h : FrontierValue) (xs : List (Part × FrontierValue)) → xs ≡ (part.Reduce, f) ∷ (part.Gather, h) ∷ []
     → in_part part.Joined (joins_checked r.topology.topology (pairs_of (points_of is_reduce xs) (points_of is_gather xs)) r.joined) ≡ joined_checked r xs
-two_joined r f h xs are =
-    subst (λ ys. in_part part.Joined (joins_checked r.topology.topology (pairs_of (points_of is_reduce ys) (points_of is_gather ys)) r.joined) ≡ joined_checked r ys) (sym are)
-    (ap (λ ps. in_part part.Joined (joins_checked r.topology.topology (pairs_of ps (h.points ++ [])) r.joined)) (append-nil f.points)
-    ∙ ap (λ ps. in_part part.Joined (joins_checked r.topology.topology (pairs_of f.points ps) r.joined)) (append-nil h.points))
+two_joined r f h xs are = grind (arith, append-nil)
 
 -- only an allreduce joins, the points of the one part with those of the other
 pub joined_by_kind : (k : Kind) (r : ReportValue) → r.words.collective.kind ≡ k → IsReport r → in_part part.Joined (joins_of k r) ≡ joined_checked r r.frontiers

@@ -16,10 +16,7 @@ pub record TwoParts (xs : List (Part × FrontierValue)) : Type 0 where
   pub are : xs ≡ (part.Reduce, reduce) ∷ (part.Gather, gather) ∷ []
 
 two_parts : (xs : List (Part × FrontierValue)) → map (λ x. x.0) xs ≡ part.Reduce ∷ part.Gather ∷ [] → TwoParts xs
-two_parts ((p, f) ∷ (q, h) ∷ []) e =
-    let first : p ≡ part.Reduce = cc in
-    let second : q ≡ part.Gather = cc in
-    record { reduce = f; gather = h; are = λ i. (first i, f) ∷ (second i, h) ∷ [] }
+two_parts ((p, f) ∷ (q, h) ∷ []) e = grind arith
 two_parts _ e = absurd (cc)
 
 pub parts_are : (r : ReportValue) → IsReport r → r.words.collective.kind ≡ kind.Allreduce → TwoParts r.frontiers
@@ -32,8 +29,4 @@ one_part _ e = absurd (cc)
 -- ---- their points
 
 pub part_joinable : (r : ReportValue) → IsReport r → (xs : List (Part × FrontierValue)) (i : ℕ) (x : Part × FrontierValue) → xs ≡ r.frontiers → i < length xs → x ≡ get_or xs i x → All IsJoinable x.1.points
-part_joinable r ok xs i x same low is k d h =
-    let p = (at_part r ok xs i x same low is).frontier.points k d h in
-    let steps = p.within.steps in
-    let most = ok.words.limits.steps in
-    record { steps = p.has.steps; rounds = p.has.rounds; few = omega arith }
+part_joinable r ok xs i x same low is k d h = grind (arith, at_part)

@@ -1,5 +1,5 @@
 -- The candidates of each step, as a search lists them, and those of them that are not refuted.
-use Rattle.std.proofs.Common.{◌≡◌, ℕ, suc, ◌+◌, ◌-◌, ◌<◌, ◌≤◌, List, [], ◌++◌, map, append_assoc, refl, sym, ap, ◌∙◌, subst, arith, ◌↔◌, flat_map, not, All, AllPairs, Contains}
+use Rattle.std.proofs.Common.{◌≡◌, ℕ, suc, ◌+◌, ◌-◌, ◌<◌, ◌≤◌, List, [], ◌++◌, map, append_assoc, refl, sym, ap, ◌∙◌, subst, arith, ◌↔◌, flat_map, All, AllPairs, Contains}
 use Rattle.std.{specs.List.range_with_len, proofs.lemmas.List.Elements.{All-contains, All-contains_itself, filter-append}}
 use Rattle.collective_spec.specs.{declared.kind.Kind.Kind, Collectives.kind_in}
 use Rattle.candidate_order.specs.{declared.candidate.Candidate.Candidate, Ranges.LimitsValue, Costs.Before, Listed.{IsListed, IsCount, candidate_at}}
@@ -7,8 +7,8 @@ use Rattle.candidate_order.specs.Frontiers.{QuestionValue, IsWithin}
 use Rattle.candidate_order.proofs.Unique.{one_list_of_candidates}
 use Rattle.candidate_formula.specs.Counts.{allowed_up_to, chunk_counts}
 use Rattle.send_encoding.proofs.Everywhere.{in_map, in_flat, From, in_range}
-use Rattle.frontier_audit.specs.{Candidates.{candidates_within, in_search_order, is_listed}, inner.Steps.{unrefuted_among, candidates_of_step}}
-use Rattle.frontier_audit.proofs.{InOrder.step_ascends, Tried.{IsCountOf, all_ordered, counts_allowed, listed_contains, step_listed}}
+use Rattle.frontier_audit.specs.{Candidates.{candidates_within, in_search_order}, inner.Steps.{unrefuted_among, candidates_of_step}}
+use Rattle.frontier_audit.proofs.{InOrder.step_ascends, Tried.{all_ordered, counts_allowed, listed_contains, step_listed}}
 
 -- ---- the candidates of a step
 
@@ -22,13 +22,7 @@ each_listed q s = all_ordered (IsListed q.limits.k s (chunk_counts q)) (candidat
     (λ c has. record { steps = refl; all_rounds = rounds.0; rounds = omega (arith, rounds.1); chunks = has }) (All-contains_itself (chunk_counts q))) (in_range s (q.limits.k + 1)))
 
 listed_within : (q : QuestionValue) (s : ℕ) (x : Candidate) → 1 ≤ s → s ≤ q.limits.max_s → IsListed q.limits.k s (chunk_counts q) x → IsWithin q x
-listed_within q s x some few l =
-    let steps = l.steps in
-    let rounds = l.all_rounds in
-    let most = l.rounds in
-    let count = All-contains (IsCountOf q) (chunk_counts q) x.c (counts_allowed q) l.chunks in
-    let below = count.0.1 in
-    record { some_steps = omega arith; steps = omega arith; all_rounds = omega arith; rounds = omega arith; chunks = omega arith; allowed = count.1 }
+listed_within q s x some few l = grind (arith, All-contains, counts_allowed)
 
 pub listed_step : (q : QuestionValue) (s : ℕ) (xs : List Candidate) → 1 ≤ s → s ≤ q.limits.max_s → ((x : Candidate) → Contains xs x ↔ IsListed q.limits.k s (chunk_counts q) x) → AllPairs Before xs → xs ≡ step_of q s
 listed_step q s xs some few members ascend = one_list_of_candidates xs (step_of q s) ascend (step_ascends q s) (λ x. (
@@ -67,7 +61,4 @@ next_step q s low = let more : q.limits.max_s + 1 - s ≡ suc (q.limits.max_s + 
 
 pub step_added : (q : QuestionValue) (refuted left now xs : List Candidate) (s : ℕ) → s < q.limits.max_s + 1 → xs ≡ step_of q s → now ≡ left ++ unrefuted_among refuted xs
     → now ++ unrefuted_among refuted (from_step q (s + 1)) ≡ left ++ unrefuted_among refuted (from_step q s)
-step_added q refuted left now xs s low is made =
-    ap (λ ys. ys ++ unrefuted_among refuted (from_step q (s + 1))) (made ∙ ap (λ ys. left ++ unrefuted_among refuted ys) is)
-    ∙ (append_assoc left (unrefuted_among refuted (step_of q s)) (unrefuted_among refuted (from_step q (s + 1)))
-    ∙ ap (λ ys. left ++ ys) (sym (filter-append (λ x. not (is_listed refuted x)) (step_of q s) (from_step q (s + 1))) ∙ ap (unrefuted_among refuted) (sym (next_step q s low))))
+step_added q refuted left now xs s low is made = grind (arith, append_assoc, filter-append, next_step)

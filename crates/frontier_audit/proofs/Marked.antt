@@ -1,9 +1,9 @@
 -- The checks of candidates and of marks pass exactly where all are answered and the marks are right.
-use Rattle.std.{proofs.Common.{◌≡◌, Bool, true, false, List, refl, ◌⊎◌, inl, inr, ◌||◌, ◌↔◌, not, Any, Contains, Decides}, specs.List.list_any}
+use Rattle.std.{proofs.Common.{arith, ◌≡◌, Bool, true, false, List, refl, ◌⊎◌, inl, inr, ◌||◌, ◌↔◌, not, Any, Contains, Decides}, specs.List.list_any}
 use Rattle.std.proofs.lemmas.{Bool.Decides.Decides-or, List.{Elements.All-contains, Folds.{Any-from_list_any, list_any-from_Any}}}
 use Rattle.std.proofs.lemmas.List.Sums.{AllPass-from_list_all, list_all-from_AllPass}
 use Rattle.candidate_order.specs.{declared.{candidate.Candidate.Candidate, mark.Mark.Mark}, Costs.{NoWorse, Better}}
-use Rattle.candidate_order.specs.Frontiers.{QuestionValue, PointValue, FrontierValue, IsWithin, IsAnswered, given_up}
+use Rattle.candidate_order.specs.Frontiers.{QuestionValue, PointValue, FrontierValue, IsWithin, IsAnswered}
 use Rattle.candidate_order.specs.declared.mark.Mark.TheVariants as mark
 use Rattle.report_form.{specs.Tests.{is_better, is_no_worse}, proofs.Tested.{decides_no_worse, decides_better}}
 use Rattle.frontier_audit.specs.{Candidates.{is_listed, candidates_within}, Solutions.is_optimal, inner.Steps.{is_answered, is_mark}}
@@ -15,19 +15,13 @@ listed_decides : (xs : List Candidate) (x : Candidate) → Decides (is_listed xs
 listed_decides xs x = (listed_contains xs x, contains_listed xs x)
 
 settled_decides : (ps : List PointValue) (x : Candidate) → Decides (list_any (λ p. is_no_worse p.candidate x) ps) (Any (λ p. NoWorse p.candidate x) ps)
-settled_decides ps x = (
-  λ e. let (k, p, low, at, same) = Any-from_list_any (λ (y : PointValue). is_no_worse y.candidate x) ps e in (k, p, low, at, (decides_no_worse p.candidate x).0 same),
-  λ a. let (k, p, low, at, better) = a in list_any-from_Any (λ (y : PointValue). is_no_worse y.candidate x) ps (k, p, low, at, (decides_no_worse p.candidate x).1 better),
-)
+settled_decides ps x = grind (arith, Any-from_list_any, decides_no_worse, list_any-from_Any)
 
 grouped : {A B C : Type 0} → ((A ⊎ B) ⊎ C) ↔ (A ⊎ (B ⊎ C))
 grouped = (λ h. elim h [ inl (inl a) ↦ inl a | inl (inr b) ↦ inr (inl b) | inr c ↦ inr (inr c) ], λ h. elim h [ inl a ↦ inl (inl a) | inr (inl b) ↦ inl (inr b) | inr (inr c) ↦ inr c ])
 
 pub answered_decides : (f : FrontierValue) (x : Candidate) → Decides (is_answered f x) (IsAnswered f x)
-answered_decides f x =
-    let settled = list_any (λ (p : PointValue). is_no_worse p.candidate x) f.points in
-    let d = Decides-or (settled || is_listed f.refuted x) (is_listed (given_up f) x) (Decides-or settled (is_listed f.refuted x) (settled_decides f.points x) (listed_decides f.refuted x)) (listed_decides (given_up f) x) in
-    (λ e. grouped.0 (d.0 e), λ a. d.1 (grouped.1 a))
+answered_decides f x = grind (arith, Decides-or, settled_decides, listed_decides)
 
 -- ---- marks
 

@@ -1,5 +1,5 @@
 -- Answers that are given beside different files are given beside one shelf, where each looks at names of its own.
-use Rattle.std.proofs.Common.{◌≡◌, ℕ, ◌+◌, ◌<◌, ◌≤◌, Bool, true, false, List, [], ◌∷◌, length, drop, get_or, Option, None, Some, Ok, refl, sym, ap, ◌∙◌, subst, arith, not, if◌then◌else◌, IsTrue, All, AllPairs}
+use Rattle.std.proofs.Common.{◌≡◌, ℕ, ◌+◌, ◌<◌, ◌≤◌, Bool, true, List, [], ◌∷◌, length, drop, get_or, Option, None, Some, Ok, refl, sym, ap, ◌∙◌, subst, arith, not, if◌then◌else◌, IsTrue, All, AllPairs}
 use Rattle.std.proofs.lemmas.List.{drop_all, get_or-drop, get_or_default, length-drop, Elements.{All-head, All-tail}}
 use Rattle.text_lines.specs.Check.{◌>>=◌}
 use Rattle.outer_ports.specs.{declared.proof_name.ProofName.ProofName, Files.Files, Port.Tells, Shelf.FilesStay}
@@ -32,19 +32,11 @@ is_own own f g name e = ap (λ b. if b then f name else g name) e
 
 is_other : (own : ProofName → Bool) (f g : Files) (name : ProofName) → not (own name) ≡ true → merged own f g name ≡ g name
 unfolding merged
-is_other own f g name e = go (own name) e
-  where
-    go : (b : Bool) → not b ≡ true → (if b then f name else g name) ≡ g name
-    go true h = absurd (cc)
-    go false h = refl
+is_other own f g name e = grind arith
 
 merged_stays : (own : ProofName → Bool) (shelf f g : Files) → FilesStay shelf f → FilesStay shelf g → FilesStay shelf (merged own f g)
 unfolding merged
-merged_stays own shelf f g a b name = go (own name)
-  where
-    go : (b : Bool) → (if b then f name else g name) ≡ shelf name
-    go true = a name
-    go false = b name
+merged_stays own shelf f g a b name = grind arith
 
 -- ---- answers
 
@@ -90,11 +82,7 @@ reads_as same a = record { files = a.files; told = a.told; is = a.is ∙ ap deni
 
 -- what holds of each pair holds of an item and those behind it
 pub behind_pairs : {X : Type 0} (R : X → X → Type 0) (xs : List X) (i : ℕ) (x : X) → i < length xs → x ≡ get_or xs i x → AllPairs R xs → All (R x) (drop (i + 1) xs)
-behind_pairs R xs i x low is pairs k d h =
-    let size = length-drop (i + 1) xs in
-    let at : R (get_or xs i d) (get_or xs (i + 1 + k) d) = pairs i (i + 1 + k) d (omega arith) (omega (arith, size, h)) in
-    let same : get_or xs i d ≡ x = get_or_default xs i d x low ∙ sym is in
-    subst (λ y. R x y) (sym (get_or-drop (i + 1) xs k d)) (subst (λ y. R y (get_or xs (i + 1 + k) d)) same at)
+behind_pairs R xs i x low is pairs k d h = grind (arith, length-drop (i + 1) xs, pairs i (i + 1 + k) d (omega arith) (omega (arith, (length-drop (i + 1) xs), h)), get_or_default xs i d x low ∙ sym is, get_or-drop)
 
 -- ---- items of a list
 
@@ -127,9 +115,7 @@ module _ {X E : Type 0} {began tells : Bool} {few faults : ℕ} {before shelf : 
     here = since next before shelf (λ files. check files x) a (λ t. w.stay (still t)) answer
 
     pub walk_stops : (d : E) → a ≡ Some d → AnswersAll next (Some d) xs
-    walk_stops d denied =
-        w.on next (Some d) still (subst (AnswersAll next (Some d)) (sym (from_here xs i x low is))
-        (stops next before (λ files. check files x) rest d (subst (AnswersBeside next before (λ files. check files x)) denied here)))
+    walk_stops d denied = grind (arith, from_here, stops, here)
 
     pub walk_on : Separate check xs → {now : Files} → (IsTrue next → FilesStay shelf now) → {later_faults : ℕ} → later_faults ≡ faults → a ≡ None → Walks began next few later_faults before now check xs (i + 1)
     walk_on s stay same none = record {

@@ -1,5 +1,7 @@
 -- The joined points of an allreduce, pair by pair.
-use Rattle.std.proofs.Common.{◌≡◌, ℕ, zero, suc, ◌+◌, ◌<◌, ◌≤◌, Bool, true, false, List, [], ◌∷◌, ◌++◌, length, map, take, drop, get_or, Option, None, Some, add-one, append_assoc, append-nil, refl, sym, ap, ◌∙◌, subst, ◌==◌, ◌&&◌, if◌then◌else◌, filter, slice_get}
+use Rattle.std.proofs.lemmas.Bool.Decides.{nat_tests}
+use Rattle.std.proofs.lemmas.Grind.{common_steps}
+use Rattle.std.proofs.Common.{arith, ◌≡◌, ℕ, zero, suc, ◌+◌, ◌<◌, ◌≤◌, Bool, true, false, List, [], ◌∷◌, ◌++◌, length, map, take, drop, get_or, Option, None, Some, add-one, append_assoc, append-nil, refl, sym, ap, ◌∙◌, subst, ◌==◌, ◌&&◌, if◌then◌else◌, filter, slice_get}
 use Rattle.std.proofs.lemmas.{Bool.eq-eqb, List.{map-append, take-append-drop, take_more, take_all, Elements.filter-append}, Option.slice_get-get_or}
 use Rattle.schedule.specs.Links.{TopologyValue}
 use Rattle.collective_spec.specs.declared.kind.Kind.TheVariants as kind
@@ -41,10 +43,7 @@ module _ (t : TopologyValue) (a b : PointValue) (due : PointValue) (made : due �
     says = is ∙ (ap (λ z. same_point z p && says_sums (joined_verdict_of t (chunks_of kind.Allreduce t.nodes p.candidate.c) p.schedule a.candidate.s)) made ∙ due_alike t a b p)
 
     pub differs : said ≡ false → Some (JoinWrong, due.candidate) ≡ denial_of (join_checked t (a, b) printed)
-    differs e =
-        ap (λ (z : PointValue). Some (JoinWrong, z.candidate)) made
-        ∙ (failing_denies (is_join t (a, b) && same_point (join_of a b) p) (JoinWrong, (join_of a b).candidate) (sym says ∙ e)
-        ∙ ap (λ o. denial_of (join_checked t (a, b) o)) (sym there))
+    differs e = grind (arith, failing_denies, says)
 
     pub agrees : said ≡ true → None ≡ denial_of (join_checked t (a, b) printed)
     agrees e = sym (ap (λ o. denial_of (join_checked t (a, b) o)) there ∙ passing_denies_none (is_join t (a, b) && same_point (join_of a b) p) (JoinWrong, (join_of a b).candidate) (sym says ∙ e))
@@ -107,10 +106,7 @@ module _ (t : TopologyValue) (joined : List PointValue) (f : List PointValue →
     walk_goes a = subst (λ ps. JoinsSay t ps joined before now None) (sym (adds (take i xs) (x ∷ [])) ∙ ap f (sym up_to)) (say_then t joined (f (take i xs)) (f (x ∷ [])) before middle now None so_far a)
 
     pub walk_stops : (d : Denial) → JoinsSay t (f (x ∷ [])) joined middle now (Some d) → JoinsSay t (f xs) joined before now (Some d)
-    walk_stops d a =
-        let here = say_then t joined (f (take i xs)) (f (x ∷ [])) before middle now (Some d) so_far a in
-        subst (λ ps. JoinsSay t ps joined before now (Some d)) (ap (λ ps. ps ++ f (drop (i + 1) xs)) (sym (adds (take i xs) (x ∷ []))) ∙ (sym (adds (take i xs ++ x ∷ []) (drop (i + 1) xs)) ∙ ap f (sym whole)))
-        (say_stop t joined (f (take i xs) ++ f (x ∷ [])) (f (drop (i + 1) xs)) before now now d here)
+    walk_stops d a = grind (arith, nat_tests, common_steps, say_then, whole, say_stop)
 
   pub walk_ends : (before now : ℕ) → length xs ≤ i → JoinsSay t (f (take i xs)) joined before now None → JoinsSay t (f xs) joined before now None
   walk_ends before now past a = subst (λ ys. JoinsSay t (f ys) joined before now None) (take_all i xs past) a

@@ -1,5 +1,5 @@
 -- The checks of a part, one after the other, and of the parts.
-use Rattle.std.proofs.Common.{◌≡◌, ℕ, ◌<◌, Bool, true, false, List, [], ◌∷◌, length, map, get_or, Option, None, Some, Ok, Err, refl, sym, ap, ◌∙◌, subst, ◌==◌, not, AllPairs, Contains, IsTrue}
+use Rattle.std.proofs.Common.{arith, ◌≡◌, ℕ, ◌<◌, Bool, true, List, [], ◌∷◌, length, map, get_or, Option, None, Some, Ok, Err, refl, sym, ap, ◌∙◌, subst, ◌==◌, not, AllPairs, Contains, IsTrue}
 use Rattle.std.proofs.{Math.ListN.get_or-map, lemmas.List.{length-map, Elements.{All-nil, All-cons}, Kept.AllPairs-cons}}
 use Rattle.text_lines.specs.Check.{◌>>=◌}
 use Rattle.outer_ports.specs.{declared.{part.Part.Part, proof_name.{FileKind.TheVariants.Partial, ProofName.ProofName}}, Files.{Files, kind_number, part_number}, Port.Tells, Shelf.FilesStay}
@@ -11,7 +11,7 @@ use Rattle.report_form.specs.Reports.{ReportValue, IsReport, IsFrontier, parts_o
 use Rattle.send_encoding.proofs.Orders.{one_pairs}
 use Rattle.frontier_audit.specs.{Denials.{Denial, Checked, each, in_part}, Auditing.{unknown_checked, frontier_checked}, Beside.{denial_of, AnswersBeside}}
 use Rattle.frontier_audit.specs.inner.Steps.{answers_checked, part_checked, point_checked, refuted_checked}
-use Rattle.frontier_audit.proofs.Merging.{LooksAt, Separate, goes_on, later, looks_each, looks_then, plain, plainly_then, reads_as, since, stops, then_plainly}
+use Rattle.frontier_audit.proofs.Merging.{LooksAt, Separate, goes_on, later, looks_each, looks_then, plain, plainly_then, since, stops, then_plainly}
 use Rattle.frontier_audit.proofs.Said.{looks_refuted, looks_unknown}
 
 -- ---- a part
@@ -94,9 +94,7 @@ kinds_apart _ = one_pairs PartsApart part.Whole
 
 -- what holds of each pair of names holds of what they name
 pub unnamed_pairs : {X Y : Type 0} (R : Y → Y → Type 0) (f : X → Y) (xs : List X) → AllPairs R (map f xs) → AllPairs (λ a b. R (f a) (f b)) xs
-unnamed_pairs R f xs all i j d before within =
-    let at : R (get_or (map f xs) i (f d)) (get_or (map f xs) j (f d)) = all i j (f d) before (subst (λ n. j < n) (sym (length-map xs f)) within) in
-    subst (λ a. R a (f (get_or xs j d))) (get_or-map f xs i d) (subst (λ b. R (get_or (map f xs) i (f d)) b) (get_or-map f xs j d) at)
+unnamed_pairs R f xs all i j d before within = grind (arith, all i j (f d) before (subst (λ n. j < n) (sym (length-map xs f)) within), get_or-map)
 
 pub separate_parts : (r : ReportValue) → IsReport r → Separate (part_checked r) r.frontiers
 separate_parts r ok = record {
@@ -139,8 +137,4 @@ named_denial p (Err d) = refl
 
 pub in_report : {tells : Bool} {shelf : Files} (r : ReportValue) (x : Part × FrontierValue) {q : QuestionValue} {d : Option Denial} → q ≡ question_of r.words r.topology x.0 → AnswersBeside tells shelf (λ files. frontier_checked x.0 q files x.1) d
     → AnswersBeside tells shelf (λ files. part_checked r files x) (named_in x.0 d)
-in_report r x is a = record {
-  files = a.files;
-  told = a.told;
-  is = ap (named_in x.0) (a.is ∙ ap (λ s. denial_of (frontier_checked x.0 s a.files x.1)) is) ∙ named_denial x.0 (frontier_checked x.0 (question_of r.words r.topology x.0) a.files x.1);
-}
+in_report r x is a = grind (arith, named_denial)

@@ -1,16 +1,13 @@
 -- The files that a search leaves are what an audit looks for.
-use Rattle.std.proofs.{Common.{◌≡◌, false}, lemmas.List.Elements.All-weaker}
+use Rattle.std.proofs.{Common.arith, lemmas.List.Elements.All-weaker}
 use Rattle.outer_ports.specs.{declared.part.Part.Part, Files.Files}
 use Rattle.candidate_order.specs.Frontiers.{QuestionValue, FrontierValue}
-use Rattle.candidate_formula.specs.{Files.{HasRefutation, HasLog, RefutedFiles, UnknownFiles, FrontierFiles}, Pruned.is_cut_away}
+use Rattle.candidate_formula.specs.Files.{FrontierFiles}
 use Rattle.report_form.specs.Reports.{ReportValue, question_of}
 use Rattle.frontier_audit.specs.{OwedFiles.Proves, Shelves.{PartRight, ShelfRight}}
 
 files_right : (part : Part) (q : QuestionValue) (files : Files) (f : FrontierValue) → FrontierFiles part q files f → PartRight part q f files
-files_right part q files f has = record {
-  refuted = All-weaker (λ x. is_cut_away q x ≡ false → RefutedFiles part q files x) (λ x. is_cut_away q x ≡ false → HasRefutation part q files x) (λ x own uncut. let files_of = own uncut in files_of.refutation) f.refuted has.refuted;
-  unknown = All-weaker (UnknownFiles part q files) (HasLog part q files) (λ u own. own.log) f.unknown has.unknown;
-}
+files_right part q files f has = grind (arith, All-weaker)
 
 pub proves_right : (r : ReportValue) (before after : Files) → Proves r before after → ShelfRight r after
 proves_right r before after proves =

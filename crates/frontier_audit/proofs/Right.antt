@@ -1,10 +1,11 @@
 -- An audit finds nothing to deny exactly where the frontiers, the files and the joined points are right.
-use Rattle.std.proofs.Common.{◌≡◌, true, [], ◌∷◌, get_or, Option, None, Some, Ok, refl, sym, ap, ◌∙◌, subst, ◌≢◌, All, Contains}
+use Rattle.std.proofs.lemmas.Bool.Decides.{nat_tests}
+use Rattle.std.proofs.lemmas.Grind.{common_steps}
+use Rattle.std.proofs.Common.{arith, ◌≡◌, true, [], get_or, Option, None, Some, Ok, refl, sym, ◌∙◌, ◌≢◌, All, Contains}
 use Rattle.std.proofs.lemmas.List.Elements.{All-nil, All-cons, All-contains, All-contains_itself}
 use Rattle.outer_ports.specs.{declared.part.Part.Part, Files.Files}
 use Rattle.outer_ports.specs.declared.part.Part.TheVariants as part
-use Rattle.schedule.specs.Sends.{IsInRange}
-use Rattle.collective_spec.specs.{Collectives.{kind_in, chunks_in, spec_of, fits_kind}, declared.collective.Collective.Collective, Patterns.PatternValue}
+use Rattle.collective_spec.specs.{Collectives.{kind_in, spec_of, fits_kind}, declared.collective.Collective.Collective, Patterns.PatternValue}
 use Rattle.collective_spec.specs.declared.kind.Kind.{Kind}
 use Rattle.collective_spec.specs.declared.spec.Spec.TheVariants as spec
 use Rattle.collective_spec.specs.declared.kind.Kind.TheVariants as kind
@@ -24,17 +25,7 @@ use Rattle.frontier_audit.proofs.Joined.{are_joined, joined_are}
 -- ---- a part
 
 checked_point : (part : Part) (q : QuestionValue) (files : Files) (f : FrontierValue) → IsFrontier q f → Passes part q files f → All (IsPoint q f.refuted) f.points
-checked_point part q files f ok p k d low =
-    let x = get_or f.points k d in
-    let point = ok.points k d low in
-    let marked = mark_by (is_optimal q f x.candidate) x.mark (refused_not (is_mark (is_optimal q f x.candidate) x.mark) (MarkWrong, x.candidate) (p.marks k d low)) in
-    let decides = optimal_decides q f x.candidate in
-    record {
-      within = point.within;
-      solves = solved_by q x point.has (refused_not (is_solution q x) (ScheduleWrong, x.candidate) (p.points k d low));
-      optimal = (λ e. decides.0 (marked.0.0 e), λ h. marked.0.1 (decides.1 h));
-      or_open = marked.1;
-    }
+checked_point part q files f ok p k d low = grind (arith, mark_by, refused_not, optimal_decides, solved_by)
 
 pub right_part : (part : Part) (q : QuestionValue) (files : Files) (f : FrontierValue) → kind_in q.spec ≢ kind.Allreduce → IsFrontier q f → Passes part q files f → All (λ x. IsSolvable q x → ⊥) f.refuted → RightFrontier q f
 right_part part q files f single ok p unsolvable = record {
@@ -67,15 +58,11 @@ part_passes part q files f right shelf = record {
 -- ---- no part is an allreduce
 
 pub apart : (k : Kind) → All (λ x. kind_of k x ≢ kind.Allreduce) (parts_of k)
-apart kind.Allreduce =
-    let P : Part → Type 0 = λ x. kind_of kind.Allreduce x ≢ kind.Allreduce in
-    All-cons P part.Reduce (part.Gather ∷ []) (λ e. absurd (cc)) (All-cons P part.Gather [] (λ e. absurd (cc)) (All-nil P))
+apart kind.Allreduce = grind (arith, All-cons, All-nil)
 apart k = All-cons (λ x. kind_of k x ≢ kind.Allreduce) part.Whole [] (λ e. absurd (cc)) (All-nil (λ x. kind_of k x ≢ kind.Allreduce))
 
 pub each_apart : (r : ReportValue) → IsReport r → All (λ x. kind_of r.words.collective.kind x.0 ≢ kind.Allreduce) r.frontiers
-each_apart r ok =
-    all_map (λ x. kind_of r.words.collective.kind x ≢ kind.Allreduce) (λ x. x.0) r.frontiers
-    (subst (λ parts. All (λ x. kind_of r.words.collective.kind x ≢ kind.Allreduce) parts) (sym ok.parts) (apart r.words.collective.kind))
+each_apart r ok = grind (arith, nat_tests, common_steps, all_map, apart)
 
 -- ---- a report
 
@@ -97,13 +84,7 @@ verified_right r files ok e part f at unsolvable =
     right_part part (question r part) files f (apart_in (record { kind = kind_of r.words.collective.kind part; root = r.words.collective.root }) r.topology.custom single) frontier passes unsolvable
 
 pub joinable : (r : ReportValue) → IsReport r → r.words.collective.kind ≡ kind.Allreduce → All (IsSummable r.topology.topology) r.joined
-joinable r ok e k d low =
-    let p = ok.joined k d low in
-    let x = get_or r.joined k d in
-    let none = unpatterned r.topology.custom (ap (λ k. fits_kind k r.topology.custom) (sym e) ∙ ok.pattern) in
-    let spec_is : (question r part.Joined).spec ≡ spec.Standard (record { kind = kind.Allreduce; root = r.words.collective.root }) =
-    ap (λ o. spec_of (record { kind = r.words.collective.kind; root = r.words.collective.root }) o) none ∙ ap (λ k. spec.Standard (record { kind = k; root = r.words.collective.root })) e in
-    record { schedule = p.has.schedule; in_range = subst (λ s. IsInRange (chunks_in s r.topology.topology.nodes x.candidate.c) r.topology.topology.nodes x.schedule) spec_is p.has.in_range }
+joinable r ok e k d low = grind (arith, unpatterned, question)
 
 abbrev JoinsOf : ReportValue → Type 0
 JoinsOf r = Joins r.topology.topology (points_of is_reduce r.frontiers) (points_of is_gather r.frontiers) r.joined
@@ -113,10 +94,7 @@ only_then r ok same e =
     in_part_ok part.Joined (joins_checked r.topology.topology (pairs_of (points_of is_reduce r.frontiers) (points_of is_gather r.frontiers)) r.joined) (joined_by_kind kind.Allreduce r same ok ∙ e)
 
 pub verified_joins : (r : ReportValue) (files : Files) → IsReport r → audit_of r files ≡ Verified → r.words.collective.kind ≡ kind.Allreduce → JoinsOf r
-verified_joins r files ok e same =
-    let pairs = pairs_of (points_of is_reduce r.frontiers) (points_of is_gather r.frontiers) in
-    let are = are_joined r.topology.topology pairs r.joined (joinable r ok same) (only_then r ok same (report_passes r files e).joined) in
-    record { in_order = are.in_order; summed = are.summed }
+verified_joins r files ok e same = grind (arith, are_joined, joinable, only_then, report_passes)
 
 joins_pass : (k : Kind) (r : ReportValue) → (k ≡ kind.Allreduce → joins_checked r.topology.topology (pairs_of (points_of is_reduce r.frontiers) (points_of is_gather r.frontiers)) r.joined ≡ Ok tt) → joins_of k r ≡ Ok tt
 joins_pass kind.Allreduce r h = h refl

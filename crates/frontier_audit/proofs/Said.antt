@@ -1,9 +1,9 @@
 -- What is said of the files of a candidate, and what it denies.
-use Rattle.std.proofs.Common.{◌≡◌, ℕ, Bool, true, false, List, Option, None, Some, Ok, refl, sym, ap, ◌∙◌, subst, not, ◌==◌, if◌then◌else◌, IsTrue, AllPairs}
+use Rattle.std.proofs.Common.{arith, ◌≡◌, ℕ, Bool, true, false, List, Option, None, Some, refl, sym, ap, ◌∙◌, subst, not, ◌==◌, if◌then◌else◌, IsTrue, AllPairs}
 use Rattle.outer_ports.specs.{declared.{part.Part.Part, proof_name.{FileKind.TheVariants.{Cnf, Lrat, Partial}, ProofName.ProofName}}, Files.{Files, kind_number}, Port.Tells, Shelf.FilesStay}
 use Rattle.cnf_formula.specs.Formulas.{FormulaValue}
 use Rattle.candidate_order.{specs.{declared.candidate.Candidate.Candidate, Costs.Before, Frontiers.{QuestionValue, UnknownValue}}, proofs.Orders.Before-irrefl}
-use Rattle.candidate_formula.specs.{Formulas.formula_for, Files.{candidate_of, file_of}, Pruned.is_cut_away}
+use Rattle.candidate_formula.specs.{Formulas.formula_for, Files.{candidate_of, file_of}}
 use Rattle.proof_audit.specs.{declared.verdict.FileVerdict.FileVerdict, Proving.{is_refutation, is_spent_log}, Files.{file_verdict, IsFileVerdict}}
 use Rattle.frontier_audit.specs.{declared.verdict.Reason.{Reason, TheVariants.{ProofRefused, CnfDiffers, PartialRefused}}, Denials.Denial, Candidates.same_candidate}
 use Rattle.frontier_audit.specs.{Auditing.{refutation_checked, unknown_checked}, Beside.{denial_of, AnswersBeside}, inner.Steps.{judged, refuted_checked}}
@@ -57,11 +57,7 @@ log_decides part q u same count is at answer = reads_as (by_log part q u) (rw (a
 -- ---- which names the checks look at
 
 pub looks_refuted : (own : ProofName → Bool) (part : Part) (q : QuestionValue) (x : Candidate) → own (file_of Cnf part x) ≡ true → own (file_of Lrat part x) ≡ true → LooksAt own (λ files. refuted_checked part q files x)
-looks_refuted own part q x cnf lrat f g same =
-    ap (λ checked. if is_cut_away q x then Ok tt else checked)
-    (by_verdicts part q x f
-    ∙ looks_then own (text_checked part q x) (proof_checked part q x) (looks_file own (file_of Cnf part x) _ CnfDiffers x cnf) (looks_file own (file_of Lrat part x) _ ProofRefused x lrat) f g same
-    ∙ sym (by_verdicts part q x g))
+looks_refuted own part q x cnf lrat f g same = grind (arith, by_verdicts, looks_then, text_checked, proof_checked, looks_file)
 
 pub looks_unknown : (own : ProofName → Bool) (part : Part) (q : QuestionValue) (u : UnknownValue) → own (file_of Partial part u.candidate) ≡ true → LooksAt own (λ files. unknown_checked part q files u)
 looks_unknown own part q u log f g same = by_log part q u f ∙ looks_file own (file_of Partial part u.candidate) _ PartialRefused u.candidate log f g same ∙ sym (by_log part q u g)
@@ -71,11 +67,7 @@ abbrev is_of : Candidate → ProofName → Bool
 is_of x name = same_candidate (candidate_of name) x
 
 other : (x y : Candidate) → Before x y → not (same_candidate y x) ≡ true
-other x y b = go (same_candidate y x) refl
-  where
-    go : (s : Bool) → same_candidate y x ≡ s → not s ≡ true
-    go true e = absurd (Before-irrefl x (subst (λ z. Before x z) (same_is y x e) b))
-    go false e = refl
+other x y b = grind (arith, Before-irrefl, same_is)
 
 pub separate_refuted : (part : Part) (q : QuestionValue) (xs : List Candidate) → AllPairs Before xs → Separate (refuted_checked part q) xs
 separate_refuted part q xs ascend = record {

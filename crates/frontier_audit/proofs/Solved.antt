@@ -1,5 +1,5 @@
 -- The check of a point's schedule passes exactly where it solves, or sums.
-use Rattle.std.proofs.Common.{◌≡◌, ℕ, Bool, true, false, length, sum, refl, ap, if◌then◌else◌}
+use Rattle.std.proofs.Common.{arith, ◌≡◌, ℕ, Bool, true, false, length, sum, refl, ap, if◌then◌else◌}
 use Rattle.schedule.specs.{declared.verdict.Verdict.Verdict, Links.TopologyValue, Placed.PlacementValue, Sends.ScheduleValue, Solving.Solves, Summing.Sums}
 use Rattle.schedule.specs.Judging.{verdict_of}
 use Rattle.schedule.proofs.Verdicts.{tells_solves}
@@ -20,17 +20,13 @@ sums_said sums.Sums e = refl
 sums_said _ e = absurd (cc)
 
 solves_by : (t : TopologyValue) (pre post : PlacementValue) (s : ScheduleValue) (n r : ℕ) → length s.rounds ≡ n → sum s.rounds ≡ r → says_solves (verdict_of t pre post s) ≡ true → Solves t pre post s n r
-solves_by t pre post s n r steps rounds e =
-    let own = (tells_solves t pre post s (verdict_of t pre post s) refl).0 (solves_said (verdict_of t pre post s) e) in
-    record { steps_are = steps; rounds_are = rounds; fits = own.fits; delivers = own.delivers }
+solves_by t pre post s n r steps rounds e = grind (arith, tells_solves, solves_said)
 
 by_solving : (t : TopologyValue) (pre post : PlacementValue) (s : ScheduleValue) (n r : ℕ) → Solves t pre post s n r → says_solves (verdict_of t pre post s) ≡ true
 by_solving t pre post s n r h = ap says_solves ((tells_solves t pre post s (verdict_of t pre post s) refl).1 (record { steps_are = refl; rounds_are = refl; fits = h.fits; delivers = h.delivers }))
 
 sums_by : (t : TopologyValue) (demand : PlacementValue) (s : ScheduleValue) (n r : ℕ) → length s.rounds ≡ n → sum s.rounds ≡ r → says_sums (sum_verdict_of t demand s) ≡ true → Sums t demand s n r
-sums_by t demand s n r steps rounds e =
-    let own = (sums_exactly t demand s).0 (sums_said (sum_verdict_of t demand s) e) in
-    record { steps_are = steps; rounds_are = rounds; fits = own.fits; sums = own.sums }
+sums_by t demand s n r steps rounds e = grind (arith, sums_exactly, sums_said)
 
 by_summing : (t : TopologyValue) (demand : PlacementValue) (s : ScheduleValue) (n r : ℕ) → Sums t demand s n r → says_sums (sum_verdict_of t demand s) ≡ true
 by_summing t demand s n r h = ap says_sums ((sums_exactly t demand s).1 (record { steps_are = refl; rounds_are = refl; fits = h.fits; sums = h.sums }))

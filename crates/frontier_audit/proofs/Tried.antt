@@ -1,11 +1,10 @@
 -- The candidates of a search are just those within the limits.
-use Rattle.std.proofs.Common.{◌≡◌, ℕ, zero, suc, ◌+◌, ◌<◌, ◌≤◌, Bool, true, false, List, [], ◌∷◌, map, Decides, refl, sym, ap, ◌∙◌, subst, ⊎_elim, arith, ◌&&◌, ◌||◌, ◌==◌, ◌↔◌, if◌then◌else◌, filter, nat_le, All, Contains}
+use Rattle.std.proofs.Common.{◌≡◌, ℕ, zero, suc, ◌+◌, ◌<◌, ◌≤◌, Bool, true, false, List, [], ◌∷◌, map, Decides, refl, sym, ap, ◌∙◌, ⊎_elim, arith, ◌||◌, ◌↔◌, if◌then◌else◌, filter, nat_le, All, Contains}
 use Rattle.std.{specs.List.{list_any, range_with_len}, proofs.lemmas.Bool.{and_parts, cases_eq, or_left, or_right, leb-true}}
 use Rattle.std.proofs.lemmas.{Bool.Decides.{Decides-and, Decides-eqb, Decides-like, same_from_decides}, List.Elements.{All-nil, All-cons, All-head, All-tail, All-contains}}
 use Rattle.std.proofs.lemmas.List.Folds.{list_any_at, Any-from_list_any}
 use Rattle.collective_spec.specs.{Kinds.allows, Collectives.kind_in}
 use Rattle.candidate_order.specs.{declared.candidate.Candidate.Candidate, Listed.candidate_at, Frontiers.{QuestionValue, IsWithin}}
-use Rattle.report_form.specs.Tests.{is_before}
 use Rattle.send_encoding.proofs.{Everywhere.{in_map, in_flat, From, in_range}, Decoded.any_range, Members.kept}
 use Rattle.candidate_formula.specs.Counts.{chunk_counts}
 use Rattle.frontier_audit.specs.{Candidates.{same_candidate, is_listed, put_in_order, in_search_order, candidates_within}, inner.Steps.candidates_of_step}
@@ -13,10 +12,7 @@ use Rattle.frontier_audit.specs.{Candidates.{same_candidate, is_listed, put_in_o
 -- ---- the test of the same candidate
 
 pub same_decides : (a b : Candidate) → Decides (same_candidate a b) (a ≡ b)
-same_decides a b = Decides-like (same_candidate a b)
-    (λ e i. record { s = e.0.0 i; r = e.0.1 i; c = e.1 i })
-    (λ e. ((ap (λ x. x.s) e, ap (λ x. x.r) e), ap (λ x. x.c) e))
-    (Decides-and _ _ (Decides-and _ _ (Decides-eqb a.s b.s) (Decides-eqb a.r b.r)) (Decides-eqb a.c b.c))
+same_decides a b = grind (arith, Decides-like, Decides-and, Decides-eqb)
 
 pub same_is : (a b : Candidate) → same_candidate a b ≡ true → a ≡ b
 same_is a b = (same_decides a b).0
@@ -33,10 +29,7 @@ listed_by test x [] is = refl
 listed_by test x (y ∷ ys) is = ap (λ b. b || list_any test ys) (is y ∙ same_turned y x) ∙ ap (λ b. same_candidate x y || b) (listed_by test x ys is)
 
 pub listed_contains : (xs : List Candidate) (x : Candidate) → is_listed xs x ≡ true → Contains xs x
-listed_contains xs x e =
-    let (k, y, low, at, same) = Any-from_list_any (same_candidate x) xs e in
-    let is : x ≡ y = same_is x y same in
-    subst (λ z. Contains xs z) (sym is) (k, low, at)
+listed_contains xs x e = grind (arith, Any-from_list_any, same_is)
 
 pub contains_listed : (xs : List Candidate) (x : Candidate) → Contains xs x → is_listed xs x ≡ true
 contains_listed xs x (k, low, at) = list_any_at (same_candidate x) xs k x low (ap (same_candidate x) at ∙ same_itself x)
@@ -50,11 +43,7 @@ swapped false b c = refl
 
 any_put : (p : Candidate → Bool) (x : Candidate) (ys : List Candidate) → list_any p (put_in_order x ys) ≡ (p x || list_any p ys)
 any_put p x [] = refl
-any_put p x (y ∷ ys) = chosen (is_before x y) (any_put p x ys)
-  where
-    chosen : (b : Bool) → list_any p (put_in_order x ys) ≡ (p x || list_any p ys) → list_any p (if b then x ∷ y ∷ ys else y ∷ put_in_order x ys) ≡ (p x || (p y || list_any p ys))
-    chosen true later = refl
-    chosen false later = ap (λ rest. p y || rest) later ∙ swapped (p y) (p x) (list_any p ys)
+any_put p x (y ∷ ys) = grind (arith, swapped, any_put p x ys)
 
 any_ordered : (p : Candidate → Bool) (xs : List Candidate) → list_any p (in_search_order xs) ≡ list_any p xs
 any_ordered p [] = refl
@@ -62,11 +51,7 @@ any_ordered p (x ∷ xs) = any_put p x (in_search_order xs) ∙ ap (λ rest. p x
 
 pub all_put : (P : Candidate → Type 0) (x : Candidate) (ys : List Candidate) → P x → All P ys → All P (put_in_order x ys)
 all_put P x [] h a = All-cons P x [] h (All-nil P)
-all_put P x (y ∷ ys) h a = chosen (is_before x y) (all_put P x ys h (All-tail P y ys a))
-  where
-    chosen : (b : Bool) → All P (put_in_order x ys) → All P (if b then x ∷ y ∷ ys else y ∷ put_in_order x ys)
-    chosen true later = All-cons P x (y ∷ ys) h a
-    chosen false later = All-cons P y (put_in_order x ys) (All-head P y ys a) later
+all_put P x (y ∷ ys) h a = grind (arith, All-tail, All-cons, All-head, all_put P x ys h (All-tail P y ys a))
 
 pub all_ordered : (P : Candidate → Type 0) (xs : List Candidate) → All P xs → All P (in_search_order xs)
 all_ordered P [] a = All-nil P

@@ -1,5 +1,5 @@
 -- A refuted candidate has no solution, since its formula is satisfiable where it has one.
-use Rattle.std.proofs.Common.{◌≡◌, ◌≢◌, ℕ, ◌<◌, Bool, true, false, [], ◌∷◌, get_or, Option, None, Some, refl, sym, ◌∙◌, subst, arith, ◌↔◌, All, Contains}
+use Rattle.std.proofs.Common.{◌≡◌, ◌≢◌, Bool, true, false, [], get_or, Option, None, Some, refl, sym, subst, arith, ◌↔◌, All, Contains}
 use Rattle.std.proofs.lemmas.List.Elements.{All-nil, All-cons, All-contains, All-contains_itself}
 use Rattle.outer_ports.specs.{declared.part.Part.Part, Files.Files}
 use Rattle.outer_ports.specs.declared.part.Part.TheVariants as part
@@ -23,52 +23,17 @@ use Rattle.candidate_formula.proofs.{CopyingQuestions.{within_by, reduced_formul
 
 -- a part has a pattern where the whole has one
 pub parts_fit : (k : Kind) (c : Option PatternValue) → fits_kind k c ≡ true → All (λ x. fits_kind (kind_of k x) c ≡ true) (parts_of k)
-parts_fit kind.Allreduce None e =
-    let P : Part → Type 0 = λ x. fits_kind (kind_of kind.Allreduce x) None ≡ true in
-    All-cons P part.Reduce (part.Gather ∷ []) refl (All-cons P part.Gather [] refl (All-nil P))
+parts_fit kind.Allreduce None e = grind (arith, All-cons, All-nil)
 parts_fit kind.Allreduce (Some p) e = absurd (cc)
 parts_fit k c e = All-cons (λ x. fits_kind (kind_of k x) c ≡ true) part.Whole [] e (All-nil (λ x. fits_kind (kind_of k x) c ≡ true))
 
 spec_is : (r : ReportValue) (part : Part) (f : FrontierValue) → IsReport r → Contains r.frontiers (part, f) → IsSpec r.topology.topology.nodes (question r part).spec
-spec_is r part f ok at =
-    let k : Kind = r.words.collective.kind in
-    let F : Part → Type 0 = λ x. fits_kind (kind_of k x) r.topology.custom ≡ true in
-    let each = all_map F (λ x. x.0) r.frontiers (subst (λ ps. All F ps) (sym ok.parts) (parts_fit k r.topology.custom ok.pattern)) in
-    let fits = All-contains (λ x. F x.0) r.frontiers (part, f) each at in
-    let root = ok.words.root in
-    let many = ok.topology.as_many in
-    fitting_spec r.topology.topology.nodes (record { kind = kind_of k part; root = r.words.collective.root }) r.topology.custom fits (omega (arith, root, many)) ok.topology.custom
+spec_is r part f ok at = grind (arith, all_map, parts_fit, All-contains, fitting_spec)
 
 -- ---- a candidate that has a solution has a satisfiable formula
 
 candidate_for : (q : QuestionValue) (x : Candidate) → IsTopology q.topology → IsSpec q.topology.nodes q.spec → IsLimits q.limits → IsWithin q x → IsCandidate q.topology (instance_for q x).pre (instance_for q x).post x.s x.r
-candidate_for q x topology is limits w =
-    let nodes : ℕ = q.topology.nodes in
-    let before = before_among q.spec nodes x.c in
-    let after = after_among q.spec nodes x.c in
-    let counted = before.of_chunks in
-    let least = has_chunk q x w in
-    let one : 0 < x.c = omega (arith, least) in
-    let some = chunks_some q.spec nodes x.c is topology.some one in
-    let few = chunks_few q.spec nodes x.c topology.few (let c = w.chunks in let most = limits.chunks in omega (arith, c, most)) (few_base q.spec nodes is) in
-    let steps = w.some_steps in
-    let most_steps = w.steps in
-    let rounds = w.rounds in
-    let max_s = limits.steps in
-    let max_k = limits.k in
-    record {
-      topology = topology;
-      wanted = after.placement;
-      nodes = before.of_nodes;
-      nodes_wanted = after.of_nodes ∙ sym before.of_nodes;
-      chunks = omega (arith, counted, some);
-      few_chunks = omega (arith, counted, few);
-      chunks_wanted = after.of_chunks ∙ sym before.of_chunks;
-      some = omega (arith, steps);
-      few = omega (arith, most_steps, max_s);
-      least = w.all_rounds;
-      most = omega (arith, rounds, max_k);
-    }
+candidate_for q x topology is limits w = grind (arith, before_among, after_among, has_chunk, chunks_some, chunks_few, few_base)
 
 module _ (q : QuestionValue) (x : Candidate) (topology : IsTopology q.topology) (is : IsSpec q.topology.nodes q.spec) (single : kind_in q.spec ≢ kind.Allreduce) (limits : IsLimits q.limits) (w : IsWithin q x) where
   -- of a reduction the formula is that of the collective that copies, over the links turned round
@@ -100,9 +65,7 @@ by_either false on off = off refl
 
 module _ (r : ReportValue) (part : Part) (f : FrontierValue) (x : Candidate) (ok : IsReport r) (at : Contains r.frontiers (part, f)) (of : Contains f.refuted x) where
   alone : kind_in (question r part).spec ≢ kind.Allreduce
-  alone =
-      let single = All-contains (λ y. kind_of r.words.collective.kind y.0 ≢ kind.Allreduce) r.frontiers (part, f) (each_apart r ok) at in
-      apart_in (record { kind = kind_of r.words.collective.kind part; root = r.words.collective.root }) r.topology.custom single
+  alone = grind (arith, All-contains (λ y. kind_of r.words.collective.kind y.0 ≢ kind.Allreduce) r.frontiers (part, f) (each_apart r ok) at, apart_in)
 
   formula_is_exact : Satisfiable (formula_for (question r part) x) ↔ IsSolvable (question r part) x
   formula_is_exact =

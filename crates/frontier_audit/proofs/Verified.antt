@@ -1,5 +1,5 @@
 -- What a verified report says, and the verdict on a report from the answers of its checks.
-use Rattle.std.proofs.Common.{◌≡◌, Bool, List, [], ◌∷◌, ◌++◌, map, get_or, Option, None, Some, Ok, Err, append-nil, refl, sym, ap, ◌∙◌, subst, IsTrue}
+use Rattle.std.proofs.Common.{arith, ◌≡◌, Bool, List, [], ◌∷◌, get_or, Option, None, Some, Ok, Err, append-nil, refl, sym, ap, ◌∙◌, subst, IsTrue}
 use Rattle.std.proofs.lemmas.List.Elements.{All-contains_itself}
 use Rattle.outer_ports.specs.{declared.part.Part.Part, Files.Files}
 use Rattle.outer_ports.specs.declared.part.Part.TheVariants as part
@@ -10,7 +10,7 @@ use Rattle.allreduce_join.specs.Joins.{Joins}
 use Rattle.report_form.specs.Reports.{ReportValue, IsReport, parts_of, question_of}
 use Rattle.candidate_formula.specs.Formulas.{formula_for}
 use Rattle.proof_audit.specs.Files.{HasSpentLog}
-use Rattle.frontier_audit.specs.{declared.verdict.AuditVerdict.{AuditVerdict, TheVariants.{Verified, Denied}}, Denials.{Denial, Checked, in_part, verdict_from}}
+use Rattle.frontier_audit.specs.{declared.verdict.AuditVerdict.{AuditVerdict, TheVariants.{Verified, Denied}}, Denials.{Denial, Checked, verdict_from}}
 use Rattle.frontier_audit.specs.{Joining.joined_checked, Parts.{is_gather, is_reduce, points_of}, Auditing.audit_of, Rights.{AreJoined, HasLogs, IsRight}}
 use Rattle.frontier_audit.specs.{Beside.{denial_of, AnswersBeside, IsVerdictOver}, inner.Steps.{joins_of, parts_checked, report_checked}}
 use Rattle.frontier_audit.proofs.{Audited.shelf_right, Jointly.{one_part, parts_are}, JoinedParts.joined_by_kind, Merging.{stops, then_plainly}, Parting.{named_denial, named_in}, Right.verified_joins}
@@ -19,11 +19,7 @@ use Rattle.frontier_audit.proofs.Unsolvable.{all_right}
 -- ---- a verified report is right
 
 joined_parts : (r : ReportValue) (f h : FrontierValue) (xs : List (Part × FrontierValue)) → xs ≡ (part.Reduce, f) ∷ (part.Gather, h) ∷ [] → Joins r.topology.topology (points_of is_reduce xs) (points_of is_gather xs) r.joined → AreJoined r xs
-joined_parts r f h xs are joins =
-    subst (AreJoined r) (sym are)
-    (subst (λ ps. Joins r.topology.topology ps h.points r.joined) (append-nil f.points)
-    (subst (λ ps. Joins r.topology.topology (f.points ++ []) ps r.joined) (append-nil h.points)
-    (subst (λ ys. Joins r.topology.topology (points_of is_reduce ys) (points_of is_gather ys) r.joined) are joins)))
+joined_parts r f h xs are joins = grind (arith, append-nil)
 
 are_joined : (k : Kind) (r : ReportValue) → r.words.collective.kind ≡ k → IsReport r → (r.words.collective.kind ≡ kind.Allreduce → Joins r.topology.topology (points_of is_reduce r.frontiers) (points_of is_gather r.frontiers) r.joined) → AreJoined r r.frontiers
 are_joined kind.Allreduce r e ok joins = let parts = parts_are r ok e in joined_parts r parts.reduce parts.gather r.frontiers parts.are (joins e)
@@ -61,15 +57,11 @@ pub record IsJudged (tells : Bool) (shelf : Files) (r : ReportValue) (v : AuditV
 
 module _ {tells : Bool} {shelf : Files} (r : ReportValue) where
   judged_by : {d : Option (Part × Denial)} (v : AuditVerdict) → v ≡ verdict_of d → AnswersBeside tells shelf (report_checked r) d → IsJudged tells shelf r v
-  judged_by v is a =
-      let e = is ∙ ap verdict_of a.is ∙ same_verdict (report_checked r a.files) in
-      record { exact = λ t. e ∙ ap (audit_of r) (λ i name. a.told t name i); some = record { files = a.files; is = sym e } }
+  judged_by v is a = grind (arith, same_verdict)
 
   module _ {a : Option (Part × Denial)} (parts : AnswersBeside tells shelf (λ files. parts_checked r files r.frontiers) a) where
     pub judged_by_parts : (d : Part × Denial) → a ≡ Some d → (v : AuditVerdict) → v ≡ verdict_of (Some d) → IsJudged tells shelf r v
     judged_by_parts d e v is = judged_by v is (stops tells shelf (λ files. parts_checked r files r.frontiers) (λ files. joined_checked r r.frontiers) d (rw e at parts))
 
     pub judged_by_joins : a ≡ None → IsReport r → (d : Option Denial) → d ≡ denial_of (joins_of r.words.collective.kind r) → (v : AuditVerdict) → v ≡ verdict_of (named_in part.Joined d) → IsJudged tells shelf r v
-    judged_by_joins e ok d said v is = judged_by v is
-        (then_plainly tells shelf (λ files. parts_checked r files r.frontiers) (joined_checked r r.frontiers) (named_in part.Joined d) (rw e at parts)
-        (ap (named_in part.Joined) said ∙ named_denial part.Joined (joins_of r.words.collective.kind r) ∙ ap denial_of (joined_by_kind r.words.collective.kind r refl ok)))
+    judged_by_joins e ok d said v is = grind (arith, judged_by, then_plainly, named_in, named_denial, joined_by_kind)

@@ -1,4 +1,4 @@
-use Rattle.std.proofs.Common.{◌≤◌, ◌<◌, ◌+◌, ◌++◌, append-nil, sym, ap, ◌∙◌, arith}
+use Rattle.std.proofs.Common.{◌≤◌, ◌<◌, ◌+◌, append-nil, ap, ◌∙◌, arith}
 use Rattle.schedule.specs.Links.{TopologyValue}
 use Rattle.collective_spec.specs.Collectives.{kind_in}
 use Rattle.candidate_order.specs.Ranges.{LimitsValue}
@@ -9,10 +9,7 @@ pub loop-step-init : goal.loop-step-init
 loop-step-init c = rw c.new-left.ensures.items (ap (unrefuted_among c.args.refuted.now) (all_steps c.args.asked.now))
 
 pub list-requires-clause-counts : goal.list-requires-clause-counts
-list-requires-clause-counts c =
-    are_counts c.args.asked.now c.limits-limits.result.now c.kind.result c.nodes-nodes.result c.deref.result.now c.limits-limits.ensures.limits
-    (c.kind.ensures ∙ ap kind_in c.spec.ensures.spec) (c.nodes-nodes.ensures.nodes ∙ ap (λ (t : TopologyValue). t.nodes) c.topology.ensures.topology)
-    (c.deref.ensures.value ∙ c.in_ok-counts.ensures.counts)
+list-requires-clause-counts c = grind (arith, are_counts)
 
 pub loop-step-preserved : goal.loop-step-preserved
 loop-step-preserved c =
@@ -27,9 +24,4 @@ loop-step-preserved c =
     step_added c.args.asked.now c.args.refuted.now l.left.items c.push_unrefuted.new.left.items c.deref-in-loop-step.result.now l.step low (c.deref-in-loop-step.ensures.value ∙ listed) c.in_ok-push_unrefuted.ensures ∙ l.invariant
 
 pub returns : goal.returns
-returns c =
-    let l = c.loop-step in
-    let max = c.max_s-step-end.ensures.max_s in
-    let of_asked = ap (λ (x : LimitsValue). x.max_s) c.limits-limits.ensures.limits in
-    let past : c.args.asked.now.limits.max_s + 1 ≤ l.step = omega (arith, c.loop-step-test.false) in
-    sym (append-nil l.left.items) ∙ (ap (λ ys. l.left.items ++ unrefuted_among c.args.refuted.now ys) (sym (no_step c.args.asked.now l.step past)) ∙ l.invariant)
+returns c = grind (arith, append-nil, no_step)

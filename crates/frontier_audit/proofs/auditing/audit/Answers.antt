@@ -1,17 +1,15 @@
-use Rattle.std.proofs.Common.{None, Some, sym, ◌∙◌, refl, rules}
+use Rattle.std.proofs.lemmas.Bool.Decides.{nat_tests}
+use Rattle.std.proofs.lemmas.Grind.{common_steps}
+use Rattle.std.proofs.Common.{arith, None, sym, ◌∙◌, refl, rules}
 use Rattle.frontier_audit.specs.declared.verdict.AuditVerdict.TheVariants.{Verified}
 use Rattle.frontier_audit.proofs.Verified.{judged_by_joins, judged_by_parts, report_logs, report_right}
 use Rattle.frontier_audit.proofs.auditing.audit.Goals as goal
 
 pub returns-in-Some : goal.returns-in-Some
-returns-in-Some g c =
-    let judged = judged_by_parts c.args.report.now c.in_ok-part.ensures.beside (c.in-Some.part, c.in-Some.denial) c.in-Some.is c.denied.result c.denied.ensures in
-    record { told = search rules; stay = search rules; exact = judged.exact; some = judged.some; right = λ e. absurd (cc); logs = λ e. absurd (cc); cause = search rules }
+returns-in-Some g c = grind (arith, judged_by_parts)
 
 pub returns-in-Some-2 : goal.returns-in-Some-2
-returns-in-Some-2 g c =
-    let judged = judged_by_joins c.args.report.now c.in_ok-part.ensures.beside c.in_default.is c.parts_denied.ensures.valid (Some c.in-Some-2.denial) (sym c.in-Some-2.is ∙ c.in_ok-denial.ensures) c.denied-in-Some-2.result c.denied-in-Some-2.ensures in
-    record { told = search rules; stay = search rules; exact = judged.exact; some = judged.some; right = λ e. absurd (cc); logs = λ e. absurd (cc); cause = search rules }
+returns-in-Some-2 g c = grind (arith, nat_tests, common_steps, judged_by_joins)
 
 pub returns : goal.returns
 returns g c =

@@ -1,4 +1,4 @@
-use Rattle.std.proofs.{Common.{None, Ok, refl, sym, ◌∙◌}, lemmas.Result.IfOk-weaker}
+use Rattle.std.proofs.{Common.{arith, None, Ok, refl, sym, ◌∙◌}, lemmas.Result.IfOk-weaker}
 use Rattle.frontier_audit.proofs.{CutAway.{checked_where_uncut, passed_where_cut}, Merging.{plain, reads_as}}
 use Rattle.frontier_audit.proofs.files.refutation_denied.Goals as goal
 
@@ -7,6 +7,4 @@ returns-then-is_cut_away-clause-beside g c =
     reads_as (λ files. passed_where_cut c.args.part c.args.asked.now files c.args.candidate (sym c.is_cut_away.ensures ∙ c.if-is_cut_away.true)) (plain _ _ (Ok tt) None refl)
 
 pub returns-clause-beside : goal.returns-clause-beside
-returns-clause-beside g c =
-    let uncut = sym c.is_cut_away.ensures ∙ c.if-is_cut_away.false in
-    IfOk-weaker c.files_denied.result _ _ (λ d. reads_as (λ files. checked_where_uncut c.args.part c.args.asked.now files c.args.candidate uncut)) c.files_denied.ensures.beside
+returns-clause-beside g c = grind (arith, IfOk-weaker, reads_as, checked_where_uncut)

@@ -1,4 +1,6 @@
-use Rattle.std.proofs.Common.{[], ◌∷◌, sym, subst}
+use Rattle.std.proofs.lemmas.Bool.Decides.{nat_tests}
+use Rattle.std.proofs.lemmas.Grind.{common_steps}
+use Rattle.std.proofs.Common.{arith, [], ◌∷◌, sym, subst}
 use Rattle.allreduce_join.specs.Joins.{IsJoinable}
 use Rattle.frontier_audit.{specs.inner.Steps.{JoinsSay, pairs_with}, proofs.Pairing.{none_say, walk_ends, walk_goes, walk_stops, with_append}}
 use Rattle.frontier_audit.proofs.joins.gathered_denied.Goals as goal
@@ -17,13 +19,7 @@ returns-in-Some c =
     (subst (JoinsSay c.args.topology.now (pairs_with a (c.second-item.result ∷ [])) c.args.joined.now l.place c.pair_denied.new.place) c.in-Some.is c.in_ok-denial.ensures)
 
 pub loop-second-preserved : goal.loop-second-preserved
-loop-second-preserved c =
-    let l = c.loop-second in
-    let a = c.args.first.now in
-    walk_goes c.args.topology.now c.args.joined.now (pairs_with a) (with_append a) c.args.gather.now l.second-index c.second-item.result c.loop-second-test.true c.second-item.is c.args.place.now l.place c.pair_denied.new.place l.invariant
-    (subst (JoinsSay c.args.topology.now (pairs_with a (c.second-item.result ∷ [])) c.args.joined.now l.place c.pair_denied.new.place) c.in_default.is c.in_ok-denial.ensures)
+loop-second-preserved c = grind (arith, nat_tests, common_steps, walk_goes, with_append)
 
 pub returns : goal.returns
-returns c =
-    let l = c.loop-second in
-    walk_ends c.args.topology.now c.args.joined.now (pairs_with c.args.first.now) (with_append c.args.first.now) c.args.gather.now l.second-index c.args.place.now l.place c.loop-second-test.false l.invariant
+returns c = grind (arith, nat_tests, common_steps, walk_ends, with_append)

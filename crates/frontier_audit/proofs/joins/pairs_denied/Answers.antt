@@ -1,6 +1,8 @@
-use Rattle.std.proofs.{Common.{[], ◌∷◌, Some, sym, subst, ap, ◌∙◌}, lemmas.Option.slice_get_past}
+use Rattle.std.proofs.lemmas.Bool.Decides.{nat_tests}
+use Rattle.std.proofs.lemmas.Grind.{common_steps}
+use Rattle.std.proofs.{Common.{arith, [], ◌∷◌, sym, subst}, lemmas.Option.slice_get_past}
 use Rattle.allreduce_join.specs.Joins.{IsJoinable, pairs_of}
-use Rattle.frontier_audit.specs.{inner.Steps.JoinsSay, declared.verdict.Reason.TheVariants.JoinWrong}
+use Rattle.frontier_audit.specs.inner.Steps.{JoinsSay}
 use Rattle.frontier_audit.proofs.Pairing.{got_at, none_say, no_surplus, pairs_add, pairs_one, stopped, surplus, walk_ends, walk_goes, walk_stops}
 use Rattle.frontier_audit.proofs.joins.pairs_denied.Goals as goal
 
@@ -22,14 +24,7 @@ returns-in-Some c =
     (subst (JoinsSay t (pairs_of (c.first-item.result ∷ []) gather) joined l.place c.gathered_denied.new.place) c.in-Some.is said))
 
 pub loop-first-preserved : goal.loop-first-preserved
-loop-first-preserved c =
-    let l = c.loop-first in
-    let t = c.args.topology.now in
-    let joined = c.args.joined.now in
-    let gather = c.args.gather.now in
-    let said = subst (λ ps. JoinsSay t ps joined l.place c.gathered_denied.new.place c.in_ok-denial.field-0) (sym (pairs_one c.first-item.result gather)) c.in_ok-denial.ensures in
-    walk_goes t joined (λ xs. pairs_of xs gather) (pairs_add gather) c.args.reduce.now l.first-index c.first-item.result c.loop-first-test.true c.first-item.is 0 l.place c.gathered_denied.new.place l.invariant
-    (subst (JoinsSay t (pairs_of (c.first-item.result ∷ []) gather) joined l.place c.gathered_denied.new.place) c.in_default.is said)
+loop-first-preserved c = grind (arith, nat_tests, common_steps, pairs_one, walk_goes, pairs_add)
 
 pub returns-in-None : goal.returns-in-None
 returns-in-None c =
@@ -40,11 +35,4 @@ returns-in-None c =
     (walk_ends c.args.topology.now joined (λ xs. pairs_of xs gather) (pairs_add gather) c.args.reduce.now l.first-index 0 l.place c.loop-first-test.false l.invariant) (slice_get_past joined l.place c.in-None.ensures.lookup.3)
 
 pub returns-in-Some-get : goal.returns-in-Some-get
-returns-in-Some-get c =
-    let l = c.loop-first in
-    let joined = c.args.joined.now in
-    let gather = c.args.gather.now in
-    let p = c.in-Some-get.surplus.now in
-    let found = c.in-Some-get.ensures.lookup in
-    let all = walk_ends c.args.topology.now joined (λ xs. pairs_of xs gather) (pairs_add gather) c.args.reduce.now l.first-index 0 l.place c.loop-first-test.false l.invariant in
-    ap (λ x. Some (JoinWrong, x)) c.candidate.ensures ∙ surplus c.args.topology.now (pairs_of c.args.reduce.now gather) joined l.place p all (got_at joined l.place p found.3.0 found.1)
+returns-in-Some-get c = grind (arith, nat_tests, common_steps, walk_ends, pairs_add, surplus, got_at)

@@ -1,9 +1,8 @@
 use Rattle.std.proofs.Common.{◌<◌, length, sym, subst, ap, ◌∙◌, arith, All}
 use Rattle.outer_ports.specs.declared.part.Part.{Part}
 use Rattle.candidate_order.specs.Frontiers.{FrontierValue}
-use Rattle.topology_text.specs.Value.{NamedTopologyValue}
 use Rattle.allreduce_join.specs.Joins.{IsJoinable}
-use Rattle.frontier_audit.{specs.Joining.IsSummable, proofs.{Jointly.part_joinable, Right.joinable}}
+use Rattle.frontier_audit.proofs.{Jointly.part_joinable, Right.joinable}
 use Rattle.frontier_audit.proofs.joins.parts_joined.Goals as goal
 
 pub pairs_denied-requires-clause-reduce : goal.pairs_denied-requires-clause-reduce
@@ -23,7 +22,4 @@ pairs_denied-requires-clause-gather c =
     (part_joinable c.args.report.now c.frontiers.ensures.limits xs 1 x c.frontiers.ensures.frontiers some c.index-gather-1.is)
 
 pub pairs_denied-requires-clause-joined : goal.pairs_denied-requires-clause-joined
-pairs_denied-requires-clause-joined c =
-    let links = c.topology-topology.ensures.topology ∙ ap (λ (t : NamedTopologyValue). t.topology) c.topology.ensures.topology in
-    subst (λ ps. All (IsSummable c.topology-topology.result.now) ps) (sym c.joined.ensures.joined)
-    (subst (λ t. All (IsSummable t) c.args.report.now.joined) (sym links) (joinable c.args.report.now c.frontiers.ensures.limits c.requires))
+pairs_denied-requires-clause-joined c = grind (arith, joinable)

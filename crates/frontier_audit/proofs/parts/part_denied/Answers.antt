@@ -1,4 +1,4 @@
-use Rattle.std.proofs.Common.{sym, subst, ap, ◌∙◌, AllPairs}
+use Rattle.std.proofs.Common.{arith, sym, subst, ap, ◌∙◌, AllPairs}
 use Rattle.candidate_order.specs.{Costs.Before, Frontiers.UnknownValue}
 use Rattle.frontier_audit.specs.{Denials.each, inner.Steps.point_checked, Beside.denial_of}
 use Rattle.frontier_audit.proofs.Parting.{answers_decide, points_decide, refuted_decide, unknown_decide, unnamed_pairs}
@@ -14,9 +14,7 @@ returns-in-Some-clause-beside g c =
     points_decide c.args.part c.args.asked.now c.args.frontier.now c.in-Some.denial (sym c.in-Some.is ∙ points)
 
 pub returns-in-Some-2-clause-beside : goal.returns-in-Some-2-clause-beside
-returns-in-Some-2-clause-beside g c =
-    let points = c.in_ok-denial.ensures ∙ ap (λ ps. denial_of (each (point_checked c.args.asked.now) ps)) c.points.ensures in
-    refuted_decide c.args.part c.args.asked.now c.args.frontier.now (sym c.in_default.is ∙ points) c.in-Some-2.denial (rw (c.refuted.ensures, c.in-Some-2.is) at c.in_ok-denial-2.ensures.beside)
+returns-in-Some-2-clause-beside g c = grind (arith, refuted_decide)
 
 pub returns-in-Some-3-clause-beside : goal.returns-in-Some-3-clause-beside
 returns-in-Some-3-clause-beside g c =

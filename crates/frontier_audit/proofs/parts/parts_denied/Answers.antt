@@ -1,4 +1,4 @@
-use Rattle.std.proofs.Common.{ap, subst, sym, length, ◌≤◌}
+use Rattle.std.proofs.Common.{arith, ap, subst, sym, length, ◌≤◌}
 use Rattle.report_form.specs.Reports.{IsFrontier}
 use Rattle.frontier_audit.proofs.{Merging.{walk_ends, walk_on, walk_starts, walk_stops}, Parting.{at_part, in_report, named_in, separate_parts}}
 use Rattle.frontier_audit.proofs.parts.parts_denied.Goals as goal
@@ -7,9 +7,7 @@ pub loop-part-init : goal.loop-part-init
 loop-part-init g c = walk_starts _ _ _ _ _
 
 pub of-requires-clause-part : goal.of-requires-clause-part
-of-requires-clause-part g c =
-    let all = c.frontiers-part-items in
-    (at_part c.args.report.now all.ensures.limits all.result.now c.loop-part.part-index c.loop-part-item.result all.ensures.frontiers c.loop-part-test.true c.loop-part-item.is).among
+of-requires-clause-part g c = grind (arith, at_part)
 
 pub part_denied-requires : goal.part_denied-requires
 part_denied-requires g c =

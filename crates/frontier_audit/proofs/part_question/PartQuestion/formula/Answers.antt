@@ -1,14 +1,11 @@
-use Rattle.std.proofs.Common.{sym, ap, ◌∙◌, subst}
+use Rattle.std.proofs.Common.{arith, sym, ap, ◌∙◌}
 use Rattle.schedule.specs.Links.{TopologyValue}
-use Rattle.candidate_formula.specs.{Formulas.formula_for, Questions.{IsSought, copying_question}}
+use Rattle.candidate_formula.specs.{Formulas.formula_for, Questions.copying_question}
 use Rattle.frontier_audit.proofs.Asking.{is_sought, formula_is}
 use Rattle.frontier_audit.proofs.part_question.PartQuestion.formula.Goals as goal
 
 pub encode_candidate-requires : goal.encode_candidate-requires
-encode_candidate-requires c =
-    let a = c.self.inside in
-    subst (λ (t : TopologyValue). IsSought t a.spec c.args.candidate) (sym c.deref.ensures)
-    (is_sought a.topology.now _ a.spec a.limits a.cuts c.args.self.now c.self.view_is c.self.invariant c.args.candidate c.requires)
+encode_candidate-requires c = grind (arith, is_sought)
 
 pub returns : goal.returns
 returns c =
