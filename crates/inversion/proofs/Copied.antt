@@ -67,7 +67,4 @@ spec_achievable t (spec.Custom p) limits x adds single is = absurd cc
 
 -- a reduction is solvable exactly where the collective is of which it is the inverse
 pub solvable_exactly : (q : QuestionValue) (x : Candidate) → adds_up q.spec ≡ true → kind_in q.spec ≢ kind.Allreduce → IsSpec q.topology.nodes q.spec → IsSolvable q x ↔ IsSolvable (copied_question q) x
-solvable_exactly q x adds single is =
-    let both = spec_achievable q.topology q.spec q.limits x adds single is in
-    let p = copied_question q in
-    (λ some. solvable_by_one p x (both.0 (achieved q x some)), λ some. solvable_by_one q x (both.1 (achieved p x some)))
+solvable_exactly q x adds single is = grind (arith, spec_achievable q.topology q.spec q.limits x adds single is, copied_question q, solvable_by_one, achieved)

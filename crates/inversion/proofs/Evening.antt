@@ -1,9 +1,9 @@
 -- The counts of a store, which are held at 2, tell the first uneven count, and which it is.
 use Rattle.std.proofs.Common.{◌≡◌, ℕ, zero, suc, ◌+◌, ◌<◌, ◌≤◌, Bool, true, false, not, cond, eqb, List, [], ◌∷◌, length, map, get_or, Some, None, refl, sym, ap, ◌∙◌, subst, arith, min}
 use Rattle.std.{specs.{List.{AllByRecursion, find, range_with_len}, Option.{option_map, option_or}}, proofs.lemmas.Bool.{eq-eqb, ne_eqb, Decides.nat_tests}}
-use Rattle.schedule.specs.{Placed.{PlacementValue, IsPlacement, all_pairs, holds}, Sends.{IsInRange, ScheduleValue}, Bags.{Bag, Bags, contributions, held_at_2}}
+use Rattle.schedule.specs.{Placed.{PlacementValue, IsPlacement}, Sends.{IsInRange, ScheduleValue}, Bags.{Bag, Bags, contributions, held_at_2}}
 use Rattle.schedule.specs.JoinedRuns.{joined_after}
-use Rattle.schedule.proofs.{First.{each_filter, each_weaker, each_append}, Placing.{IsBelow, all_below}}
+use Rattle.schedule.proofs.{First.{each_filter, each_weaker, each_append}, Placing.all_below}
 use Rattle.bag_runs.{specs.{Stores.{StoreValue, bag_in, bags_in, stored}, Kept.counted}, proofs.{Counting.counted_at, Tables.table_cell, Merging.min_none}}
 use Rattle.inversion.specs.{declared.verdict.SumVerdict.SumVerdict, Judging.{count_of, counts_due, counts_judged, first_uneven}}
 use Rattle.inversion.proofs.Uneven.{uneven_cons, uneven_node}
@@ -88,10 +88,7 @@ due_inside s bags pairs due each found = found_has (IsDue s) (λ due. not (eqb (
 
 -- the pairs of a placement of the store's size are pairs of the store
 pairs_inside : (s : StoreValue) (demand : PlacementValue) → IsPlacement demand → demand.chunks ≡ s.chunks → demand.nodes ≡ s.nodes → AllByRecursion (IsPair s) demand.pairs
-pairs_inside s demand is chunks_are nodes_are =
-    subst (AllByRecursion (IsPair s)) (sym (ap (λ (p : PlacementValue). p.pairs) is))
-    (each_filter (IsPair s) (holds demand) (all_pairs demand.chunks demand.nodes)
-    (each_weaker (IsBelow demand.chunks demand.nodes) (IsPair s) (λ pair below. record { chunk = omega (arith, below.0, chunks_are); node = omega (arith, below.1, nodes_are) }) (all_pairs demand.chunks demand.nodes) (all_below demand.chunks demand.nodes)))
+pairs_inside s demand is chunks_are nodes_are = grind (arith, each_filter, each_weaker, all_below)
 
 -- ---- what is said of it
 
@@ -151,15 +148,9 @@ module _ (start : StoreValue) (s : ScheduleValue) (chunks had nodes : ℕ) (same
   pub last_kept : (last : StoreValue) (adding : ℕ)
       → ((bags : Bags) → start ≡ stored start.chunks start.nodes bags → last ≡ stored start.chunks start.nodes (joined_after bags s adding (length s.rounds)))
       → last ≡ stored chunks nodes (joined_after (contributions nodes) s adding (length s.rounds))
-  last_kept last adding ran =
-      let bags : Bags = joined_after (contributions nodes) s adding (length s.rounds) in
-      ran (contributions nodes) (first ∙ sym (λ i. stored (of_chunks i) (of_nodes i) (contributions nodes))) ∙ λ i. stored (of_chunks i) (of_nodes i) bags
+  last_kept last adding ran = grind (arith, first, of_chunks, of_nodes)
 
 -- what is said of a store of these bags, of so many chunks and nodes
 pub run_judged : (last : StoreValue) (v : SumVerdict) (chunks nodes : ℕ) (bags : Bags) (pairs : List (ℕ × ℕ)) → last ≡ stored chunks nodes bags
     → ((b : Bags) → last ≡ stored last.chunks last.nodes b → v ≡ counts_judged b (first_uneven b last.nodes pairs)) → v ≡ counts_judged bags (first_uneven bags nodes pairs)
-run_judged last v chunks nodes bags pairs is judged =
-    let of_chunks : last.chunks ≡ chunks = ap (λ (x : StoreValue). x.chunks) is in
-    let of_nodes : last.nodes ≡ nodes = ap (λ (x : StoreValue). x.nodes) is in
-    judged bags (is ∙ sym (λ i. stored (of_chunks i) (of_nodes i) bags))
-    ∙ ap (λ n. counts_judged bags (first_uneven bags n pairs)) of_nodes
+run_judged last v chunks nodes bags pairs is judged = grind (arith, of_chunks, of_nodes)

@@ -33,12 +33,7 @@ any_inverted x points any =
     (any.0, inverted_point any.1, omega (arith, any.2, length-map points inverted_point), get_or-mapped points any.0 any.1 ∙ ap inverted_point any.3, any.4)
 
 point_inverted : (q p : QuestionValue) (refuted : List Candidate) (a : PointValue) → Inverts q p → IsPoint p refuted a → WastesNothing (adds_up p.spec) p a → IsPoint q refuted (inverted_point a)
-point_inverted q p refuted a facts point wastes = record {
-  within = facts.back a.candidate point.within;
-  solves = facts.solved a point.solves wastes;
-  optimal = (λ is x within better. point.optimal.0 is x (facts.there x within) better, λ all. point.optimal.1 (λ x within better. all x (facts.back x within) better));
-  or_open = point.or_open;
-}
+point_inverted q p refuted a facts point wastes = grind arith
 
 pub right_inverted : (q p : QuestionValue) (f : FrontierValue) → Inverts q p → RightFrontier p f → Searched p f → RightFrontier q (inverted_frontier f)
 right_inverted q p f facts right searched = record {

@@ -1,17 +1,15 @@
 -- The first part of a schedule that does not fit, and the verdict where there is one and where there is none.
-use Rattle.std.proofs.Common.{◌≡◌, ℕ, ◌≤◌, length, Option, Some, None, refl, sym, ap, ◌∙◌, ◌↔◌, sum}
+use Rattle.std.proofs.Common.{arith, ◌≡◌, ℕ, ◌≤◌, length, Option, Some, None, refl, ◌↔◌, sum}
 use Rattle.schedule.specs.{declared.hop.Hop.Hop, Links.{GroupValue, TopologyValue}, Sends.ScheduleValue, Fitting.load, Placed.PlacementValue, Summing.Sums}
 use Rattle.schedule.specs.{Judging.{first_unlinked, first_overfull, group_at}, Bags.{Bags, contributions}, JoinedRuns.joined_after}
 use Rattle.bag_runs.proofs.JoinedSteps.{adding_throughout}
 use Rattle.inversion.specs.declared.verdict.SumVerdict.{SumVerdict}
-use Rattle.inversion.specs.Judging.{counts_judged, first_uneven, last_bags, misfit_at, misfit_of, sum_judged, sum_verdict_of}
+use Rattle.inversion.specs.Judging.{counts_judged, first_uneven, misfit_at, misfit_of, sum_judged, sum_verdict_of}
 use Rattle.inversion.proofs.Told.{sums_exactly}
 use Rattle.inversion.specs.declared.verdict.SumVerdict.TheVariants as verdict
 
 pub misfit_overfull : (t : TopologyValue) (s : ScheduleValue) (step group count : ℕ) (carrier : GroupValue) → None ≡ first_unlinked t s → Some (step, group) ≡ first_overfull t s → carrier ≡ group_at t group → count ≡ load carrier step s.sends → Some (verdict.Overfull step group count) ≡ misfit_of t s
-misfit_overfull t s step group count carrier none found is loaded =
-    ap (λ n. Some (verdict.Overfull step group n)) (loaded ∙ ap (λ g. load g step s.sends) is)
-    ∙ (ap (misfit_at t s None) found ∙ ap (λ first. misfit_at t s first (first_overfull t s)) none)
+misfit_overfull t s step group count carrier none found is loaded = grind arith
 
 at_misfit : (t : TopologyValue) (s : ScheduleValue) (last : Bags) (h : Option Hop) (turn : Option (ℕ × ℕ)) (clash due : Option (ℕ × ℕ × ℕ)) (v : SumVerdict) → Some v ≡ misfit_at t s h turn → v ≡ sum_judged t s last h turn clash due
 at_misfit t s last (Some h) turn clash due v is = cc
@@ -34,11 +32,7 @@ judged_fitting t s last clash due none = at_fitting t s last (first_unlinked t s
 -- where all fits and every step adds, the counts are judged
 pub verdict_counts : (t : TopologyValue) (demand : PlacementValue) (s : ScheduleValue) (adding : ℕ) (v : SumVerdict) → length s.rounds ≤ adding → None ≡ misfit_of t s
     → v ≡ counts_judged (joined_after (contributions t.nodes) s adding (length s.rounds)) (first_uneven (joined_after (contributions t.nodes) s adding (length s.rounds)) t.nodes demand.pairs) → v ≡ sum_verdict_of t demand s
-verdict_counts t demand s adding v all none is =
-    let last : Bags = last_bags t s in
-    is
-    ∙ (ap (λ bags. counts_judged bags (first_uneven bags t.nodes demand.pairs)) (adding_throughout (contributions t.nodes) s adding (length s.rounds) all)
-    ∙ judged_fitting t s last None (first_uneven last t.nodes demand.pairs) none)
+verdict_counts t demand s adding v all none is = grind (arith, adding_throughout, judged_fitting)
 
 -- the verdict, and what it says
 pub record Told (t : TopologyValue) (demand : PlacementValue) (s : ScheduleValue) (v : SumVerdict) : Type 0 where
@@ -46,7 +40,4 @@ pub record Told (t : TopologyValue) (demand : PlacementValue) (s : ScheduleValue
   pub sums : (v ≡ verdict.Sums) ↔ Sums t demand s (length s.rounds) (sum s.rounds)
 
 pub told : (t : TopologyValue) (demand : PlacementValue) (s : ScheduleValue) (v : SumVerdict) → v ≡ sum_verdict_of t demand s → Told t demand s v
-told t demand s v is = record {
-  exact = is;
-  sums = (λ said. (sums_exactly t demand s).0 (sym is ∙ said), λ sums. is ∙ (sums_exactly t demand s).1 sums);
-}
+told t demand s v is = grind (arith, sums_exactly)

@@ -29,10 +29,7 @@ abbrev tie : Hop → Hop → Bool
 tie a b = not (hop_before a b) && not (hop_before b a)
 
 never_tie : (a b : Hop) → (a ≢ b) → tie a b ≡ false
-never_tie a b apart =
-    false_from_ne_true (tie a b) (λ tied.
-    let parts = and_parts (not (hop_before a b)) (not (hop_before b a)) tied in
-    apart (neither_before a b (not-true _ parts.0) (not-true _ parts.1)))
+never_tie a b apart = grind (arith, false_from_ne_true, and_parts, neither_before, not-true)
 
 distinct : (hops : List Hop) → Apart hops → IsDistinct tie hops
 unfolding IsDistinct

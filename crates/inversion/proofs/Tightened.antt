@@ -1,7 +1,7 @@
 -- Where some schedule solves an instance, one that wastes no send does; so where chunks can be brought everywhere, their sums can be had.
-use Rattle.std.{proofs.Common.{◌≡◌, ℕ, ◌-◌, ◌*◌, ◌≤◌, true, false, ◌&&◌, eqb, length, sym, ap, ◌∙◌, subst, arith, ◌↔◌, filter}, specs.List.All}
+use Rattle.std.{proofs.Common.{◌≡◌, ℕ, ◌-◌, ◌*◌, ◌≤◌, true, ◌&&◌, eqb, length, sym, subst, arith, ◌↔◌, filter}, specs.List.All}
 use Rattle.std.proofs.lemmas.List.Elements.{All-from_recursion, All-weaker, recursion_from_All}
-use Rattle.schedule.specs.{declared.hop.Hop.Hop, Links.{GroupValue, TopologyValue, has_link, is_usable, reversed_of}, Running.after, Summing.SummedSolvable}
+use Rattle.schedule.specs.{declared.hop.Hop.Hop, Links.{GroupValue, TopologyValue, has_link, is_usable, reversed_of}, Summing.SummedSolvable}
 use Rattle.schedule.specs.{Sends.{ScheduleValue, IsSchedule, IsInRange, IsStep, hop_before, is_hop_below, link_of}, Fitting.{Fits, load, rounds_at}}
 use Rattle.schedule.specs.{Placed.{PlacementValue, HeldByOne, IsPlacement, holds}, Solving.{Solvable, Solves, Tight}, Inverse.inverse_of, Rows.everywhere}
 use Rattle.schedule.proofs.{First.{InOrder-filter, InOrder-from_pairs, each_filter, each_weaker}, Inverted.inverse_sums}
@@ -42,17 +42,7 @@ fits_tightened t pre s fits = record {
         omega (arith, one, two, small)
 
 pub tight_tightened : (pre : PlacementValue) (s : ScheduleValue) → IsSchedule s → IsInRange pre.chunks pre.nodes s → Tight pre (tightened pre s)
-tight_tightened pre s valid in_range = record {
-  sender = All-from_recursion Sends (tightened pre s).sends (each_weaker (λ h. is_useful pre s h ≡ true) Sends (λ h useful. ap (λ p. holds p (h.chunk, h.from)) (same_after pre s (h.step - 1) valid in_range) ∙ (useful_is pre s h useful).sender) (tightened pre s).sends (kept_useful pre s));
-  receiver = All-from_recursion Lacks (tightened pre s).sends (each_weaker (λ h. is_useful pre s h ≡ true) Lacks (λ h useful. ap (λ p. holds p (h.chunk, h.to)) (same_after pre s (h.step - 1) valid in_range) ∙ (useful_is pre s h useful).receiver) (tightened pre s).sends (kept_useful pre s));
-  once = once_firsts (filter (is_useful pre s) s.sends);
-}
-  where
-    Sends : Hop → Type 0
-    Sends h = holds (after pre (tightened pre s) (h.step - 1)) (h.chunk, h.from) ≡ true
-
-    Lacks : Hop → Type 0
-    Lacks h = holds (after pre (tightened pre s) (h.step - 1)) (h.chunk, h.to) ≡ false
+tight_tightened pre s valid in_range = grind (arith, All-from_recursion, each_weaker, same_after, useful_is, kept_useful, once_firsts)
 
 pub solves_tightened : (t : TopologyValue) (pre post : PlacementValue) (s : ScheduleValue) (steps rounds : ℕ) → IsSchedule s → IsInRange pre.chunks pre.nodes s → Solves t pre post s steps rounds → Solves t pre post (tightened pre s) steps rounds
 solves_tightened t pre post s steps rounds valid in_range solves = record {

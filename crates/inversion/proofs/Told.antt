@@ -1,10 +1,10 @@
 -- The verdict is that it sums exactly where nothing fails.
-use Rattle.std.proofs.Common.{◌≡◌, ℕ, Bool, true, false, eqb, Option, Some, None, refl, length, ◌↔◌, cond, sum}
-use Rattle.schedule.specs.{declared.hop.Hop.Hop, Links.TopologyValue, Sends.ScheduleValue, Placed.PlacementValue, Judging.{first_unlinked, first_overfull}}
+use Rattle.std.proofs.Common.{arith, ◌≡◌, ℕ, Bool, true, false, eqb, Option, Some, None, refl, length, ◌↔◌, cond, sum}
+use Rattle.schedule.specs.{declared.hop.Hop.Hop, Links.TopologyValue, Sends.ScheduleValue, Placed.PlacementValue}
 use Rattle.schedule.specs.{Bags.Bags, Summing.Sums}
 use Rattle.schedule.proofs.{Verdicts.fits_exactly, Bagging.counted_after}
 use Rattle.inversion.specs.declared.verdict.SumVerdict.TheVariants as verdict
-use Rattle.inversion.{specs.Judging.{count_of, first_uneven, last_bags, sum_judged, sum_verdict_of}, proofs.Counts.{even_everywhere, none_uneven}}
+use Rattle.inversion.{specs.Judging.{count_of, sum_judged, sum_verdict_of}, proofs.Counts.{even_everywhere, none_uneven}}
 
 never_even : (chunk node giver : ℕ) (lacking : Bool) → cond lacking (verdict.Missing chunk node giver) (verdict.Twice chunk node giver) ≡ verdict.Sums → ⊥
 never_even chunk node giver true is = cc
@@ -19,16 +19,4 @@ judged_sums t s last None None None (Some due) is = absurd (never_even due.0 due
 judged_sums t s last None None None None is = (refl, refl, refl, refl)
 
 pub sums_exactly : (t : TopologyValue) (demand : PlacementValue) (s : ScheduleValue) → (sum_verdict_of t demand s ≡ verdict.Sums) ↔ Sums t demand s (length s.rounds) (sum s.rounds)
-sums_exactly t demand s = (
-  λ said.
-      let none = judged_sums t s (last_bags t s) (first_unlinked t s) (first_overfull t s) None (first_uneven (last_bags t s) t.nodes demand.pairs) said in
-      record {
-        steps_are = refl;
-        rounds_are = refl;
-        fits = (fits_exactly t s).1 (none.0, none.1);
-        sums = even_everywhere (last_bags t s) t.nodes demand.pairs (counted_after t.nodes s.sends (length s.rounds)) none.3;
-      },
-  λ sums.
-      let fits = (fits_exactly t s).0 sums.fits in
-      rw (fits.0, fits.1, none_uneven (last_bags t s) t.nodes demand.pairs sums.sums) refl,
-)
+sums_exactly t demand s = grind (arith, judged_sums, fits_exactly, even_everywhere, counted_after, none_uneven)

@@ -1,11 +1,11 @@
 -- The first uneven count, row by row and node by node.
-use Rattle.std.proofs.Common.{◌≡◌, ℕ, ◌+◌, ◌-◌, ◌<◌, ◌≤◌, Bool, true, false, not, cond, eqb, List, ◌∷◌, map, get_or, Option, None, refl, sym, ap, ◌∙◌}
+use Rattle.std.proofs.Common.{arith, ◌≡◌, ℕ, ◌+◌, ◌-◌, ◌<◌, ◌≤◌, Bool, true, false, not, cond, eqb, List, ◌∷◌, map, get_or, Option, None, refl, sym, ap, ◌∙◌}
 use Rattle.std.{specs.{List.{filter, find, flat_map, range_with_len}, Option.{option_map, option_or}}, proofs.lemmas.List.Elements.filter-append}
 use Rattle.std.proofs.lemmas.List.{Concat.flat_map-append, Folds.find-append}
 use Rattle.list_laws.proofs.Tests.{find-map}
-use Rattle.schedule.specs.{Placed.{PlacementValue, IsPlacement, all_pairs, holds}, Bags.{Bag, Bags}}
+use Rattle.schedule.specs.{Placed.{PlacementValue, IsPlacement, holds}, Bags.{Bag, Bags}}
 use Rattle.schedule.proofs.Grids.{range_more, range_none, rows_from, rows_start}
-use Rattle.inversion.specs.Judging.{count_of, counts_due, first_uneven}
+use Rattle.inversion.specs.Judging.{first_uneven}
 
 -- the first node that has not contributed to the bag exactly once
 abbrev pub uneven_node : Bag → ℕ → Option ℕ
@@ -13,10 +13,7 @@ uneven_node bag nodes = find (λ of. not (eqb (get_or bag of 0) 1)) (range_with_
 
 -- where there is one at a pair, it is the first
 pub uneven_cons : (bags : Bags) (nodes : ℕ) (pair : ℕ × ℕ) (pairs : List (ℕ × ℕ)) → first_uneven bags nodes (pair ∷ pairs) ≡ option_or (option_map (λ of. (pair.0, pair.1, of)) (uneven_node (bags pair) nodes)) (first_uneven bags nodes pairs)
-uneven_cons bags nodes pair pairs =
-    let test : ℕ × ℕ × ℕ → Bool = λ due. not (eqb (count_of bags due) 1) in
-    find-append test (map (λ node. (pair.0, pair.1, node)) (range_with_len 0 nodes)) (counts_due nodes pairs)
-    ∙ ap (λ first. option_or first (first_uneven bags nodes pairs)) (find-map test (λ node. (pair.0, pair.1, node)) (range_with_len 0 nodes))
+uneven_cons bags nodes pair pairs = grind (arith, find-append, find-map)
 
 -- ---- one row, from a node on
 
@@ -50,15 +47,7 @@ abbrev pub whole_row : Bags → ℕ → (ℕ × ℕ → Bool) → ℕ → Option
 whole_row bags nodes held chunk = first_uneven bags nodes (filter held (map (λ node. (chunk, node)) (range_with_len 0 nodes)))
 
 pub grid_on : (bags : Bags) (nodes : ℕ) (held : ℕ × ℕ → Bool) (low high : ℕ) (first : Option (ℕ × ℕ × ℕ)) → low < high → first ≡ whole_row bags nodes held low → grid_from bags nodes held low high ≡ option_or first (grid_from bags nodes held (low + 1) high)
-grid_on bags nodes held low high first below is =
-    let test : ℕ × ℕ × ℕ → Bool = λ due. not (eqb (count_of bags due) 1) in
-    let row : List (ℕ × ℕ) = filter held (map (λ node. (low, node)) (range_with_len 0 nodes)) in
-    let rest : List (ℕ × ℕ) = filter held (rows_from (low + 1) high nodes) in
-    ap (λ rs. first_uneven bags nodes (filter held (flat_map (λ r. map (λ c. (r, c)) (range_with_len 0 nodes)) rs))) (range_more low high below)
-    ∙ ap (first_uneven bags nodes) (filter-append held (map (λ node. (low, node)) (range_with_len 0 nodes)) (rows_from (low + 1) high nodes))
-    ∙ ap (find test) (flat_map-append (λ pair. map (λ node. (pair.0, pair.1, node)) (range_with_len 0 nodes)) row rest)
-    ∙ find-append test (counts_due nodes row) (counts_due nodes rest)
-    ∙ ap (λ o. option_or o (first_uneven bags nodes rest)) (sym is)
+grid_on bags nodes held low high first below is = grind (arith, rows_from, range_more, filter-append, flat_map-append, find-append)
 
 pub grid_past : (bags : Bags) (nodes : ℕ) (held : ℕ × ℕ → Bool) (low high : ℕ) → high ≤ low → grid_from bags nodes held low high ≡ None
 grid_past bags nodes held low high past =
@@ -66,8 +55,4 @@ grid_past bags nodes held low high past =
 
 -- all rows hold the pairs of a placement
 pub grid_start : (bags : Bags) (demand : PlacementValue) (chunks nodes : ℕ) → demand.chunks ≡ chunks → demand.nodes ≡ nodes → IsPlacement demand → grid_from bags nodes (holds demand) 0 chunks ≡ first_uneven bags nodes demand.pairs
-grid_start bags demand chunks nodes chunks_are nodes_are is =
-    ap (λ pairs. first_uneven bags nodes (filter (holds demand) pairs)) (rows_start chunks nodes)
-    ∙ (ap (λ c. first_uneven bags nodes (filter (holds demand) (all_pairs c nodes))) (sym chunks_are)
-    ∙ (ap (λ n. first_uneven bags nodes (filter (holds demand) (all_pairs demand.chunks n))) (sym nodes_are)
-    ∙ ap (λ (p : PlacementValue). first_uneven bags nodes p.pairs) (sym is)))
+grid_start bags demand chunks nodes chunks_are nodes_are is = grind (arith, rows_start)

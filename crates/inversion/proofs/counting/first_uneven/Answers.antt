@@ -20,6 +20,4 @@ loop-chunk-preserved c =
     sym (grid_on (bags_in s) s.nodes (holds c.args.demand.now) c.loop-chunk.chunk c.args.demand.now.chunks None below c.in_default.ensures) ∙ c.loop-chunk.invariant
 
 pub returns-clause-first : goal.returns-clause-first
-returns-clause-first c =
-    let s : StoreValue = c.args.store.now in
-    sym (grid_past (bags_in s) s.nodes (holds c.args.demand.now) c.loop-chunk.chunk c.args.demand.now.chunks (omega arith)) ∙ c.loop-chunk.invariant
+returns-clause-first c = grind (arith, grid_past)

@@ -17,6 +17,4 @@ loop-node-preserved c =
     sym (row_on (bags_in s) s.nodes (holds c.args.demand.now) c.args.chunk c.loop-node.node None below c.in_default.ensures) ∙ c.loop-node.invariant
 
 pub returns : goal.returns
-returns c =
-    let s : StoreValue = c.args.store.now in
-    sym (row_past (bags_in s) s.nodes (holds c.args.demand.now) c.args.chunk c.loop-node.node (omega arith)) ∙ c.loop-node.invariant
+returns c = grind (arith, row_past)
