@@ -101,9 +101,7 @@ module _ (t : TopologyValue) (pre post : PlacementValue) (s : ScheduleValue) (st
       ∙ extra_value k j step extra
 
   rounds_allowed : Allows own (count_of_rounds f)
-  rounds_allowed = record {
-    says = λ more o outs. grind (arith, nat_tests, negation_is (own ++ more) (o (f.extra + 1)), outs (f.extra + 1) (omega arith) (omega arith), rounds_counted_few);
-  }
+  rounds_allowed = grind (arith, nat_tests, negation_is, rounds_counted_few)
 
   group_allowed : (k : ℕ) → IsStep steps k → (i : ℕ) (d : GroupValue) → i < length t.groups → Allows own (count_of_group f k (get_or t.groups i d))
   group_allowed k step i d low =

@@ -5,7 +5,7 @@ use Rattle.std.proofs.{lemmas.List.{Folds.list_any_at, FromFn.length-map-range_w
 use Rattle.std.proofs.lemmas.Bool.Decides.{nat_tests}
 use Rattle.schedule.specs.{Links.{GroupValue, TopologyValue, IsTopology, IsBelow, is_usable, usable_links}, Placed.{PlacementValue, same_pair}}
 use Rattle.schedule.proofs.Placing.{holds-placed, pair_itself}
-use Rattle.cnf_formula.{specs.{Literals.{LitValue, yes, negation}, Formulas.{IsAbout, IsClause, IsFormula}}, proofs.Clauses.negation_about}
+use Rattle.cnf_formula.{specs.{Literals.{LitValue, negation}, Formulas.{IsAbout, IsClause, IsFormula}}, proofs.Clauses.negation_about}
 use Rattle.cardinality.{specs.{Counting.output, Totalizers.totalizer_of}, proofs.{Totals.totalizer_is_counter, Wider.{clauses_more, clause_more, about_more}}}
 use Rattle.send_encoding.specs.{Variables.{SendMapValue, map_of, steps_of, sent, link_number}, Sending.sending}
 use Rattle.send_encoding.proofs.{Everywhere.{in_map, in_flat, From, in_range, some_in_flat, place_below}, Mapped.links_join}
@@ -27,9 +27,7 @@ more_variables before [] = omega arith
 more_variables before (count ∷ counts) = grind (arith, more_variables (before + (totalizer_of before count.inputs count.bound).vars) counts)
 
 output_about : (before : ℕ) (count : Count) → 0 < length count.inputs → All (IsAbout before) count.inputs → (t : ℕ) → 0 < t → t ≤ count.bound + 1 → IsAbout (before + (totalizer_of before count.inputs count.bound).vars) (output (totalizer_of before count.inputs count.bound) t)
-output_about before count some about t low high =
-    let counts = totalizer_is_counter before count.inputs count.bound some about in
-    counts.outputs_about (t - 1) (yes 0) (omega (arith, counts.outputs_are, low, high))
+output_about before count some about t low high = grind (arith, totalizer_is_counter before count.inputs count.bound some about)
 
 pub counts_about : (own before : ℕ) (counts : List Count) → own ≤ before → All (IsCount own) counts → All (IsClause (counters_after before counts).vars) (counters_after before counts).clauses
 counts_about own before [] le a = All-nil (IsClause before)

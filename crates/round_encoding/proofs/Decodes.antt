@@ -2,7 +2,7 @@
 use Rattle.std.proofs.Common.{◌≡◌, ℕ, ◌≤◌, Bool, List, length, sym, ap, subst, arith}
 use Rattle.schedule.specs.{Links.TopologyValue, Placed.PlacementValue}
 use Rattle.cnf_formula.specs.Formulas.{Satisfies}
-use Rattle.round_encoding.specs.{declared.encoding.Encoding.Encoding, Frames.{Frame, frame_of, own_variables}, Rounding.{counts_in, formula_of}}
+use Rattle.round_encoding.specs.{declared.encoding.Encoding.Encoding, Frames.{Frame, frame_of, own_variables}, Rounding.formula_of}
 use Rattle.round_encoding.specs.{Decoding.decoded, Candidates.{IsEncodingOf, IsTightSolution}}
 use Rattle.round_encoding.proofs.{Counted.more_variables, Exactly.sound}
 
@@ -17,9 +17,7 @@ module _ (t : TopologyValue) (pre post : PlacementValue) (steps rounds : ℕ) (e
   satisfies_whole = subst (λ (x : Encoding). Satisfies values x.formula) encodes.is satisfies
 
   pub valued : own_variables frame ≤ length values
-  valued =
-      let f = frame_of t pre steps rounds in
-      omega (arith, ap own_variables same_frame, more_variables (own_variables f) (counts_in f t), satisfies_whole.values_are)
+  valued = grind (arith, same_frame, more_variables)
 
   pub decodes : IsTightSolution t pre post (decoded frame values) steps rounds
   decodes = subst (λ f. IsTightSolution t pre post (decoded f values) steps rounds) (sym same_frame) (sound t pre post steps rounds values encodes.candidate satisfies_whole)

@@ -1,4 +1,5 @@
 -- A candidate's formula is satisfiable exactly where the candidate is solvable.
+use Rattle.std.proofs.Common.{arith}
 use Rattle.std.specs.Prelude.{ℕ, Bool, List}
 use Rattle.schedule.specs.{Links.TopologyValue, Placed.PlacementValue, Sends.{ScheduleValue, IsSchedule, IsInRange}, Solving.{Solves, Solvable}}
 use Rattle.send_encoding.specs.{Variables.map_of, Agreeing.SatisfiesAs}
@@ -24,6 +25,4 @@ exactly t pre post steps rounds c = (
 
 pub completely : (t : TopologyValue) (pre post : PlacementValue) (s : ScheduleValue) (steps rounds : ℕ) → IsCandidate t pre post steps rounds → IsSchedule s → IsInRange pre.chunks pre.nodes s → Solves t pre post s steps rounds
     → SatisfiesAs (map_of t pre steps) pre s (formula_of t pre post steps rounds)
-completely t pre post s steps rounds c valid range solves =
-    let found = complete t pre post s steps rounds c.topology c.nodes c.chunks c.some valid range solves in
-    record { values = found.0; satisfies = found.1; arrivals = found.2 }
+completely t pre post s steps rounds c valid range solves = grind (arith, complete t pre post s steps rounds c.topology c.nodes c.chunks c.some valid range solves)

@@ -1,5 +1,6 @@
 -- The rounds that an assignment says: one of each step, the extra rounds that are true, and what is left to the last step.
-use Rattle.std.proofs.Common.{◌≡◌, ℕ, zero, suc, ◌+◌, ◌-◌, ◌<◌, ◌≤◌, Bool, true, false, cond, eqb, List, [], ◌∷◌, map, length, get_or, sum, refl, sym, ap, ◌∙◌, subst, arith, if◌then◌else◌, flat_map, count_by, sum_by, All}
+use Rattle.std.proofs.lemmas.Grind.{common_steps}
+use Rattle.std.proofs.Common.{◌≡◌, ℕ, zero, suc, ◌+◌, ◌-◌, ◌<◌, ◌≤◌, Bool, true, false, cond, eqb, List, [], ◌∷◌, length, get_or, sum, refl, sym, ap, ◌∙◌, subst, arith, if◌then◌else◌, flat_map, count_by, sum_by, All}
 use Rattle.std.{specs.List.range_with_len, proofs.lemmas.Bool.Decides.nat_tests}
 use Rattle.std.proofs.lemmas.List.{Sums.{sum_by-le-sum_by, sum_by-cons, sum_by-append, sum-map, get_or-le-sum_by}, FromFn.{length-range_with_len, get_or-range_with_len, length-map-range_with_len, get_or-map-range_with_len}}
 use Rattle.schedule.specs.Sends.{IsRound, IsStep}
@@ -55,10 +56,7 @@ module _ (f : Frame) (values : List Bool) where
   all_said = sum_by extra_said (range_with_len 1 steps)
 
   pub all_are : true_inputs values (count_of_rounds f).inputs ≡ all_said
-  all_are =
-      count_flat_is (is_true values) (λ k. map (extra_round f k) (range_with_len 1 f.extra)) (steps_of f.map)
-      ∙ sum_alike_all (λ k. count_by (is_true values) (map (extra_round f k) (range_with_len 1 f.extra))) extra_said (steps_of f.map)
-      (λ k. count_alike (is_true values) (λ j. is_true values (extra_round f k j)) (λ j. Unit {0}) (extra_round f k) (range_with_len 1 f.extra) (λ j _. refl) (λ i d low. tt))
+  all_are = grind (arith, nat_tests, common_steps, count_flat_is, sum_alike_all, count_by, count_alike)
 
   abbrev at_step : ℕ → ℕ
   at_step k = rounds_said f values k + (if eqb k steps then rounds_left f values else 0)
@@ -68,9 +66,7 @@ module _ (f : Frame) (values : List Bool) where
 
   module _ (few : true_inputs values (count_of_rounds f).inputs ≤ f.extra) (some : 0 < steps) where
     left_is : rounds_left f values ≡ f.extra - all_said
-    left_is =
-        let said : sum (map (rounds_said f values) (steps_of f.map)) ≡ steps + all_said = sum-map (rounds_said f values) (steps_of f.map) ∙ one_more_each extra_said 1 steps in
-        omega (arith, said)
+    left_is = grind (arith, sum-map (rounds_said f values) (steps_of f.map) ∙ one_more_each extra_said 1 steps)
 
     pub rounds_sum : sum (rounds_of f values) ≡ steps + f.extra
     rounds_sum =

@@ -1,9 +1,10 @@
 -- The counters of a candidate are small.
-use Rattle.std.proofs.Common.{◌≡◌, ℕ, zero, suc, ◌+◌, ◌*◌, ◌<◌, ◌≤◌, Bool, true, false, List, [], ◌∷◌, map, length, get_or, refl, ap, arith, length-append, if◌then◌else◌, flat_map, nat_lt, sum_by, All}
+use Rattle.std.proofs.lemmas.Bool.Decides.{nat_tests}
+use Rattle.std.proofs.lemmas.Grind.{common_steps}
+use Rattle.std.proofs.Common.{◌≡◌, ℕ, zero, suc, ◌+◌, ◌*◌, ◌<◌, ◌≤◌, Bool, true, false, List, [], ◌∷◌, map, get_or, refl, ap, arith, length-append, if◌then◌else◌, flat_map, nat_lt, sum_by, All}
 use Rattle.std.{specs.List.range_with_len, proofs.{Math.Nat.{mul-le-mul_left, mul-le-mul_right}, lemmas.List.FromFn.length-map-range_with_len}}
 use Rattle.std.proofs.lemmas.{List.Sums.{sum_by-cons, sum_by-append}, Nat.mul-le}
 use Rattle.schedule.specs.Links.{GroupValue, TopologyValue, IsGroup}
-use Rattle.cnf_formula.specs.Literals.{LitValue, negation}
 use Rattle.send_encoding.{specs.Variables.steps_of, proofs.Grid.rows_length}
 use Rattle.round_encoding.specs.{inner.Counts.room, Frames.{Frame, extra_round}, Rounding.{Count, count_of_rounds, count_of_group, counts_in}}
 use Rattle.round_encoding.proofs.{Carried.inputs_length, Counted.{rounds_counted, of_counts}, LowCounts.{space, IsLow}}
@@ -13,18 +14,7 @@ module _ (f : Frame) (few : f.extra ≤ 8) where
   rounds_low steps extra = record { some = (rounds_counted f steps extra).some; low = omega (arith, few); says = λ o. omega arith }
 
   group_low : (s : ℕ) (group : GroupValue) → 0 < f.map.chunks → IsGroup group → IsLow (count_of_group f s group)
-  group_low s group chunks ok =
-      let all = inputs_length f s group in
-      let links : f.map.chunks * 1 ≤ f.map.chunks * length group.links = mul-le-mul_left f.map.chunks ok.some in
-      let carried : 1 * (1 + f.extra) ≤ group.width * (1 + f.extra) = mul-le-mul_right (1 + f.extra) ok.positive in
-      record {
-        some = omega (arith, all, links, chunks);
-        low = omega (arith, mul-le group.width (1 + f.extra) 16 9 ok.narrow (omega (arith, few)));
-        says = λ o.
-            let each : List (List LitValue) = map (λ j. negation (o (group.width * j + 1)) ∷ extra_round f s j ∷ []) (range_with_len 1 f.extra) in
-            let many : length each ≡ f.extra = length-map-range_with_len _ 1 f.extra in
-            omega (arith, length-append each ((negation (o (group.width * (1 + f.extra) + 1)) ∷ []) ∷ []), many, carried);
-      }
+  group_low s group chunks ok = grind (arith, inputs_length, mul-le-mul_left, mul-le-mul_right, mul-le, length-map-range_with_len, length-append)
 
 -- ---- together
 
@@ -33,9 +23,7 @@ space_of_rounds f = ap (λ n. n * (f.extra + 1)) (rows_length (λ s. map (extra_
 
 space_of_groups : (f : Frame) (s : ℕ) (groups : List GroupValue) → sum_by space (map (count_of_group f s) groups) ≡ sum_by (room f) groups
 space_of_groups f s [] = refl
-space_of_groups f s (group ∷ groups) =
-    let here : space (count_of_group f s group) ≡ room f group = ap (λ n. n * (group.width * (1 + f.extra) + 1)) (inputs_length f s group) in
-    omega (arith, sum_by-cons space (count_of_group f s group) (map (count_of_group f s) groups), sum_by-cons (room f) group groups, here, space_of_groups f s groups)
+space_of_groups f s (group ∷ groups) = grind (arith, nat_tests, common_steps, space, inputs_length, sum_by-cons, space_of_groups f s groups)
 
 space_of_steps : (f : Frame) (groups : List GroupValue) (a n : ℕ) → sum_by space (flat_map (λ s. map (count_of_group f s) groups) (range_with_len a n)) ≡ n * sum_by (room f) groups
 space_of_steps f groups a zero = omega arith

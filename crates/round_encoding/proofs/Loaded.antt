@@ -18,9 +18,7 @@ module _ (t : TopologyValue) (pre post : PlacementValue) (s : ScheduleValue) (st
     group = get_or t.groups i d
 
     link_is : (link : ℕ × ℕ) → (link.0 < t.nodes) × (link.1 < t.nodes) × (is_usable t link ≡ true) → IsLinkOf m (link_number m link, link)
-    link_is link at =
-        let listed : list_any (same_pair link) (usable_links t) ≡ true = holds-placed t.nodes t.nodes (is_usable t) link at.0 at.1 ∙ at.2 in
-        record { number = place_below (same_pair link) (usable_links t) listed; from = at.0; to = at.1; is = pair_is link (get_or (usable_links t) (link_number m link) (0, 0)) (passes_at (same_pair link) (usable_links t) (0, 0) listed) }
+    link_is link at = grind (arith, holds-placed, place_below, pair_is, passes_at)
 
     -- each link of the group is one of the map, and stands in the group
     abbrev pub Good : ℕ × ℕ → Type 0

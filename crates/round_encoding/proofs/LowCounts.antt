@@ -1,5 +1,5 @@
 -- Counters up to low bounds have few variables and clauses together.
-use Rattle.std.proofs.Common.{◌≡◌, ℕ, ◌+◌, ◌*◌, ◌<◌, ◌≤◌, List, [], ◌∷◌, ◌++◌, length, ap, sym, ◌∙◌, arith, length-append, sum_by, All}
+use Rattle.std.proofs.Common.{◌≡◌, ℕ, ◌+◌, ◌*◌, ◌<◌, ◌≤◌, List, [], ◌∷◌, ◌++◌, length, ap, ◌∙◌, arith, length-append, sum_by, All}
 use Rattle.std.proofs.{Math.Nat.{mul-add, mul_assoc, mul-le-mul_left, mul-le-mul_right}, lemmas.List.{Elements.{All-head, All-tail}, Sums.sum_by-cons}}
 use Rattle.cnf_formula.specs.Literals.{LitValue}
 use Rattle.cardinality.{specs.{Counting.output, Totalizers.totalizer_of}, proofs.FewClauses.{few_variables, few_clauses}}
@@ -23,10 +23,7 @@ squared b low =
 
 -- the clauses of a counter, and what is said of its outputs
 weighed : (n b : ℕ) → 0 < n → b ≤ 144 → n * ((b + 2) * (b + 2)) + (b + 1) ≤ n * (b + 1) * 149
-weighed n b some low =
-    let each : n * ((b + 2) * (b + 2)) ≤ n * ((b + 1) * 148) = mul-le-mul_left n (squared b low) in
-    let one : 1 * (b + 1) ≤ n * (b + 1) = mul-le-mul_right (b + 1) some in
-    omega (arith, each, sym (mul_assoc n (b + 1) 148), one)
+weighed n b some low = grind (arith, mul-le-mul_left, squared, mul-le-mul_right, mul_assoc)
 
 pub counted_variables : (before : ℕ) (counts : List Count) → All IsLow counts → (counters_after before counts).vars ≤ before + sum_by space counts
 counted_variables before [] low = omega arith

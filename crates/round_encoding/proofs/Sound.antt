@@ -1,5 +1,5 @@
 -- What an assignment that satisfies the formula says is a tight schedule that solves the candidate.
-use Rattle.std.proofs.Common.{◌≡◌, ℕ, ◌+◌, ◌-◌, ◌*◌, ◌<◌, ◌≤◌, Bool, true, List, [], ◌∷◌, ◌++◌, map, length, get_or, ltb, refl, sym, ap, ◌∙◌, subst, ⊎_elim, arith, if◌then◌else◌, flat_map, nat_lt, All}
+use Rattle.std.proofs.Common.{◌≡◌, ℕ, ◌+◌, ◌-◌, ◌*◌, ◌<◌, ◌≤◌, Bool, true, List, [], ◌∷◌, map, length, get_or, ltb, refl, sym, ap, ◌∙◌, subst, ⊎_elim, arith, if◌then◌else◌, flat_map, nat_lt, All}
 use Rattle.std.{specs.List.range_with_len, proofs.lemmas.{Bool.{false≢true, and_from, cases_lt, lt-ltb}, List.Elements.All-head}}
 use Rattle.std.proofs.{lemmas.List.{Sums.count_by-le-length, FromFn.{length-range_with_len, length-map-range_with_len}}, Math.Nat.mul-le-mul_left}
 use Rattle.schedule.specs.{Links.{TopologyValue, GroupValue, IsTopology, is_usable, usable_links}, Placed.{PlacementValue, IsPlacement, all_pairs}}
@@ -26,10 +26,7 @@ module _ (t : TopologyValue) (pre post : PlacementValue) (steps rounds : ℕ) (v
   s = decoded f values
 
   parts : (all_hold values (sending m pre post) ≡ true) × (all_hold values (extra_in_order f) ≡ true) × (all_hold values (counters_after (own_variables f) (counts_in f t)).clauses ≡ true)
-  parts =
-      let p = both_hold values (sending m pre post ++ extra_in_order f) (counters_after (own_variables f) (counts_in f t)).clauses satisfied.holds in
-      let q = both_hold values (sending m pre post) (extra_in_order f) p.0 in
-      (q.0, q.1, p.1)
+  parts = grind (arith, both_hold)
 
   obeyed : All (Obeys values) (if nat_lt 0 f.extra then count_of_rounds f ∷ [] else []) × All (Obeys values) (flat_map (λ k. map (count_of_group f k) t.groups) (steps_of m))
   obeyed =

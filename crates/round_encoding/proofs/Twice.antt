@@ -1,4 +1,5 @@
 -- Counting pairs that meet, from either side.
+use Rattle.std.proofs.lemmas.Grind.{common_steps}
 use Rattle.std.proofs.Common.{◌≡◌, ◌≢◌, ℕ, ◌+◌, ◌<◌, ◌≤◌, Bool, true, false, cond, eqb, List, [], ◌∷◌, map, get_or, refl, sym, ap, ◌∙◌, arith, ◌||◌, ◌&&◌, flat_map, count_by, AllPairs}
 use Rattle.std.{specs.List.{list_any, range_with_len}, proofs.lemmas.Bool.{false≢true, false_from_ne_true, Decides.nat_tests}}
 use Rattle.std.proofs.lemmas.List.{Folds.list_any_at, Sums.sum_by-cons}
@@ -11,11 +12,7 @@ module _ {X : Type 0} where
 
   count_or : (p q : X → Bool) (xs : List X) → count_by (λ x. p x || q x) xs ≤ count_by p xs + count_by q xs
   count_or p q [] = omega arith
-  count_or p q (x ∷ xs) = omega (arith, count_cons (λ x. p x || q x) x xs, count_cons p x xs, count_cons q x xs, count_or p q xs, one (p x) (q x))
-    where
-      one : (b c : Bool) → cond (b || c) 1 0 ≤ cond b 1 0 + cond c 1 0
-      one true c = omega arith
-      one false c = omega arith
+  count_or p q (x ∷ xs) = grind (arith, nat_tests, common_steps, count_cons, count_or p q xs)
 
   none_any : (p : X → Bool) (xs : List X) → list_any p xs ≡ false → count_by p xs ≡ 0
   none_any p xs h = none_of p xs (λ k d low. false_from_ne_true (p (get_or xs k d)) (λ t. false≢true (sym h ∙ list_any_at p xs k d low t)))

@@ -1,9 +1,8 @@
-use Rattle.std.proofs.Common.{◌≡◌, ℕ, ◌+◌, ◌-◌, ◌*◌, ◌<◌, Bool, List, sym, subst, arith, ◌↔◌, sum_by}
-use Rattle.schedule.specs.{Sends.{ScheduleValue, IsSchedule, IsInRange}, Solving.{Solves, Solvable}}
-use Rattle.cnf_formula.specs.Formulas.{Satisfies, Satisfiable}
-use Rattle.send_encoding.specs.{Variables.{SendMapValue, map_of}, Agreeing.SatisfiesAs}
-use Rattle.round_encoding.specs.{declared.encoding.Encoding.Encoding, Decoding.decoded, Candidates.IsTightSolution, inner.Counts.{HasLinks, room}}
-use Rattle.round_encoding.specs.Frames.{own_variables}
+use Rattle.std.proofs.Common.{◌≡◌, ◌-◌, sym, subst, arith, ◌↔◌, sum_by}
+use Rattle.schedule.specs.Solving.{Solvable}
+use Rattle.cnf_formula.specs.Formulas.{Satisfiable}
+use Rattle.send_encoding.specs.Variables.{map_of}
+use Rattle.round_encoding.specs.{declared.encoding.Encoding.Encoding, inner.Counts.HasLinks}
 use Rattle.round_encoding.proofs.{Counted.placed_links, Encoded.encoded, Exactly.{sound, exactly, completely}, Sizes.{few_sends, few_variables}}
 use Rattle.round_encoding.proofs.encoding.encode.Goals as goal
 
@@ -18,13 +17,7 @@ encode_rounds-requires-clause-links c =
     subst (λ m. HasLinks m t) (sym is) (λ k d low. placed_links t pre c.args.steps k d c.requires.candidate.topology low)
 
 pub encode_rounds-requires-clause-small : goal.encode_rounds-requires-clause-small
-encode_rounds-requires-clause-small c =
-    let t = c.args.topology.now in
-    let pre = c.args.instance.now.pre in
-    let extra : ℕ = c.args.rounds - c.args.steps in
-    let is : c.in_ok-map.map ≡ map_of t pre c.args.steps = c.in_ok-map.ensures.map in
-    subst (λ (m : SendMapValue). own_variables (record { map = m; extra = extra }) + m.steps * extra * (extra + 1) + m.steps * sum_by (room (record { map = m; extra = extra })) t.groups < 2147483648) (sym is)
-    (omega (arith, few_variables t pre c.args.instance.now.post c.args.steps c.args.rounds c.requires.candidate c.requires.size))
+encode_rounds-requires-clause-small c = grind (arith, c.args.topology.now, c.args.instance.now.pre, c.args.rounds - c.args.steps, c.in_ok-map.ensures.map, sum_by, few_variables)
 
 pub returns-clause-encoding : goal.returns-clause-encoding
 returns-clause-encoding c =
@@ -39,17 +32,7 @@ returns-clause-exactly c =
     subst (λ (e : Encoding). Satisfiable e.formula ↔ Solvable t pre post c.args.steps c.args.rounds) (sym (returns-clause-encoding c)) (exactly t pre post c.args.steps c.args.rounds c.requires.candidate)
 
 pub returns-clause-sound : goal.returns-clause-sound
-returns-clause-sound c =
-    let t = c.args.topology.now in
-    let pre = c.args.instance.now.pre in
-    let post = c.args.instance.now.post in
-    subst (λ (e : Encoding). (values : List Bool) → Satisfies values e.formula → IsTightSolution t pre post (decoded (record { map = e.map; extra = e.extra }) values) c.args.steps c.args.rounds) (sym (returns-clause-encoding c))
-    (λ values satisfies. sound t pre post c.args.steps c.args.rounds values c.requires.candidate satisfies)
+returns-clause-sound c = grind (arith, returns-clause-encoding, sound)
 
 pub returns-clause-complete : goal.returns-clause-complete
-returns-clause-complete c =
-    let t = c.args.topology.now in
-    let pre = c.args.instance.now.pre in
-    let post = c.args.instance.now.post in
-    subst (λ (e : Encoding). (schedule : ScheduleValue) → IsSchedule schedule → IsInRange pre.chunks pre.nodes schedule → Solves t pre post schedule c.args.steps c.args.rounds → SatisfiesAs e.map pre schedule e.formula) (sym (returns-clause-encoding c))
-    (λ schedule valid range solves. completely t pre post schedule c.args.steps c.args.rounds c.requires.candidate valid range solves)
+returns-clause-complete c = grind (arith, returns-clause-encoding, completely)

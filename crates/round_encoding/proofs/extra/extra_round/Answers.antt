@@ -1,15 +1,9 @@
-use Rattle.std.proofs.{Common.{◌≡◌, ◌+◌, ◌*◌, ◌-◌, ◌≤◌, arith, sym, subst, rules}, lemmas.Nat.mul-le}
+use Rattle.std.proofs.{Common.{◌≡◌, ◌-◌, ◌≤◌, arith, sym, subst, rules}, lemmas.Nat.mul-le}
 use Rattle.round_encoding.{specs.Frames.{extra_round, own_variables}, proofs.Extras.extra_within}
 use Rattle.round_encoding.proofs.extra.extra_round.Goals as goal
 
 pub new-requires : goal.new-requires
-new-requires c =
-    let m = c.args.map.now in
-    let is : c.arrivals.result + c.sends.result + 1 + (c.args.step - 1) * c.args.extra + (c.args.number - 1) ≡ (extra_round (record { map = m; extra = c.args.extra }) c.args.step c.args.number).var = search rules in
-    let within = extra_within m c.args.extra c.args.step c.args.number c.requires.step c.requires.number in
-    let limits = c.arrivals.ensures.limits in
-    let short : c.args.map.now.steps * c.args.extra ≤ 255 * 8 = mul-le c.args.map.now.steps c.args.extra 255 8 limits.short c.requires.few in
-    record { some = omega arith; small = omega (arith, is, within, limits.few, short) }
+new-requires c = grind (arith, extra_within, mul-le)
 
 pub returns-clause-within : goal.returns-clause-within
 returns-clause-within c =
