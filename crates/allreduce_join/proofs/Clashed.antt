@@ -4,7 +4,7 @@ use Rattle.std.{specs.{List.{AllByRecursion, find, flat_map, range_with_len}, Op
 use Rattle.std.proofs.lemmas.List.Folds.{find-append}
 use Rattle.list_laws.proofs.Tests.{find-map}
 use Rattle.schedule.specs.{Sends.ScheduleValue, Placed.{PlacementValue, all_pairs, holds}, JoinedRuns.{first_clash, is_clash}}
-use Rattle.schedule.proofs.{First.{each_among, none_found}, Grids.{range_more, range_none}, Placing.{IsBelow, all_below, holds-placed}}
+use Rattle.schedule.proofs.{First.{each_among, none_found}, Grids.{range_more, range_none}, Placing.{all_below, holds-placed}}
 use Rattle.allreduce_join.proofs.Meeting.{arrivals, met_by}
 
 -- the first clash of a step
@@ -21,16 +21,10 @@ module _ (chunks nodes : ℕ) (s : ScheduleValue) (adding : ℕ) where
 
   -- what is said of a step is said of those from it on, if it is the first
   pub clash_on : (index : ℕ) (first : Option (ℕ × ℕ)) → index < length s.rounds → first ≡ clash_in chunks nodes s adding (index + 1) → clash_from chunks nodes s adding index ≡ option_or (option_map (λ (pair : ℕ × ℕ). (index + 1, pair.0, pair.1)) first) (clash_from chunks nodes s adding (index + 1))
-  clash_on index first below is =
-      ap (λ steps. find (is_clash s adding) (turns steps)) (range_more (index + 1) (length s.rounds + 1) (omega (arith, below)))
-      ∙ (find-append (is_clash s adding) (map (λ pair. (index + 1, pair.0, pair.1)) (all_pairs chunks nodes)) (turns (range_with_len (index + 1 + 1) (length s.rounds + 1 - (index + 1 + 1))))
-      ∙ ap (λ o. option_or o (clash_from chunks nodes s adding (index + 1))) (find-map (is_clash s adding) (λ (pair : ℕ × ℕ). (index + 1, pair.0, pair.1)) (all_pairs chunks nodes)
-      ∙ ap (option_map (λ (pair : ℕ × ℕ). (index + 1, pair.0, pair.1))) (sym is)))
+  clash_on index first below is = grind (arith, range_more, find-append, find-map)
 
   pub clash_start : clash_from chunks nodes s adding 0 ≡ first_clash chunks nodes s adding
-  clash_start =
-      let count : length s.rounds + 1 - (0 + 1) ≡ length s.rounds = omega arith in
-      ap (λ n. find (is_clash s adding) (turns (range_with_len 1 n))) count
+  clash_start = grind arith
 
   pub clash_past : (index : ℕ) → length s.rounds ≤ index → clash_from chunks nodes s adding index ≡ None
   clash_past index past = ap (λ steps. find (is_clash s adding) (turns steps)) (range_none (index + 1) (length s.rounds + 1) (omega (arith, past)))
@@ -48,7 +42,4 @@ find_alike P p q same (x ∷ xs) each = ap (λ b. cond b (Some x) (find p xs)) (
 
 -- in one that copies it is the first pair that is met twice
 pub clash_copying : (chunks nodes : ℕ) (s : ScheduleValue) (adding step : ℕ) (twice : PlacementValue) → adding < step → twice ≡ met_by 2 chunks nodes step s.sends → find (holds twice) (all_pairs chunks twice.nodes) ≡ clash_in chunks nodes s adding step
-clash_copying chunks nodes s adding step twice past is =
-    ap (λ (p : PlacementValue). find (holds p) (all_pairs chunks p.nodes)) is
-    ∙ find_alike (IsBelow chunks nodes) (holds (met_by 2 chunks nodes step s.sends)) (λ pair. is_clash s adding (step, pair.0, pair.1)) (λ pair below.
-    holds-placed chunks nodes (λ p. leb 2 (arrivals step p s.sends)) pair below.0 below.1 ∙ sym (ap (λ b. b && leb 2 (arrivals step (pair.0, pair.1) s.sends)) (lt-ltb adding step past))) (all_pairs chunks nodes) (all_below chunks nodes)
+clash_copying chunks nodes s adding step twice past is = grind (arith, find_alike, met_by, holds-placed, arrivals, lt-ltb, all_below)

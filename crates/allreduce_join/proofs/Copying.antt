@@ -7,7 +7,7 @@ use Rattle.schedule.specs.JoinedRuns.{filled_senders, joined_after}
 use Rattle.schedule.proofs.{First.{Among, among_each, among_map, among_right, each_among, map_among, any_found, filter_among, among_kept}, Inverting.steps_of}
 use Rattle.bag_runs.proofs.JoinedSteps.{replaced_has, step_adds, step_copies}
 use Rattle.inversion.proofs.Reaching.{below_of, holds_next}
-use Rattle.allreduce_join.{specs.Joins.{one_after}, proofs.{Paired.append_among, Parts.sends_first}}
+use Rattle.allreduce_join.{specs.Joins.one_after, proofs.{Paired.append_among, Parts.sends_first}}
 use Rattle.allreduce_join.proofs.Later.{later}
 
 -- ---- the steps that add
@@ -108,9 +108,7 @@ module _ (nodes : ℕ) (demand : PlacementValue) (p q : ScheduleValue) (carries 
       subst (Among o.from) none sender
 
   pub whole_after : (k n : ℕ) → n ≡ length p.rounds + k → IsWhole n k
-  whole_after zero n is pair c v held =
-      let at_end : n ≡ length p.rounds = omega (arith, is) in
-      ap (λ m. bags m pair) at_end ∙ (first_part (contributions nodes) p q carries.second (length p.rounds) (omega arith) pair ∙ carries.whole pair held)
+  whole_after zero n is pair c v held = grind (arith, first_part)
   whole_after (suc k) zero is pair c v held = absurd (omega (arith, is))
   whole_after (suc k) (suc n) is pair c v held =
       let before : n ≡ length p.rounds + k = omega (arith, is) in

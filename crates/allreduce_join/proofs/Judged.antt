@@ -1,5 +1,5 @@
 -- The verdict on a joined schedule, from what fails first.
-use Rattle.std.{proofs.Common.{◌≡◌, ℕ, true, List, [], ◌∷◌, Option, Some, None, refl, sym, ap, ◌∙◌, ◌↔◌}, specs.List.filter}
+use Rattle.std.{proofs.Common.{arith, ◌≡◌, ℕ, true, List, [], ◌∷◌, Option, Some, None, refl, ap, ◌↔◌}, specs.List.filter}
 use Rattle.schedule.specs.{Links.TopologyValue, Sends.{ScheduleValue, IsSchedule, IsInRange}, Placed.{PlacementValue, all_pairs, placed}, Bags.Bags}
 use Rattle.schedule.specs.{Judging.{first_overfull, first_unlinked}, JoinedRuns.{AllSummed, first_clash}}
 use Rattle.inversion.specs.{declared.verdict.SumVerdict.SumVerdict, Judging.{counts_judged, first_uneven, misfit_of, sum_judged}}
@@ -21,9 +21,7 @@ module _ (t : TopologyValue) (chunks : ℕ) (s : ScheduleValue) (adding : ℕ) (
   fault_misfit v found = judged_misfit t s last (first_clash chunks t.nodes s adding) due v found
 
   clash_fitting : (clash : Option (ℕ × ℕ × ℕ)) (nodes : ℕ) → nodes ≡ t.nodes → None ≡ misfit_of t s → clash ≡ first_clash chunks nodes s adding → sum_judged t s last None None clash due ≡ judged
-  clash_fitting clash nodes same none found =
-      ap (λ first. sum_judged t s last None None first due) (found ∙ ap (λ n. first_clash chunks n s adding) same)
-      ∙ judged_fitting t s last (first_clash chunks t.nodes s adding) due none
+  clash_fitting clash nodes same none found = grind (arith, judged_fitting)
 
   pub fault_clash : (nodes : ℕ) (clash : ℕ × ℕ × ℕ) → nodes ≡ t.nodes → None ≡ misfit_of t s → Some clash ≡ first_clash chunks nodes s adding → verdict.Clash clash.1 clash.2 clash.0 ≡ judged
   fault_clash nodes clash same none found = clash_fitting (Some clash) nodes same none found
@@ -39,11 +37,7 @@ module _ (t : TopologyValue) (chunks : ℕ) (s : ScheduleValue) (adding : ℕ) w
 
   pub joined_counts : (nodes : ℕ) (everywhere : PlacementValue) (v : SumVerdict) → nodes ≡ t.nodes → everywhere ≡ placed chunks nodes (λ pair. true)
       → v ≡ counts_judged (joined_bags t s adding) (first_uneven (joined_bags t s adding) t.nodes everywhere.pairs) → counts_judged (joined_bags t s adding) joined_due ≡ joined_verdict_of t chunks s adding → v ≡ joined_verdict_of t chunks s adding
-  joined_counts nodes everywhere v same is said fine =
-      let last : Bags = joined_bags t s adding in
-      said
-      ∙ (ap (λ pairs. counts_judged last (first_uneven last t.nodes pairs)) (ap (λ (p : PlacementValue). p.pairs) is ∙ (all_pass (all_pairs chunks nodes) ∙ ap (all_pairs chunks) same))
-      ∙ fine)
+  joined_counts nodes everywhere v same is said fine = grind (arith, all_pass)
 
 -- the verdict, and what it says
 pub record Told (t : TopologyValue) (chunks : ℕ) (s : ScheduleValue) (adding : ℕ) (v : SumVerdict) : Type 0 where
@@ -51,6 +45,4 @@ pub record Told (t : TopologyValue) (chunks : ℕ) (s : ScheduleValue) (adding :
   pub summed : (v ≡ verdict.Sums) ↔ AllSummed t chunks s adding
 
 pub told : (t : TopologyValue) (chunks : ℕ) (s : ScheduleValue) (adding : ℕ) (v : SumVerdict) → IsSchedule s → IsInRange chunks t.nodes s → v ≡ joined_verdict_of t chunks s adding → Told t chunks s adding v
-told t chunks s adding v valid in_range is =
-    let exactly = all_summed_exactly t chunks s adding valid in_range in
-    record { exact = is; summed = (λ said. exactly.0 (sym is ∙ said), λ all. is ∙ exactly.1 all) }
+told t chunks s adding v valid in_range is = grind (arith, all_summed_exactly)

@@ -1,7 +1,7 @@
 -- Chunks that come to a node twice, send by send.
-use Rattle.std.proofs.Common.{◌≡◌, ℕ, suc, ◌+◌, ◌<◌, ◌≤◌, Bool, true, false, ◌&&◌, ◌||◌, cond, eqb, leb, List, [], ◌∷◌, ◌++◌, length, get_or, take, refl, sym, ap, ◌∙◌, subst, arith, count_by}
+use Rattle.std.proofs.Common.{◌≡◌, ℕ, suc, ◌+◌, ◌<◌, ◌≤◌, Bool, true, false, ◌||◌, cond, eqb, leb, List, [], ◌∷◌, ◌++◌, length, get_or, take, refl, sym, ap, ◌∙◌, subst, arith, count_by}
 use Rattle.std.{specs.List.filter, proofs.lemmas.{Bool.{and_parts, eq-eqb, both_ways, Decides.nat_tests}, List.{take_more, take_all}}}
-use Rattle.std.proofs.{lemmas.List.Sums.{sum_by-append, sum_by-cons}}
+use Rattle.std.proofs.lemmas.List.Sums.{sum_by-append, sum_by-cons}
 use Rattle.schedule.specs.{declared.hop.Hop.Hop, Placed.{PlacementValue, empty_placement, holds, placed, same_pair, with_pair}, Summing.goes_to}
 use Rattle.schedule.proofs.{Joining.step_alone, Placing.{holds-placed, pair_is, placed-alike, placed-none}}
 
@@ -13,10 +13,7 @@ abbrev pub met_by : ℕ → ℕ → ℕ → ℕ → List Hop → PlacementValue
 met_by least chunks nodes step hops = placed chunks nodes (λ pair. leb least (arrivals step pair hops))
 
 pub met_none : (least chunks nodes step : ℕ) → empty_placement chunks nodes ≡ met_by (suc least) chunks nodes step []
-met_none least chunks nodes step = sym (placed-none chunks nodes (λ pair. leb (suc least) (arrivals step pair [])) (λ pair c n. none least))
-  where
-    none : (least : ℕ) → leb (suc least) 0 ≡ false
-    none least = grind (arith, nat_tests)
+met_none least chunks nodes step = grind (arith, placed-none, nat_tests)
 
 -- ---- one more send of the step
 
@@ -24,10 +21,7 @@ abbrev comes_to : Hop → ℕ × ℕ → Bool
 comes_to h pair = same_pair (h.chunk, h.to) pair
 
 arrivals_more : (step : ℕ) (pair : ℕ × ℕ) (hops : List Hop) (h : Hop) → h.step ≡ step → arrivals step pair (hops ++ h ∷ []) ≡ arrivals step pair hops + cond (comes_to h pair) 1 0
-arrivals_more step pair hops h now =
-    let one : arrivals step pair (h ∷ []) ≡ cond {A = ℕ} (goes_to step pair h) 1 0 + 0 = sum_by-cons (λ o. cond (goes_to step pair o) 1 0) h [] in
-    let mine : cond {A = ℕ} (goes_to step pair h) 1 0 ≡ cond (comes_to h pair) 1 0 = ap (λ b. cond {A = ℕ} (b && comes_to h pair) 1 0) (eq-eqb h.step step now) in
-    omega (arith, one, mine, sum_by-append (λ o. cond (goes_to step pair o) 1 0) hops (h ∷ []))
+arrivals_more step pair hops h now = grind (arith, sum_by-cons, eq-eqb, sum_by-append)
 
 once_more : (comes : Bool) (least n m : ℕ) → m ≡ n + cond comes 1 0 → (comes ≡ true → leb least n ≡ true) → (comes || leb (suc least) n) ≡ leb (suc least) m
 once_more true least n m is often = let mine = often refl in grind (arith, nat_tests)
@@ -104,7 +98,4 @@ count_within p q weaker (h ∷ hops) =
     grind (arith, weaker h, count_within p q weaker hops, sum_by-cons (λ x. cond (p x) 1 0) h hops, sum_by-cons (λ x. cond (p x) 1 0) h (filter q hops))
 
 pub met_all : (chunks nodes step : ℕ) (all sends : List Hop) (i : ℕ) (met twice : PlacementValue) → sends ≡ filter (λ h. eqb h.step step) all → length sends ≤ i → IsMet chunks nodes step (take i sends) met twice → twice ≡ met_by 2 chunks nodes step all
-met_all chunks nodes step all sends i met twice mine past so_far =
-    so_far.twice_is
-    ∙ (ap (met_by 2 chunks nodes step) (take_all i sends past ∙ mine)
-    ∙ placed-alike chunks nodes _ _ (λ pair c n. ap (leb 2) (count_within (goes_to step pair) (λ h. eqb h.step step) (λ h goes. (and_parts _ _ goes).0) all)))
+met_all chunks nodes step all sends i met twice mine past so_far = grind (arith, take_all, placed-alike, count_within, and_parts)

@@ -1,12 +1,12 @@
 -- The verdict on a schedule that adds up, where every step adds, and where every chunk is demanded at every node.
 use Rattle.std.proofs.Common.{◌≡◌, ℕ, zero, suc, ◌+◌, ◌≤◌, true, List, length, map, None, refl, sym, ap, ◌∙◌, arith}
-use Rattle.std.{specs.{List.{find, flat_map, range_with_len}, Option.{option_map, option_or}}, proofs.lemmas.List.Folds.{find-append}}
+use Rattle.std.{specs.{List.{find, flat_map, range_with_len}, Option.{option_map, option_or}}, proofs.lemmas.List.Folds.find-append}
 use Rattle.list_laws.proofs.Tests.{find-map}
-use Rattle.schedule.specs.{Links.TopologyValue, Sends.ScheduleValue, Placed.{PlacementValue, all_pairs, placed}, Bags.{Bags, contributions}}
-use Rattle.schedule.specs.{Judging.{first_overfull, first_unlinked}, JoinedRuns.{first_clash, is_clash, joined_after}}
+use Rattle.schedule.specs.{Links.TopologyValue, Sends.ScheduleValue, Placed.{PlacementValue, all_pairs, placed}}
+use Rattle.schedule.specs.JoinedRuns.{is_clash}
 use Rattle.bag_runs.proofs.JoinedSteps.{adding_throughout}
-use Rattle.inversion.specs.Judging.{first_uneven, sum_judged, sum_verdict_of}
-use Rattle.allreduce_join.{specs.Judging.{joined_bags, joined_verdict_of, summed_verdict_of}, proofs.{Clashed.clash_adding, Judged.all_pass}}
+use Rattle.inversion.specs.Judging.{sum_verdict_of}
+use Rattle.allreduce_join.{specs.Judging.{joined_verdict_of, summed_verdict_of}, proofs.{Clashed.clash_adding, Judged.all_pass}}
 
 -- ---- every step adds
 
@@ -24,16 +24,10 @@ none_adding chunks nodes s adding (suc n) a le =
 
 -- the verdict is that on a sum
 pub judged_adding : (t : TopologyValue) (demand : PlacementValue) (s : ScheduleValue) (adding : ℕ) → length s.rounds ≤ adding → sum_verdict_of t demand s ≡ summed_verdict_of t demand s adding
-judged_adding t demand s adding all =
-    let last : Bags = joined_after (contributions t.nodes) s adding (length s.rounds) in
-    ap (λ (bags : Bags). sum_judged t s bags (first_unlinked t s) (first_overfull t s) None (first_uneven bags t.nodes demand.pairs)) (sym (adding_throughout (contributions t.nodes) s adding (length s.rounds) all))
-    ∙ ap (λ clash. sum_judged t s last (first_unlinked t s) (first_overfull t s) clash (first_uneven last t.nodes demand.pairs)) (sym (none_adding demand.chunks t.nodes s adding (length s.rounds) 1 (omega (arith, all))))
+judged_adding t demand s adding all = grind (arith, adding_throughout, none_adding)
 
 -- ---- every chunk is demanded at every node
 
 -- the verdict is that on a joined schedule
 pub judged_everywhere : (t : TopologyValue) (chunks : ℕ) (demand : PlacementValue) (s : ScheduleValue) (adding : ℕ) → demand ≡ placed chunks t.nodes (λ pair. true) → joined_verdict_of t chunks s adding ≡ summed_verdict_of t demand s adding
-judged_everywhere t chunks demand s adding is =
-    let last : Bags = joined_bags t s adding in
-    ap (λ pairs. sum_judged t s last (first_unlinked t s) (first_overfull t s) (first_clash chunks t.nodes s adding) (first_uneven last t.nodes pairs)) (sym (all_pass (all_pairs chunks t.nodes)))
-    ∙ ap (λ (d : PlacementValue). summed_verdict_of t d s adding) (sym is)
+judged_everywhere t chunks demand s adding is = grind (arith, all_pass)

@@ -1,11 +1,9 @@
-use Rattle.std.proofs.Common.{find, sym, ap, ◌∙◌}
-use Rattle.schedule.{specs.Placed.{all_pairs, holds}, proofs.Grids.{find_here, find_later, find_nowhere, rows_start}}
+use Rattle.std.proofs.Common.{arith, sym, ◌∙◌}
+use Rattle.schedule.{specs.Placed.holds, proofs.Grids.{find_here, find_later, find_nowhere, rows_start}}
 use Rattle.allreduce_join.proofs.clash.first_pair.Goals as goal
 
 pub loop-chunk-init : goal.loop-chunk-init
-loop-chunk-init c =
-    let p = c.args.placement.now in
-    ap (find (holds p)) (rows_start c.args.chunks c.nodes-nodes.result ∙ ap (all_pairs c.args.chunks) c.nodes-nodes.ensures.nodes)
+loop-chunk-init c = grind (arith, rows_start)
 
 pub returns-in-Some : goal.returns-in-Some
 returns-in-Some c =

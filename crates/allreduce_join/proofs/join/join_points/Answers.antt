@@ -12,10 +12,7 @@ both_costs a b = record { s = a.s + b.s; r = a.r + b.r; c = a.c }
 
 -- what is made of the parts of two points is their join
 join_made : (a b : PointValue) (x y costs : Candidate) (p q s : ScheduleValue) → IsJoinable a → costs ≡ both_costs x y → x ≡ a.candidate → y ≡ b.candidate → p ≡ a.schedule → q ≡ b.schedule → s ≡ one_after (length p.rounds) p q → record { candidate = costs; schedule = s; mark = mark.Joined x.s } ≡ join_of a b
-join_made a b x y costs p q s sized costs_are x_is y_is p_is q_is is =
-    let made : Candidate → Candidate → ScheduleValue → PointValue = λ c d z. record { candidate = both_costs c d; schedule = z; mark = mark.Joined c.s } in
-    let whole : s ≡ one_after a.candidate.s a.schedule b.schedule = is ∙ (ap (λ z. one_after (length z.rounds) z q) p_is ∙ (ap (one_after (length a.schedule.rounds) a.schedule) q_is ∙ ap (λ n. one_after n a.schedule b.schedule) sized.steps)) in
-    ap (λ c. record { candidate = c; schedule = s; mark = mark.Joined x.s }) costs_are ∙ (ap (λ c. made c y s) x_is ∙ (ap (λ d. made a.candidate d s) y_is ∙ ap (made a.candidate b.candidate) whole))
+join_made a b x y costs p q s sized costs_are x_is y_is p_is q_is is = grind arith
 
 pub both_costs-requires-clause-rounds : goal.both_costs-requires-clause-rounds
 both_costs-requires-clause-rounds c =

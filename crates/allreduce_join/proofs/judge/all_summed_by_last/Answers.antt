@@ -1,4 +1,4 @@
-use Rattle.std.{proofs.Common.{sym, ap, ◌∙◌}, specs.Prelude.unwrap_or}
+use Rattle.std.{proofs.Common.{arith, sym, ap, ◌∙◌}, specs.Prelude.unwrap_or}
 use Rattle.schedule.specs.Placed.{PlacementValue}
 use Rattle.bag_runs.specs.Stores.{StoreValue}
 use Rattle.inversion.{specs.Judging.counts_judged, proofs.Evening.run_judged}
@@ -6,12 +6,7 @@ use Rattle.allreduce_join.{specs.Judging.joined_bags, proofs.Judged.{joined_coun
 use Rattle.allreduce_join.proofs.judge.all_summed_by_last.Goals as goal
 
 pub returns-in-Some : goal.returns-in-Some
-returns-in-Some c =
-    let t = c.args.topology.now in
-    let s = c.args.schedule.now in
-    let last = joined_bags t s c.args.adding in
-    let due = joined_due t c.args.chunks s c.args.adding in
-    ap (λ o. unwrap_or o (counts_judged last due)) (sym c.in-Some.is) ∙ c.in_ok-fault.ensures.fault last due
+returns-in-Some c = grind (arith, joined_due)
 
 pub counts_verdict-requires-clause-chunks : goal.counts_verdict-requires-clause-chunks
 counts_verdict-requires-clause-chunks c = ap (λ (p : PlacementValue). p.chunks) c.in_ok-everywhere.ensures ∙ sym (ap (λ (x : StoreValue). x.chunks) c.requires.last)
