@@ -45,10 +45,7 @@ module _ (m : SendMapValue) where
   Clause = IsClause v
 
   pub arrival_about : (c n s : ℕ) → c < m.chunks → n < m.nodes → s ≤ m.steps → About (arrival m c n s)
-  arrival_about c n s low few last =
-      let row = slot c n m.chunks m.nodes low few in
-      let place = slot (c * m.nodes + n) s (m.chunks * m.nodes) (m.steps + 1) row (omega (arith, last)) in
-      record { some = omega arith; within = omega (arith, place) }
+  arrival_about c n s low few last = grind (arith, slot c n m.chunks m.nodes low few, slot (c * m.nodes + n) s (m.chunks * m.nodes) (m.steps + 1) (slot c n m.chunks m.nodes low few) (omega (arith, last)))
 
   pub sent_about : (c e s : ℕ) → c < m.chunks → e < length m.links → IsStepOf m s → About (sent m c e s)
   sent_about c e s low few step =
@@ -66,13 +63,7 @@ module _ (m : SendMapValue) where
   -- ---- the clauses
 
   over_about : (c s : ℕ) (z : ℕ × (ℕ × ℕ)) → c < m.chunks → IsLinkOf m z → IsStep m.steps s → All Clause (send_over m c z s)
-  over_about c s (e, link) low at step =
-      let send = negation_about v (sent m c e s) (sent_about c e s low at.number (at_step s step)) in
-      let lacks = negation_about v (arrival m c link.1 (s - 1)) (before_about c link.1 s low at.to step) in
-      let no = negation (sent m c e s) in
-      All-cons Clause (no ∷ arrival m c link.0 (s - 1) ∷ []) ((no ∷ negation (arrival m c link.1 (s - 1)) ∷ []) ∷ (no ∷ arrival m c link.1 s ∷ []) ∷ []) (two v no (arrival m c link.0 (s - 1)) send (before_about c link.0 s low at.from step))
-      (All-cons Clause (no ∷ negation (arrival m c link.1 (s - 1)) ∷ []) ((no ∷ arrival m c link.1 s ∷ []) ∷ []) (two v no (negation (arrival m c link.1 (s - 1))) send lacks)
-      (only_clause v (no ∷ arrival m c link.1 s ∷ []) (two v no (arrival m c link.1 s) send (arrival_about c link.1 s low at.to step.to))))
+  over_about c s (e, link) low at step = grind (arith, negation_about, sent_about, at_step, before_about, All-cons, two, only_clause, arrival_about)
 
   either : (b : Bool) (l : LitValue) → About l → About (if b then l else negation l)
   either true l a = a

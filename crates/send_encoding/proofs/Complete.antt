@@ -1,5 +1,6 @@
 -- Where the tables move chunks, the clauses of arrivals and sends hold.
-use Rattle.std.proofs.Common.{◌≡◌, ℕ, ◌+◌, ◌-◌, ◌<◌, ◌≤◌, Bool, true, false, cond, List, [], ◌∷◌, map, length, refl, sym, ap, ◌∙◌, ⊎_elim, arith, ◌||◌, if◌then◌else◌, flat_map, count_by, All}
+use Rattle.std.proofs.lemmas.Grind.{common_steps}
+use Rattle.std.proofs.Common.{◌≡◌, ℕ, ◌-◌, ◌<◌, ◌≤◌, Bool, true, false, List, [], ◌∷◌, map, length, refl, sym, ap, ◌∙◌, ⊎_elim, arith, ◌||◌, if◌then◌else◌, flat_map, count_by, All}
 use Rattle.std.specs.List.{enumerate_from}
 use Rattle.std.{specs.List.{list_any, list_all}, proofs.lemmas.Bool.{and_from, or_left, or_right, cases_Bool, not_from_false, Decides.nat_tests}}
 use Rattle.std.proofs.lemmas.List.{Elements.{All-head, All-tail, All-filter}, Sums.{sum_by-cons, AllPass-from_list_all, list_all-from_AllPass}}
@@ -25,9 +26,7 @@ any_alike p q Q g (x ∷ xs) h all = ap (λ b. b || list_any p (map g xs)) (h x 
 
 pub count_alike : {X A : Type 0} (p : A → Bool) (q : X → Bool) (Q : X → Type 0) (g : X → A) (xs : List X) → ((x : X) → Q x → p (g x) ≡ q x) → All Q xs → count_by p (map g xs) ≡ count_by q xs
 count_alike p q Q g [] h all = refl
-count_alike p q Q g (x ∷ xs) h all =
-    sum_by-cons (λ y. cond (p y) 1 0) (g x) (map g xs) ∙ ap (λ b. cond b 1 0 + count_by p (map g xs)) (h x (All-head Q x xs all))
-    ∙ ap (λ n. cond (q x) 1 0 + n) (count_alike p q Q g xs h (All-tail Q x xs all)) ∙ sym (sum_by-cons (λ y. cond (q y) 1 0) x xs)
+count_alike p q Q g (x ∷ xs) h all = grind (arith, nat_tests, common_steps, sum_by-cons, count_by, All-head, All-tail, count_alike p q Q g xs h (All-tail Q x xs all))
 
 -- ---- clauses of one and two literals
 

@@ -25,11 +25,7 @@ module _ (m : SendMapValue) (values : List Bool) (links : All (JoinsNodes m) m.l
   hop k c z = record { chunk = c; from = z.1.0; to = z.1.1; step = k }
 
   one_told : (k c : ℕ) (z : ℕ × (ℕ × ℕ)) → IsStep m.steps k → c < m.chunks → IsLinkOf m z → All (IsTold m x) (hop_over m values k c z)
-  one_told k c z step low at = go (x c z.0 k) refl
-    where
-      go : (b : Bool) → x c z.0 k ≡ b → All (IsTold m x) (if b then hop k c z ∷ [] else [])
-      go true e = All-cons (IsTold m x) (hop k c z) [] (record { link = z; is_link = at; ends = refl; chunk = low; step = step; sent = e }) (All-nil (IsTold m x))
-      go false e = All-nil (IsTold m x)
+  one_told k c z step low at = grind (arith, All-cons, All-nil)
 
   pub sends_tell : Tells m x (sends_of m values)
   sends_tell = record {

@@ -19,10 +19,7 @@ abbrev pub From : ℕ → ℕ → ℕ → Type 0
 From a n j = (a ≤ j) × (j < a + n)
 
 pub in_range : (a n : ℕ) → All (From a n) (range_with_len a n)
-in_range a n = λ k d low.
-    let few : k < n = omega (arith, low, length-range_with_len a n) in
-    let is = get_or-range_with_len a n k d few in
-    (omega (arith, is), omega (arith, is, few))
+in_range a n = grind (arith, length-range_with_len, get_or-range_with_len)
 
 -- a number of a list's element, and the element
 abbrev pub Numbered : {X : Type 0} → (X → Type 0) → ℕ → ℕ × X → Type 0

@@ -1,13 +1,12 @@
 -- Arrivals and sends have few clauses.
-use Rattle.std.{proofs.Common.{◌≡◌, ℕ, ◌+◌, ◌*◌, ◌≤◌, List, ◌++◌, length, map, ap, sym, ◌∙◌, arith, length-append, flat_map, filter}, specs.List.{range_with_len, enumerate_from}}
+use Rattle.std.{proofs.Common.{◌≡◌, ℕ, ◌+◌, ◌*◌, ◌≤◌, List, ◌++◌, length, map, ap, sym, ◌∙◌, arith, length-append, flat_map}, specs.List.{range_with_len, enumerate_from}}
 use Rattle.std.proofs.{Math.Nat.{mul_assoc, mul-add}, lemmas.{List.{length-map, Sums.{length-filter, count_by-le-length}}, Nat.mul-le}}
 use Rattle.std.proofs.lemmas.List.FromFn.{length-range_with_len, length-map-range_with_len, length-enumerate_from}
-use Rattle.schedule.specs.{Links.TopologyValue, Placed.{all_pairs, PlacementValue, holds}}
+use Rattle.schedule.specs.{Links.TopologyValue, Placed.{all_pairs, PlacementValue}}
 use Rattle.cnf_formula.specs.Literals.{LitValue}
 use Rattle.cardinality.{specs.Counting.at_most_one_of, proofs.{FewClauses.pairs_are_few, Lengths.flat_length}}
 use Rattle.send_encoding.specs.Variables.{SendMapValue, map_of, steps_of, links_into, sends}
 use Rattle.send_encoding.specs.Sending.{at_start, keeps, at_end, send_over, sends_arrive, sends_into, arrives_by_sends, arrives_once, sending}
-use Rattle.send_encoding.specs.inner.Parts.{node_arrives, node_keeps, node_once}
 use Rattle.send_encoding.proofs.{Entering.few_enter, Grid.rows_length}
 
 six_lists : {X : Type 0} (a b c d e f : List X) → length (a ++ b ++ c ++ d ++ e ++ f) ≡ length a + length b + length c + length d + length e + length f
@@ -30,16 +29,10 @@ module _ (m : SendMapValue) where
   many_starts pre = length-map (all_pairs m.chunks m.nodes) _ ∙ all_cells
 
   few_keeps : length (keeps m) ≤ cells * m.steps
-  few_keeps =
-      let same : (x : ℕ × ℕ) → length (node_keeps m x) ≡ length (steps_of m) = λ x. length-map (steps_of m) _ in
-      let each : (x : ℕ × ℕ) → length (node_keeps m x) ≤ m.steps = λ x. omega (arith, same x, all_steps) in
-      omega (arith, flat_length (node_keeps m) m.steps (all_pairs m.chunks m.nodes) each, ap (λ n. n * m.steps) all_cells)
+  few_keeps = grind (arith, length-map, all_steps, flat_length, all_cells)
 
   few_ends : (post : PlacementValue) → length (at_end m post) ≤ cells
-  few_ends post =
-      let wanted : List (ℕ × ℕ) = filter (holds post) (all_pairs m.chunks m.nodes) in
-      let same : length (at_end m post) ≡ length wanted = length-map wanted _ in
-      omega (arith, same, length-filter (holds post) (all_pairs m.chunks m.nodes), count_by-le-length (holds post) (all_pairs m.chunks m.nodes), all_cells)
+  few_ends post = grind (arith, length-map, length-filter, count_by-le-length, all_cells)
 
   few_sends : length (sends_arrive m) ≤ sends m * 3
   few_sends =
@@ -53,21 +46,14 @@ module _ (m : SendMapValue) where
       omega (arith, all, ap (λ n. n * (links * (m.steps * 3))) (length-range_with_len 0 m.chunks), product)
 
   few_arrivals : length (arrives_by_sends m) ≤ cells * m.steps
-  few_arrivals =
-      let same : (x : ℕ × ℕ) → length (node_arrives m x) ≡ length (steps_of m) = λ x. length-map (steps_of m) _ in
-      let each : (x : ℕ × ℕ) → length (node_arrives m x) ≤ m.steps = λ x. omega (arith, same x, all_steps) in
-      omega (arith, flat_length (node_arrives m) m.steps (all_pairs m.chunks m.nodes) each, ap (λ n. n * m.steps) all_cells)
+  few_arrivals = grind (arith, length-map, all_steps, flat_length, all_cells)
 
   module _ (few_into : (n : ℕ) → length (links_into m n) ≤ m.nodes) where
     few_pairs : (c n s : ℕ) → length (at_most_one_of (sends_into m c n s)) ≤ m.nodes * m.nodes
     few_pairs c n s = grind (arith, length-map, mul-le, pairs_are_few)
 
     few_once : length (arrives_once m) ≤ cells * (m.steps * (m.nodes * m.nodes))
-    few_once =
-        let most : ℕ = m.nodes * m.nodes in
-        let each : (x : ℕ × ℕ) → length (node_once m x) ≤ m.steps * most =
-        λ x. omega (arith, flat_length (λ s. at_most_one_of (sends_into m x.0 x.1 s)) most (steps_of m) (few_pairs x.0 x.1), ap (λ n. n * most) all_steps) in
-        omega (arith, flat_length (node_once m) (m.steps * most) (all_pairs m.chunks m.nodes) each, ap (λ n. n * (m.steps * most)) all_cells)
+    few_once = grind (arith, flat_length, few_pairs, all_steps, all_cells)
 
     few_sending : (pre post : PlacementValue) → length (sending m pre post) ≤ cells * (2 + m.steps * (2 + m.nodes * m.nodes)) + sends m * 3
     few_sending pre post = grind (arith, few_arrivals, few_ends, few_keeps, few_once, few_sends, many_starts, six_lists, spread)

@@ -1,5 +1,5 @@
 -- The first of a numbered list that passes a test.
-use Rattle.std.proofs.Common.{◌≡◌, ℕ, ◌<◌, ◌≤◌, Bool, true, false, cond, ◌||◌, eqb, List, [], ◌∷◌, length, inl, inr, refl, sym, ap, ◌∙◌, ⊎_elim, arith, filter, count_by, All, AllPairs}
+use Rattle.std.proofs.Common.{◌≡◌, ℕ, ◌<◌, ◌≤◌, Bool, true, false, cond, ◌||◌, eqb, List, [], ◌∷◌, inl, inr, refl, sym, ap, ◌∙◌, ⊎_elim, arith, filter, count_by, All, AllPairs}
 use Rattle.std.{specs.List.{list_any, enumerate_from}, proofs.lemmas.Bool.{false≢true, cases_Bool, eqb-true, eq-eqb, Decides.nat_tests}}
 use Rattle.std.proofs.lemmas.List.{Elements.All-contains, Kept.AllPairs-filter, FromFn.{length-enumerate_from, get_or-enumerate_from}}
 use Rattle.schedule.proofs.First.{Among, any_among, Contains-from_Among}
@@ -35,10 +35,7 @@ module _ {X : Type 0} (q : ℕ × X → Bool) (f : ℕ → Bool) where
   Ahead y z = y.0 < z.0
 
   numbers_ascend : (k : ℕ) (xs : List X) → AllPairs Ahead (enumerate_from k xs)
-  numbers_ascend k xs = λ i j d less low.
-      let few : j < length xs = omega (arith, low, length-enumerate_from k xs) in
-      let first = ap (λ z. z.0) (get_or-enumerate_from k xs i d (omega (arith, less, few))) in
-      omega (arith, less, first, ap (λ z. z.0) (get_or-enumerate_from k xs j d few))
+  numbers_ascend k xs = grind (arith, length-enumerate_from, get_or-enumerate_from)
 
   pub passes_once : (k : ℕ) (xs : List X) → ((d e : ℕ) → f d ≡ true → f e ≡ true → d ≡ e) → count_by (λ z. f z.0) (filter q (enumerate_from k xs)) ≤ 1
   passes_once k xs only =

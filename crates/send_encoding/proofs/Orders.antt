@@ -29,11 +29,7 @@ map_pairs S R f h (x ∷ xs) s =
     AllPairs-cons R (f x) (map f xs) (in_map (R (f x)) (S x) f xs (h x) (pairs_head S x xs s)) (map_pairs S R f h xs (pairs_tail S x xs s))
 
 pub range_pairs : (a n : ℕ) → AllPairs (λ i j. i < j) (range_with_len a n)
-range_pairs a n = λ i j d low few.
-    let inside : j < n = omega (arith, few, length-range_with_len a n) in
-    let first = get_or-range_with_len a n i d (omega (arith, low, inside)) in
-    let second = get_or-range_with_len a n j d inside in
-    omega (arith, first, second, low)
+range_pairs a n = grind (arith, length-range_with_len, get_or-range_with_len)
 
 pub numbered_pairs : {X : Type 0} (S : X → X → Type 0) (k : ℕ) (xs : List X) → AllPairs S xs → AllPairs (λ y z. S y.1 z.1) (enumerate_from k xs)
 numbered_pairs S k [] s = no_pairs (λ y z. S y.1 z.1)

@@ -56,9 +56,7 @@ module _ (m : SendMapValue) (pre post : PlacementValue) (values : List Bool) (al
   parts = grind (arith, split)
 
   at_pair : (P : ℕ × ℕ → Type 0) → All P (all_pairs m.chunks m.nodes) → (c n : ℕ) → c < m.chunks → n < m.nodes → P (c, n)
-  at_pair P ps c n cl nl =
-      let found = member (same_pair (c, n)) P (all_pairs m.chunks m.nodes) ps (among_all m.chunks m.nodes (c, n) cl nl) in
-      subst P (sym (pair_is (c, n) found.0 found.1)) found.3
+  at_pair P ps c n cl nl = grind (arith, member (same_pair (c, n)) P (all_pairs m.chunks m.nodes) ps (among_all m.chunks m.nodes (c, n) cl nl), pair_is)
 
   at_step : (P : ℕ → Type 0) → All P (steps_of m) → (k : ℕ) → IsStep m.steps k → P k
   at_step P ps k step = at_range P 1 m.steps k ps (omega (arith, step.from)) (omega (arith, step.to))

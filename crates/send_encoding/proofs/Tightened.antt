@@ -36,12 +36,7 @@ module _ (m : SendMapValue) (pre post : PlacementValue) (a x : ℕ → ℕ → �
   run = run_is m pre post a x s chunks nodes links moves tells
 
   sender_has : All (λ h. holds (after pre s (h.step - 1)) (h.chunk, h.from) ≡ true) s.sends
-  sender_has = λ i d low.
-      let h = get_or s.sends i d in
-      let it = tells.told i d low in
-      let from : it.link.1.0 ≡ h.from = ap (λ l. l.0) it.ends in
-      run (h.step - 1) h.chunk h.from (omega (arith, it.step.to)) it.chunk (omega (arith, from, it.is_link.from))
-      ∙ ap (λ n. a h.chunk n (h.step - 1)) (sym from) ∙ moves.sender h.chunk h.step it.link it.chunk it.is_link it.step it.sent
+  sender_has = grind (arith, run)
 
   lacked : (i : ℕ) (d : Hop) → i < length s.sends → a (get_or s.sends i d).chunk (get_or s.sends i d).to ((get_or s.sends i d).step - 1) ≡ false
   lacked i d low = grind (arith, nat_tests)
@@ -53,16 +48,11 @@ module _ (m : SendMapValue) (pre post : PlacementValue) (a x : ℕ → ℕ → �
   to_below i d low = let it = tells.told i d low in omega (arith, ap (λ l. l.1) it.ends, it.is_link.to)
 
   receiver_lacks : All (λ h. holds (after pre s (h.step - 1)) (h.chunk, h.to) ≡ false) s.sends
-  receiver_lacks = λ i d low.
-      let h = get_or s.sends i d in
-      let it = tells.told i d low in
-      run (h.step - 1) h.chunk h.to (omega (arith, it.step.to)) it.chunk (to_below i d low) ∙ lacked i d low
+  receiver_lacks = grind (arith, run, to_below, lacked)
 
   kept_on : (c n k j : ℕ) → c < m.chunks → n < m.nodes → k + j ≤ m.steps → a c n k ≡ true → a c n (k + j) ≡ true
   kept_on c n k zero cl nl le h = let same : k + zero ≡ k = omega arith in ap (a c n) same ∙ h
-  kept_on c n k (suc j) cl nl le h =
-      let back : k + suc j - 1 ≡ k + j = omega arith in
-      moves.keeps c n (k + suc j) cl nl (record { from = omega arith; to = le }) (ap (a c n) back ∙ kept_on c n k j cl nl (omega (arith, le)) h)
+  kept_on c n k (suc j) cl nl le h = grind (arith, kept_on c n k j cl nl (omega (arith, le)) h)
 
   listed_into : (z : ℕ × (ℕ × ℕ)) (n : ℕ) → IsLinkOf m z → z.1.1 ≡ n → Among z (links_into m n)
   listed_into z n at node = among_kept (λ y. eqb y.1.1 n) z (enumerate_from 0 m.links) (link_listed m z at) (eq-eqb z.1.1 n node)
@@ -96,16 +86,7 @@ module _ (m : SendMapValue) (pre post : PlacementValue) (a x : ℕ → ℕ → �
       (cases_lt g.step h.step)
 
   pub is_tight : Tight pre s
-  is_tight = record {
-    sender = sender_has;
-    receiver = receiver_lacks;
-    once = λ i j d low few.
-        let g = get_or s.sends i d in
-        let h = get_or s.sends j d in
-        false_from_ne_true (same_pair (g.chunk, g.to) (h.chunk, h.to)) (λ same.
-        let is = pair_is (g.chunk, g.to) (h.chunk, h.to) same in
-        never_received_twice i j d low few (ap (λ p. p.0) is) (ap (λ p. p.1) is));
-  }
+  is_tight = grind (arith, sender_has, receiver_lacks, false_from_ne_true, pair_is, never_received_twice)
 
   pub delivers : IsPlacement post → post.chunks ≡ m.chunks → post.nodes ≡ m.nodes → length s.rounds ≡ m.steps → All (λ pair. holds (after pre s (length s.rounds)) pair ≡ true) post.pairs
   delivers ok pc pn steps = λ i d low.
