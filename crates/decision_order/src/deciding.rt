@@ -242,6 +242,16 @@ impl Decider {
         Ok(())
     }
 
+    /// Makes the queue, where there is none yet.
+    fn make_queue(&mut self, alloc: Global) -> Result<(), OutOfMemory>
+        ensures { self.new ≡ self.old }
+    {
+        if self.queue.is_none() {
+            self.queue = Some(Queue::new(alloc, self.vars)?);
+        }
+        Ok(())
+    }
+
     /// Makes the variables through which a conflict came about, and where the search is focused
     /// those in the reasons of the literals of its line too, likelier to be decided; those past the
     /// last are passed over. The opening keeps the queue as well, with which a focused turn goes on.
@@ -256,38 +266,19 @@ impl Decider {
         requires { self.old ≡ core.now.vars }
         ensures { self.new ≡ self.old }
     {
-        match self.mode {
-            Mode::Opening => {
-                self.raise(met);
-                self.bump(alloc, core, met, &[])
-            }
-            Mode::Focused => self.bump(alloc, core, met, lits),
-            Mode::Stable => {
-                self.raise(met);
-                Ok(())
-            }
+        if self.mode != Mode::Focused {
+            self.raise(met);
         }
-    }
-
-    /// Bumps variables in the queue, which is made at the first line, and those in the reasons of
-    /// literals.
-    fn bump(
-        &mut self,
-        alloc: Global,
-        core: &Core,
-        met: &[Lit],
-        lits: &[Lit],
-    ) -> Result<(), OutOfMemory>
-        requires { self.old ≡ core.now.vars }
-        ensures { self.new ≡ self.old }
-    {
-        if self.queue.is_none() {
-            self.queue = Some(Queue::new(alloc, self.vars)?);
+        let reasons = match self.mode {
+            Mode::Stable => return Ok(()),
+            Mode::Opening => &[],
+            Mode::Focused => lits,
+        };
+        self.make_queue(alloc)?;
+        match &mut self.queue {
+            Some(queue) => bump(queue, core, met, reasons),
+            None => Ok(()),
         }
-        if let Some(queue) = &mut self.queue {
-            return bump(queue, core, met, lits);
-        }
-        Ok(())
     }
 
     /// Makes variables more active.

@@ -12,8 +12,8 @@ const STABLE: u64 = 500;
 /// How a search goes on.
 #[derive(Clone, Copy, Debug, PartialEq, Eq)]
 pub enum Mode {
-    /// The first turn, which ends short proofs: variables go by activity, and the search begins anew
-    /// by averages.
+    /// The first turn, in which short proofs are found: variables go by activity, and the search
+    /// begins anew by averages.
     Opening,
     /// A turn in which long proofs are found: variables go by their last bump, and the search
     /// begins anew by averages.
