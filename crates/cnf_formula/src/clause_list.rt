@@ -1,6 +1,6 @@
 //! Clauses, one after another in one list of literals.
 
-ghost use Rattle.std.specs.Prelude.{◌≡◌, ◌<◌, ◌≤◌, [], ◌∷◌, ◌++◌, length, get_or, slice_range, flat_map, IfOk, OnOk, OnErr};
+ghost use Rattle.std.specs.Prelude.{◌≡◌, ◌<◌, ◌≤◌, [], ◌∷◌, ◌++◌, length, get_or, slice_range, flat_map, OnOk, OnErr};
 
 use crate::lit::Lit;
 use std::alloc::{AllocError, Global};
@@ -53,17 +53,6 @@ impl ClauseList {
             lits: Vec::new(alloc),
             ends: Vec::new(alloc),
         }
-    }
-
-    /// No clause, with room for so many clauses that have so many literals in all. `Err` comes only
-    /// where memory runs out.
-    pub fn with_room(alloc: Global, clauses: usize, lits: usize) -> Result<ClauseList, AllocError>
-        ensures { IfOk result (λ clauses. clauses ≡ []) }
-    {
-        Ok(ClauseList {
-            lits: Vec::with_capacity(alloc, lits)?,
-            ends: Vec::with_capacity(alloc, clauses)?,
-        })
     }
 
     /// How many clauses there are.

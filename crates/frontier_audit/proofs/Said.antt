@@ -1,5 +1,5 @@
 -- What is said of the files of a candidate, and what it denies.
-use Rattle.std.proofs.Common.{arith, ◌≡◌, ℕ, Bool, true, false, List, Option, None, Some, refl, sym, ap, ◌∙◌, subst, not, ◌==◌, if◌then◌else◌, IsTrue, AllPairs}
+use Rattle.std.proofs.Common.{arith, ◌≡◌, ℕ, Bool, true, false, List, Option, None, Some, refl, sym, ap, ◌∙◌, subst, not, ◌==◌, IsTrue, AllPairs}
 use Rattle.outer_ports.specs.{declared.{part.Part.Part, proof_name.{FileKind.TheVariants.{Cnf, Lrat, Partial}, ProofName.ProofName}}, Files.{Files, kind_number}, Port.Tells, Shelf.FilesStay}
 use Rattle.cnf_formula.specs.Formulas.{FormulaValue}
 use Rattle.candidate_order.{specs.{declared.candidate.Candidate.Candidate, Costs.Before, Frontiers.{QuestionValue, UnknownValue}}, proofs.Orders.Before-irrefl}

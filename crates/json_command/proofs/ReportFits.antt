@@ -1,5 +1,5 @@
 -- The JSON of a report is read back: its numbers are small, and its texts are names and words.
-use Rattle.std.proofs.Common.{◌≡◌, ◌⊎◌, inl, inr, ℕ, ◌<◌, ◌≤◌, Bool, true, false, List, [], ◌∷◌, ◌++◌, length, map, refl, sym, ◌∙◌, ltb-true, arith, IsUtf8, All, codes, slice_index_or}
+use Rattle.std.proofs.Common.{◌≡◌, ◌⊎◌, inl, inr, ℕ, ◌<◌, ◌≤◌, Bool, true, false, List, [], ◌∷◌, length, map, refl, sym, ◌∙◌, ltb-true, arith, IsUtf8, All, codes, slice_index_or}
 use Rattle.std.proofs.lemmas.{Bool.and_parts, List.Elements.{All-head, All-tail}}
 use Rattle.json.proofs.Printed.Utf8.{IsUtf8-are_ascii, are_ascii}
 use Rattle.outer_ports.specs.declared.part.Part.{Part}
@@ -14,11 +14,11 @@ use Rattle.topology_text.specs.{Names.is_name, Spelling.name_at}
 use Rattle.report_form.specs.Reports.{HasSchedule, IsFrontier, IsJoinedPoint, IsPrintedPoint, IsReport, ReportValue, WordsValue, question_of}
 use Rattle.report_form.specs.Spelling.{part_words}
 use Rattle.report_laws.proofs.PointsAgain.{base_of}
-use Rattle.serde_json.specs.{Data.{Data, string}, View.items_of}
+use Rattle.serde_json.specs.View.{items_of}
 use Rattle.json_values.specs.Json.{count_of}
 use Rattle.json_rules.specs.{ReportForm.{frontier, point, send, words}, ReportJson.report_json}
 use Rattle.json_reports.{specs.Candidates.{refuted, unknown}, proofs.Keys.words_with}
-use Rattle.json_command.proofs.{Fitting.{Fits, ItemsFit, MembersFit}, TopologyFits.{name_fits, small, topology_fits}}
+use Rattle.json_command.proofs.{Fitting.{Fits, ItemsFit}, TopologyFits.{name_fits, small, topology_fits}}
 
 module _ (names : List (List ℕ)) (named : All (λ n. is_name n ≡ true) names) where
   send_fits : (h : Hop) → h.chunk < small → h.step < small → Fits ((send names).json h)

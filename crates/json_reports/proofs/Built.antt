@@ -1,5 +1,5 @@
 -- The JSON of a report has no floats and is not deep, and it is read back.
-use Rattle.std.proofs.Common.{◌≡◌, ℕ, ◌≤◌, ◌||◌, Bool, true, false, List, [], ◌∷◌, ◌++◌, map, Some, option_map, refl, ap, ap₂, ◌∙◌, arith, Ok, IsUtf8, codes, if◌then◌else◌}
+use Rattle.std.proofs.Common.{◌≡◌, ℕ, ◌≤◌, ◌||◌, Bool, true, false, List, [], ◌∷◌, ◌++◌, map, Some, option_map, refl, ap, ap₂, ◌∙◌, arith, Ok, IsUtf8}
 use Rattle.text_lines.specs.{Text.text_of, Check.◌>>=◌}
 use Rattle.outer_ports.specs.declared.part.Part.{Part}
 use Rattle.schedule.specs.{declared.hop.Hop.Hop, Sends.ScheduleValue}
@@ -7,9 +7,9 @@ use Rattle.collective_spec.specs.Kinds.{takes_root, word_of}
 use Rattle.candidate_order.specs.{declared.{candidate.Candidate.Candidate, mark.Mark.Mark}, Frontiers.{PointValue, FrontierValue}}
 use Rattle.candidate_order.specs.declared.mark.Mark.TheVariants as mark
 use Rattle.topology_text.specs.Spelling.{name_at}
-use Rattle.report_form.specs.{Reports.{WordsValue, ReportValue, IsReport}, Reading.report_of, Spelling.{report_lines, report_text}}
+use Rattle.report_form.specs.{Reports.{ReportValue, IsReport}, Reading.report_of, Spelling.{report_lines, report_text}}
 use Rattle.report_laws.proofs.ReportAgain.{report_again}
-use Rattle.serde_json.specs.{Data.{Data, string, depth}, Read.read, Written.{has_float}}
+use Rattle.serde_json.specs.{Data.depth, Read.read, Written.has_float}
 use Rattle.json_values.specs.{Json.{array_of, count_of}, Forms.each, Answer.{of_json, of_text}}
 use Rattle.json_values.proofs.Built.{whole_items, flat_items, topology_whole, topology_flat, text_back}
 use Rattle.json_rules.specs.{ReportForm.{send, point, frontier}, ReportJson.{report_json, report_text_in}}

@@ -4,20 +4,20 @@ use Rattle.std.{specs.{Prelude.unwrap_or, List.{All, AllByRecursion, flat_map}},
 use Rattle.outer_ports.specs.declared.part.Part.{Part}
 use Rattle.outer_ports.specs.declared.part.Part.TheVariants as part
 use Rattle.schedule.{specs.{declared.hop.Hop.Hop, Links.GroupValue, Sends.is_hop_below}, proofs.First.each_weaker}
-use Rattle.collective_spec.specs.{declared.kind.Kind.Kind, Kinds.{word_of, every_kind, takes_root}, Patterns.PatternValue, Collectives.chunks_in}
+use Rattle.collective_spec.specs.{declared.kind.Kind.Kind, Kinds.{word_of, takes_root}, Patterns.PatternValue, Collectives.chunks_in}
 use Rattle.collective_spec.specs.declared.kind.Kind.TheVariants as kind
-use Rattle.candidate_order.specs.declared.{pruning.Pruning.Pruning, candidate.Candidate.Candidate, mark.Mark.Mark}
-use Rattle.candidate_order.specs.Frontiers.{PointValue, UnknownValue, FrontierValue, QuestionValue}
+use Rattle.candidate_order.specs.declared.mark.Mark.{Mark}
+use Rattle.candidate_order.specs.Frontiers.{PointValue, FrontierValue, QuestionValue}
 use Rattle.candidate_order.specs.declared.mark.Mark.TheVariants as mark
 use Rattle.topology_text.specs.{Names.AreNames, Spelling.{name_at, version_word}}
 use Rattle.report_form.specs.Reports.{WordsValue, ReportValue, IsReport, IsFrontier, IsPrintedPoint, IsJoinedPoint, HasSchedule, parts_of, question_of}
 use Rattle.report_form.specs.Spelling.{pruning_words, synth_words, point_lines, rounds_words, send_words, refuted_words, unknown_words, frontier_lines, joined_lines, report_lines}
 use Rattle.list_laws.proofs.Each.{each_always}
-use Rattle.serde_json.specs.{Data.{Data, object, string, Members, no_members, put}, Find.{as_array, get}}
-use Rattle.json_values.specs.{Json.count_of, Shape.{◌>>=◌, ◌⊕◌, one, headed}, Forms.{count, each, name, row_read}, TopologyForm.version, TopologyJson.{topology_in, topology_json}}
+use Rattle.serde_json.specs.{Data.{Data, string}, Find.{as_array, get}}
+use Rattle.json_values.specs.{Shape.{◌>>=◌, ◌⊕◌, one, headed}, Forms.{count, each, name, row_read}, TopologyForm.version, TopologyJson.topology_json}
 use Rattle.json_values.proofs.TopologyForm.{each_one, each_some, name_there, topology_form}
 use Rattle.json_reports.{specs.Candidates.{refuted, unknown}, proofs.Keys.words_with}
-use Rattle.json_rules.specs.{ReportForm.{send, point, frontier, kinds, words, report}, ReportJson.{report_json, report_in}}
+use Rattle.json_rules.specs.{ReportForm.{send, point, frontier, kinds, words}, ReportJson.{report_json, report_in}}
 
 -- the sends are of nodes that have a name
 abbrev SendsBelow : List (List ℕ) → PointValue → Type 0

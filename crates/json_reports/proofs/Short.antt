@@ -4,7 +4,7 @@ use Rattle.std.{specs.{List.{AllByRecursion, list_any}, Cmp.Lexicographic.bytes_
 use Rattle.text_lines.specs.Text.{line}
 use Rattle.collective_spec.specs.Kinds.{word_of, every_kind}
 use Rattle.serde_json.specs.{Data.{Data, null, boolean, number, string, array, object, no_members, put}, Find.{as_str, get}}
-use Rattle.json_values.{specs.{Shape.{◌>>=◌, one, count_in, name_in}, Forms.{count, name, says_word, word}, Answer.text_of_json}, proofs.TopologyShort.{count_token, name_token, topology_short, version_token}}
+use Rattle.json_values.{specs.{Shape.{◌>>=◌, count_in, name_in}, Forms.{count, name, says_word, word}, Answer.text_of_json}, proofs.TopologyShort.{count_token, name_token, topology_short, version_token}}
 use Rattle.json_values.proofs.Short.{Short, name_short, number_short, wider, both_short, headed_short, each_short, row_short, field_short, object_short, if_short, nothing_short, some_short, token_short, keyed_short, lined_short, text_short}
 use Rattle.json_reports.proofs.Keys.{may_put}
 use Rattle.json_rules.specs.{ReportForm.{send, point, frontier, kinds, words}, ReportJson.{report_in, report_text_in}}

@@ -7,7 +7,7 @@ use Rattle.collective_spec.specs.Patterns.{PatternValue}
 use Rattle.topology_text.{specs.{Value.{NamedTopologyValue, IsNamed}, Spelling.{name_at, lines_of, spelling}, Reading.topology_of}, proofs.Laws.all_again}
 use Rattle.serde_json.specs.{Data.{Data, string, depth, items_depth}, Read.read, View.items_of, Written.{has_float, items_have_float}}
 use Rattle.json_values.specs.{declared.fault.JsonCode.TheVariants.{NotJson, BadShape}, Json.array_of, Answer.{text_of_json, of_json, of_text, topology_of_json}}
-use Rattle.json_values.specs.{Forms.{Form, each, name, via}, TopologyForm.{link, group, custom}, TopologyJson.{topology_json, topology_text_in}}
+use Rattle.json_values.specs.{Forms.{each, name, via}, TopologyForm.{link, group, custom}, TopologyJson.{topology_json, topology_text_in}}
 use Rattle.json_values.proofs.{Blank.same_value, Values.value_is, TopologyForm.topology_form}
 
 -- ---- what holds of each item holds of the list

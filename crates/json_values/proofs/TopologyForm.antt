@@ -6,7 +6,7 @@ use Rattle.schedule.{specs.{Links.{GroupValue, IsBelow}, Placed.{PlacementValue,
 use Rattle.collective_spec.specs.Patterns.{PatternValue, IsPattern}
 use Rattle.topology_text.specs.{Names.{is_name, AreNames}, Value.{NamedTopologyValue, IsNamed}}
 use Rattle.topology_text.specs.Spelling.{name_at, link_word, header_words, nodes_words, group_words, holder_words, custom_lines, lines_of, head_words}
-use Rattle.serde_json.specs.{Data.{Data, string, Items}, Events.items_len, View.items_of}
+use Rattle.serde_json.specs.{Data.{string, Items}, Events.items_len, View.items_of}
 use Rattle.json_values.specs.{Shape.{◌⊕◌, one, headed}, Forms.{Form, each, name, via}}
 use Rattle.json_values.specs.{TopologyForm.{link, group, custom, chunks_read}, TopologyJson.{topology_json, topology_in}}
 

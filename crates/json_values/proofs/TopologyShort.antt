@@ -1,10 +1,10 @@
 -- How long the text is that the JSON of a topology stands for.
-use Rattle.std.proofs.Common.{◌≡◌, ℕ, ◌+◌, ◌*◌, ◌≤◌, ◌==◌, Bool, true, false, List, [], ◌∷◌, ◌++◌, length, Option, Some, None, option_map, arith, length-append, codes, decimal, IfSome, if◌then◌else◌}
+use Rattle.std.proofs.Common.{ℕ, ◌+◌, ◌*◌, ◌≤◌, ◌==◌, Bool, true, false, List, [], ◌∷◌, length, Option, Some, None, option_map, arith, length-append, codes, decimal, IfSome, if◌then◌else◌}
 use Rattle.std.specs.List.{join_with_byte}
 use Rattle.text_lines.specs.Text.{line}
 use Rattle.serde_json.specs.{Data.{Data, null, boolean, number, string, array, object, Items, no_items, item, no_members, member, put}, Events.items_len, Find.{as_array, get}}
 use Rattle.json_values.specs.{Size.{size, items_size}, Shape.{◌>>=◌, ◌⊕◌, one, headed, count_in, name_in}, Forms.{each, name, row_read, says_word}}
-use Rattle.json_values.specs.{TopologyForm.{version, link, group, chunks_read, custom, topology}, TopologyJson.topology_in, inner.Chunks.chunks_in}
+use Rattle.json_values.specs.{TopologyForm.{version, group, chunks_read}, TopologyJson.topology_in, inner.Chunks.chunks_in}
 use Rattle.json_values.proofs.Short.{AtMost, Short, some_size, decimal_short, name_short, number_short, within, at_least, ahead, both, fixed, wider, both_short, headed_short, each_short, field_short, object_short, if_short, nothing_short, token_short, lined_short}
 
 pub name_token : Short (λ w. 32 ∷ w) 17 name.read

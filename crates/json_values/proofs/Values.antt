@@ -1,5 +1,5 @@
 -- The value that bytes are, and pairs in a list.
-use Rattle.std.proofs.Common.{◌≡◌, ◌≢◌, ℕ, suc, Bool, true, false, List, [], ◌∷◌, ◌++◌, length, get_or, Option, Some, None, refl, sym, ap, ◌∙◌, ◌==◌, arith, bytes_eq, if◌then◌else◌, option_map, slice_index_or, true≢false, IsUtf8}
+use Rattle.std.proofs.Common.{◌≡◌, ◌≢◌, ℕ, Bool, true, false, List, [], ◌∷◌, ◌++◌, length, get_or, Option, Some, None, refl, sym, ap, ◌∙◌, ◌==◌, arith, bytes_eq, if◌then◌else◌, option_map, slice_index_or, true≢false, IsUtf8}
 use Rattle.std.{specs.{Prelude.unwrap_or, List.{join_with_byte, list_any}, Str.is_utf8}, proofs.lemmas.{Bool.ne_eqb, Slice.Eq.bytes_eq-Decides, Str.{is_utf8-from_IsUtf8, IsUtf8-from_is_utf8}}}
 use Rattle.serde_json.specs.{Data.Data, Find.{as_str, get}, Read.read, View.{view, items_view}, declared.value.Value.Value}
 use Rattle.json_values.specs.{Json.value_of, Shape.{◌>>=◌, ◌⊕◌, one, name_in}, Forms.{name, row_read, says_word, word}, Pieces.says}

@@ -1,7 +1,7 @@
 -- Lines that lie one after another in two lists, as these grow.
 use Rattle.std.proofs.Common.{◌≡◌, ℕ, ◌+◌, ◌-◌, ◌≤◌, List, [], ◌∷◌, ◌++◌, map, length, take, drop, refl, sym, ap, ◌∙◌, arith, pos, All, slice_range}
 use Rattle.std.proofs.lemmas.List.{take-append-le, drop-append-le, drop_at, drop_all, take_all, length-drop, length-append, map_push}
-use Rattle.std.proofs.lemmas.List.Elements.{All-head, All-tail, All-push, All-weaker}
+use Rattle.std.proofs.lemmas.List.Elements.{All-head, All-tail}
 use Rattle.cnf_formula.specs.{Literals.LitValue, Lines.ProofLineValue}
 use Rattle.ledger_rules.specs.{Logs.learned, declared.line_list.LineRow.LineRow, inner.Stored.{line_in, Lies}}
 
@@ -48,9 +48,6 @@ module _ (lits xs : List LitValue) (hints ns : List ℕ) where
     hints_run = omega (arith, next.hints_start, next.hints_end);
     hints_in = omega (arith, length-append hints ns, next.hints_end);
   }
-
-  pub all_lie : (rows : List LineRow) (row : LineRow) → All (Lies lits hints) rows → IsNext row → All (Lies (lits ++ xs) (hints ++ ns)) (rows ++ row ∷ [])
-  all_lie rows row a next = All-push (Lies (lits ++ xs) (hints ++ ns)) rows row (All-weaker (Lies lits hints) (Lies (lits ++ xs) (hints ++ ns)) still_lies rows a) (next_lies row next)
 
   next_line : (row : LineRow) → IsNext row → line_in (lits ++ xs) (hints ++ ns) row ≡ record { id = row.id; lits = xs; hints = map pos ns }
   next_line row next =

@@ -1,9 +1,9 @@
 -- Groups one after another.
 use Rattle.std.{proofs.lemmas.{Bool.Decides.nat_tests, Grind.common_steps}, specs.{List.list_any, BTreeSet.{BTreeSet, contains}, Ordering.nat_cmp}}
-use Rattle.std.proofs.Common.{◌≡◌, ℕ, ◌+◌, ◌<◌, Bool, true, false, List, [], ◌∷◌, length, drop, get_or, Option, Some, None, refl, ap, ◌∙◌, arith, ◌==◌, ◌||◌, ℤ, pos, negsuc, is_some, w64, SFits, of_z, to_z}
+use Rattle.std.proofs.Common.{◌≡◌, ℕ, ◌+◌, ◌<◌, Bool, false, List, [], ◌∷◌, length, drop, get_or, Option, None, arith, ◌==◌, ◌||◌, ℤ, pos, negsuc, is_some, w64, SFits, of_z, to_z}
 use lib.IntN.{nat_abs}
 use Rattle.cnf_formula.specs.Literals.{LitValue}
-use Rattle.proof_rules.specs.{Held.{Entry, clause_at}, Judging.{Fault, group_fault, groups_fault}, Accepting.{Group, leading, hint_groups_from, groups_of}}
+use Rattle.proof_rules.specs.{Held.{Entry, clause_at}, Judging.{group_fault, groups_fault}, Accepting.{Group, leading, hint_groups_from, groups_of}}
 use Rattle.lrat_checker.specs.inner.Steps.{Same}
 
 -- the groups before this place have no fault, and their clauses are in the set
@@ -16,9 +16,6 @@ pub record Left (held : List Entry) (pivot : LitValue) (start : List LitValue) (
 module _ (held : List Entry) (pivot : LitValue) (start : List LitValue) (hints : List ℤ) where
   abbrev pub group_at : ℕ → ℕ → Group
   group_at at id = record { place = at; named = id; hints = leading (drop (at + 1) hints) }
-
-  pub group_here : (at n : ℕ) → drop at hints ≡ negsuc n ∷ drop (at + 1) hints → hint_groups_from at (drop at hints) ≡ group_at at (n + 1) ∷ hint_groups_from (at + 1) (drop (at + 1) hints)
-  group_here at n e = ap (hint_groups_from at) e
 
   swap : (a b c : Bool) → (a || (b || c)) ≡ ((b || a) || c)
   swap a b c = grind arith

@@ -1,5 +1,5 @@
 -- Two names of files are never spelled alike.
-use Rattle.std.proofs.Common.{◌≡◌, ◌≢◌, ◌∙◌, refl, sym, ap, ℕ, ◌<◌, ◌≤◌, List, [], ◌∷◌, ◌++◌, length, drop, get_or, arith, append_assoc, length-append, IsTrue, codes, decimal}
+use Rattle.std.proofs.Common.{◌≡◌, ◌≢◌, ◌∙◌, refl, sym, ap, ℕ, ◌<◌, ◌≤◌, List, [], ◌∷◌, ◌++◌, drop, get_or, arith, append_assoc, IsTrue, codes, decimal}
 use Rattle.std.{specs.{Char.digit_value, Str.Parse.{AllDigits, IsNumeral}}, proofs.lemmas.Fmt.{decimal_injective, decimal_is_IsNumeral}}
 use Rattle.std.proofs.lemmas.List.{append_cancel_left}
 use Rattle.outer_ports.specs.declared.{part.Part.{Part, TheVariants.{Whole, Reduce, Gather, Joined}}, proof_name.{FileKind.FileKind, ProofName.ProofName}}
@@ -141,6 +141,3 @@ path_not_fresh folder a range same =
     by_part Reduce e = absurd (heads_less 110 114 _ _ (omega arith) (sym e))
     by_part Gather e = absurd (heads_less 103 110 _ _ (omega arith) e)
     by_part Joined e = absurd (heads_less 106 110 _ _ (omega arith) e)
-
-pub path_not_folder : (folder : List ℕ) (a : ProofName) → path_in folder a ≢ folder
-path_not_folder folder a same = let long : length (path_in folder a) ≡ length folder = ap length same in absurd (grind (arith, length-append))

@@ -57,9 +57,6 @@ none_read number disk folder reading none name file reads = absurd (some_is_none
 pub one_read : {F : Type 0} (number : F → ℕ) (disk : Disk) (folder : List ℕ) (reading : Option (ProofName × F)) (name : ProofName) (file : F) → reading ≡ Some (name, file) → IsRead disk folder name (number file) → AllRead number disk folder reading
 one_read number disk folder reading name file is read other opened reads = grind (arith, same_held)
 
-pub missing_file : (disk : Disk) (folder : List ℕ) (name : ProofName) → disk.number (path_in folder name) ≡ None → files_in_folder disk folder name ≡ None
-missing_file disk folder name none = grind arith
-
 -- after a file was made anew, each that is open is still that of its name
 pub begun_held : {F : Type 0} (number : F → ℕ) (before now : Disk) (folder : List ℕ) (name : ProofName) (file : F) (held begun : OpenFiles F) → IsTrue (in_range name) → Holds begun name file → ((other : FileKind) → other ≢ name.kind → open_of begun other ≡ open_of held other) → IsOwn now (path_in folder name) (number file) → Spares (IsNeither (fresh_in folder) (path_in folder name)) before now → AllHeld number before folder held → AllHeld number now folder begun
 begun_held number before now folder name file held begun range here others own spares all other opened holds = by_name (held_after held begun name file here others other opened holds)

@@ -1,6 +1,6 @@
 -- The tests of a line say what the relations say, and so whether its verdict is that it is accepted.
-use Rattle.std.{proofs.lemmas.{Bool.Decides.nat_tests, List.Elements.{All-nil, All-head, All-tail}}, specs.List.{list_any, list_all}}
-use Rattle.std.proofs.Common.{◌≡◌, ℕ, max, Bool, true, false, List, [], ◌∷◌, length, map, Option, Some, None, refl, sym, ap, ⊎_elim, arith, ◌↔◌, ◌==◌, ◌≢◌, ◌&&◌, ◌||◌, not, if◌then◌else◌, All, AllPairs, nat_le, nat_lt}
+use Rattle.std.{proofs.lemmas.{Bool.Decides.nat_tests, List.Elements.{All-nil, All-head, All-tail}}, specs.List.list_any}
+use Rattle.std.proofs.Common.{◌≡◌, ℕ, Bool, true, false, List, [], ◌∷◌, map, Option, Some, None, refl, sym, ap, ⊎_elim, arith, ◌↔◌, ◌==◌, ◌≢◌, ◌&&◌, ◌||◌, not, if◌then◌else◌, All, AllPairs, nat_le, nat_lt}
 use Rattle.std.proofs.lemmas.{List.Sums.{AllPass-from_list_all, list_all-from_AllPass}, Bool.{false≢true, or_cases, or_left, or_right, or_from, ne_eqb}}
 use Rattle.list_laws.proofs.Pairs.{no_pairs, pairs_head, pairs_tail}
 use Rattle.cnf_formula.specs.{Literals.LitValue, Lines.ProofLineValue, declared.line.LratLine.{LratLine, TheVariants.{Addition, Deletion}}}

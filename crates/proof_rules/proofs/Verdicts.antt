@@ -1,6 +1,6 @@
 -- An addition has the verdict that it is implied, or that it is accepted without being so, exactly by the definitions.
-use Rattle.std.{proofs.lemmas.{Grind.common_steps, List.{Folds.list_any_none, Sums.list_all-from_AllPass}}, specs.List.list_any}
-use Rattle.std.proofs.Common.{◌≡◌, ℕ, ◌<◌, max, Bool, true, false, List, [], ◌∷◌, length, get_or, Some, None, Ok, Err, refl, sym, ap, ◌∙◌, arith, ◌↔◌, ◌==◌, ◌≢◌, if◌then◌else◌, All, AllPairs, nat_le, nat_lt}
+use Rattle.std.proofs.lemmas.{Grind.common_steps, List.{Folds.list_any_none, Sums.list_all-from_AllPass}}
+use Rattle.std.proofs.Common.{◌≡◌, ℕ, Bool, true, false, List, [], ◌∷◌, Some, None, Ok, Err, refl, arith, ◌↔◌, ◌==◌, ◌≢◌, if◌then◌else◌, All, AllPairs, nat_le, nat_lt}
 use Rattle.std.proofs.lemmas.Bool.{le-ltb, lt-leb, ne_eqb, or_from}
 use Rattle.list_laws.proofs.Pairs.{pairs_head, pairs_tail}
 use Rattle.cnf_formula.specs.{Literals.LitValue, Formulas.IsAbout, Lines.ProofLineValue}

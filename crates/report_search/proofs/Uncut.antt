@@ -1,5 +1,5 @@
 -- What an engine settles that is not handed what sets of nodes refute, and what is owed of that.
-use Rattle.std.proofs.Common.{◌≡◌, ◌⊎◌, inl, inr, Bool, true, false, List, All, Contains, Option, None, Some, refl, sym, ap, subst, ◌∙◌, not, filter, map}
+use Rattle.std.proofs.Common.{◌≡◌, ◌⊎◌, inl, inr, Bool, true, false, List, All, Contains, Option, None, Some, refl, sym, ap, subst, ◌∙◌, not, filter}
 use Rattle.std.{specs.Option.is_some, proofs.lemmas.List.Elements.{All-contains, All-contains_itself, All-filter, All-map, All-weaker, filter_passes}}
 use Rattle.list_laws.proofs.{Each.all_contained, Members.Contains-filter}
 use Rattle.outer_ports.specs.{declared.part.Part.Part, Files.Files}

@@ -38,9 +38,6 @@ pub holders_is : (word : List ℕ) (g : ℕ) (names : List (List ℕ)) → word 
 holders_is word g names =
     sym (ap (λ t. t ++ 10 ∷ []) (join_fields word (decimal g ∷ names)) ∙ append_assoc word (32 ∷ decimal g ++ fields names) (10 ∷ []) ∙ ap (λ t. word ++ t) (append_assoc (32 ∷ decimal g) (fields names) (10 ∷ [])))
 
-pub base_is : (base : ℕ) → codes "custom " ++ (decimal base ++ codes "\n") ≡ line (codes "custom" ∷ decimal base ∷ [])
-base_is base = sym (append_assoc (codes "custom ") (decimal base) (10 ∷ []))
-
 -- one more of the numbers that pass a test
 pub passing_more : (p : ℕ → Bool) (n : ℕ) → filter p (range_with_len 0 (n + 1)) ≡ filter p (range_with_len 0 n) ++ cond (p n) (n ∷ []) []
 passing_more p n =

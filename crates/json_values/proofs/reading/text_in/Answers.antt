@@ -1,4 +1,4 @@
-use Rattle.std.proofs.Common.{◌≡◌, ℕ, List, [], ◌++◌, Option, Some, None, inr, ap, sym, ◌∙◌, option_map}
+use Rattle.std.proofs.Common.{◌≡◌, ℕ, List, ◌++◌, Option, None, inr, ap, sym, ◌∙◌, option_map}
 use Rattle.text_lines.specs.Text.{text_of}
 use Rattle.serde_json.specs.{Data.Data, View.view}
 use Rattle.json_values.proofs.Standing.{text_given, shape_refused}

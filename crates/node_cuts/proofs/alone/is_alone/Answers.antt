@@ -1,4 +1,4 @@
-use Rattle.std.proofs.Common.{◌≡◌, ◌&&◌, ◌||◌, ℕ, Bool, true, false, [], ◌∷◌, length, sym, ap, ◌∙◌, subst, arith, ◌==◌, not}
+use Rattle.std.proofs.Common.{◌&&◌, ◌||◌, ℕ, Bool, true, false, [], ◌∷◌, length, sym, ap, ◌∙◌, subst, arith, ◌==◌, not}
 use Rattle.std.{specs.List.{list_any, range_with_len}, proofs.lemmas.List.Folds.list_any-append}
 use Rattle.list_laws.proofs.Ranges.{any_at}
 use Rattle.schedule.specs.{Links.{GroupValue, has_link}, Placed.same_pair, Tables.Marks, Judging.group_at}

@@ -1,4 +1,4 @@
-use Rattle.std.proofs.Common.{◌≡◌, ◌∷◌, ◌++◌, drop, map, option_map}
+use Rattle.std.proofs.Common.{◌≡◌, ◌++◌, drop, map, option_map}
 use Rattle.text_lines.specs.Text.{fields}
 use Rattle.serde_json.specs.View.{items_view}
 use Rattle.json_values.specs.{Forms.row_read, Pieces.tokens_in}

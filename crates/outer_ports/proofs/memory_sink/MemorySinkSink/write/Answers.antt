@@ -1,6 +1,6 @@
 use Rattle.std.proofs.Common.{rules, inl, inr, refl}
 use Rattle.outer_ports.proofs.memory_sink.MemorySinkSink.write.Goals as goal
-use Rattle.outer_ports.proofs.memory_sink.MemorySinkSink.write.Goals.{then-fails-via-then-fails, then-fails-via-else-fails+then-not-is_empty, then-room-eq0, else-room-eq0}
+use Rattle.outer_ports.proofs.memory_sink.MemorySinkSink.write.Goals.{then-fails-via-then-fails, then-fails-via-else-fails+then-not-is_empty}
 
 pub returns-then-fails-clause-fails : goal.returns-then-fails-clause-fails
 returns-then-fails-clause-fails c =
