@@ -56,6 +56,7 @@ impl ClauseList {
     }
 
     /// How many clauses there are.
+    #[tactic(auto, using(crate::proofs::Lying::cut_long))]
     pub fn len(&self) -> usize
         ensures { result ≡ length self.now }
     {
@@ -63,6 +64,7 @@ impl ClauseList {
     }
 
     /// The literals of the clause at a place, in their order.
+    #[tactic(auto, using(std::proofs::lemmas::List::get_or_read, crate::proofs::Lying::cut_long, crate::proofs::Lying::cut_at, crate::proofs::Lying::ends_at))]
     pub fn clause(&self, place: usize) -> &[Lit]
         requires { place < length self.now }
         ensures { result.now ≡ get_or self.now place [] }
@@ -71,6 +73,7 @@ impl ClauseList {
     }
 
     /// The literals of all clauses, one clause after another.
+    #[tactic(auto, using(crate::proofs::Lying::cut_joined))]
     pub fn lits(&self) -> &[Lit]
         ensures { result.now ≡ flat_map (λ clause. clause) self.now }
     {

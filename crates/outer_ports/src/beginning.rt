@@ -37,6 +37,7 @@ pub(crate) fn make_anew<C: FileCalls>(
 }
 
 // The path of the file, in the folder.
+#[tactic(auto, using(crate::proofs::FileNames::path_not_fresh))]
 pub(crate) fn path_of(alloc: Global, folder: &str, name: ProofName) -> Result<String, ShelfFault>
     ensures path { IfOk result (λ path. string_bytes path ≡ path_in folder.now name) }
     ensures memory { result ≢ Err ShelfFault.Failed }
