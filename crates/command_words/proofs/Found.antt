@@ -1,0 +1,59 @@
+-- Keys looked up in what words give.
+use Rattle.std.proofs.Common.{◌≡◌, ◌∙◌, ◌&&◌, ℕ, Bool, true, false, cond, if◌then◌else◌, sym, ap, refl, subst, List, [], ◌∷◌, map, find, Option, Some, None, IfSome, option_map, is_some, unwrap_or, nat_le, ◌≤◌, ◌<◌, ◌+◌, length, get_or, drop, drop-cons, add-one, arith}
+use Rattle.std.specs.{List.AllByRecursion, Cmp.Lexicographic.bytes_decides, Str.Parse.digits_value}
+use Rattle.text_lines.specs.Number.{number_up_to}
+use Rattle.topology_text.specs.Names.{is_name, name_of}
+use Rattle.command_words.specs.{declared.{given.GivenWord.GivenWord, key.Key.Key, verb.Verb.Verb}, Tables.{named, keys, key_word, key_row, same_key, Takes, Number, Name, OneOf}, Words.fits}
+use Rattle.command_words.specs.inner.Seen.{seen, seen_all, AreFit, AreRight, IsRight, IsUpTo}
+use Rattle.command_words.specs.declared.key.Key.TheVariants as key
+use Rattle.command_words.specs.Given.{Given, given_at, word_at}
+
+-- what is given from a place on begins with what stands there
+pub seen_from : (xs : List GivenWord) (i : ℕ) (x : GivenWord) → i < length xs → x ≡ get_or xs i x → seen_all (drop i xs) ≡ seen x ∷ seen_all (drop (i + 1) xs)
+seen_from xs i x inside here = rw (add-one, drop-cons xs i x, ← here) refl
+
+-- each key is found by its word
+key_found : (k : Key) → named key_word keys (key_word k) ≡ Some k
+key_found key.Collective = refl
+key_found _ = refl
+
+-- keys of one word are one
+pub key_same : (j k : Key) → same_key j k ≡ true → j ≡ k
+key_same j k e = let same : Some j ≡ Some k = sym (key_found j) ∙ ap (named key_word keys) ((bytes_decides (key_word j) (key_word k)).0 e) ∙ key_found k in cc
+
+-- what holds of each key and what gives it holds of a key that is looked up
+pub found : (P : Key → Given → Type 0) (k : Key) (g : List Given) → AllByRecursion (λ x. P x.key x) g → IfSome (given_at k g) (P k)
+found P k [] each = tt
+found P k (x ∷ g) each =
+    elim (same_key k x.key) as (λ b. same_key k x.key ≡ b → IfSome (cond b (Some x) (given_at k g)) (P k))
+    [ true ↦ (λ e. subst (λ j. P j x) (sym (key_same k x.key e)) each.0) | false ↦ (λ _. found P k g each.1) ] refl
+
+-- the value of a key is one that it takes
+fits_at : (k : Key) (g : List Given) (x : Given) → AreFit g → Some x ≡ given_at k g → fits (key_row k).1 x.text ≡ true
+fits_at k g x fit e = subst (λ o. IfSome o (λ y. fits (key_row k).1 y.text ≡ true)) (sym e) (found (λ j y. fits (key_row j).1 y.text ≡ true) k g fit)
+
+number_some : (b m : Bool) (d : ℕ) → (is_some (if b then Some d else None) && m) ≡ true → (if b then Some d else None) ≡ Some d
+number_some true m d e = refl
+number_some false m d e = absurd (cc)
+
+number_fits : (takes : Takes) (greatest : ℕ) (text : List ℕ) → IsUpTo greatest takes → fits takes text ≡ true → number_up_to greatest text ≡ Some (digits_value 10 text)
+number_fits (Number least most) greatest text up fit = rw up (number_some _ _ _ fit)
+number_fits Name greatest text up fit = absurd up
+number_fits (OneOf words) greatest text up fit = absurd up
+
+-- the number of a key is read
+pub number_read : (k : Key) (g : List Given) (x : Given) (greatest : ℕ) → AreFit g → IsUpTo greatest (key_row k).1 → Some x ≡ given_at k g → number_up_to greatest x.text ≡ option_map (λ y. digits_value 10 y.text) (given_at k g)
+number_read k g x greatest fit up e = rw (← e) (number_fits (key_row k).1 greatest x.text up (fits_at k g x fit e))
+
+-- so is the name of a root
+pub name_read : (g : List Given) (x : Given) → AreFit g → Some x ≡ given_at key.Root g → name_of x.text ≡ Some x.text
+name_read g x fit e = rw (fits_at key.Root g x fit e) refl
+
+-- values that are right are fit
+pub right_fit : (verb : Verb) (n : ℕ) (g : List Given) → AreRight verb n g → AreFit g
+right_fit verb n [] right = tt
+right_fit verb n (x ∷ g) right = (right.0.fit, right_fit verb n g right.1)
+
+-- a key is given in one of the first words
+pub word_within : (verb : Verb) (n : ℕ) (k : Key) (g : List Given) → AreRight verb n g → word_at k g ≤ n
+word_within verb n k g right = elim (given_at k g) as (λ o. IfSome o (IsRight verb n k) → unwrap_or (option_map (λ x. x.word) o) 0 ≤ n) [ None ↦ (λ _. omega arith) | Some x ↦ (λ r. r.place) ] (found (IsRight verb n) k g right)
