@@ -25,7 +25,7 @@ pub const MAX_GROUP: u64 = 255;
 pub const MAX_WIDTH: u64 = 16;
 
 /// What stands before the `=` of a word.
-#[derive(Clone, Copy)]
+#[derive(Clone, Copy, PartialEq, Eq)]
 pub enum Key {
     Collective,
     K,
@@ -47,32 +47,6 @@ pub enum Key {
     Sets,
 }
 
-/// The keys.
-fn keys() -> &'static [Key]
-    ensures { result.now ≡ keys }
-{
-    &[
-        Key::Collective,
-        Key::K,
-        Key::Steps,
-        Key::Chunks,
-        Key::Conflicts,
-        Key::Root,
-        Key::Point,
-        Key::Order,
-        Key::Kind,
-        Key::Size,
-        Key::N,
-        Key::Group,
-        Key::Width,
-        Key::What,
-        Key::Cuts,
-        Key::Ordered,
-        Key::Kept,
-        Key::Sets,
-    ]
-}
-
 /// Whether the key is one of these.
 pub fn is_among(key: Key, keys: &[Key]) -> bool
     ensures { result ≡ list_any (same_key key) keys.now }
@@ -91,44 +65,38 @@ fn is_number(text: &str, least: u64, greatest: u64) -> bool
 }
 
 impl Key {
-    /// The name of the key.
-    fn word(self) -> &'static str
-        ensures { result.now ≡ key_word self }
-    {
-        match self {
-            Key::Collective => "collective",
-            Key::K => "k",
-            Key::Steps => "steps",
-            Key::Chunks => "chunks",
-            Key::Conflicts => "conflicts",
-            Key::Root => "root",
-            Key::Point => "point",
-            Key::Order => "order",
-            Key::Kind => "kind",
-            Key::Size => "size",
-            Key::N => "n",
-            Key::Group => "group",
-            Key::Width => "width",
-            Key::What => "what",
-            Key::Cuts => "cuts",
-            Key::Ordered => "ordered",
-            Key::Kept => "kept",
-            Key::Sets => "sets",
-        }
-    }
-
     /// The key with this name.
     pub fn of_word(word: &str) -> Option<Key>
         ensures { result ≡ named key_word keys word.now }
     {
-        keys().iter().copied().find(|key| key.word() == word)
+        match word {
+            "collective" => Some(Key::Collective),
+            "k" => Some(Key::K),
+            "steps" => Some(Key::Steps),
+            "chunks" => Some(Key::Chunks),
+            "conflicts" => Some(Key::Conflicts),
+            "root" => Some(Key::Root),
+            "point" => Some(Key::Point),
+            "order" => Some(Key::Order),
+            "kind" => Some(Key::Kind),
+            "size" => Some(Key::Size),
+            "n" => Some(Key::N),
+            "group" => Some(Key::Group),
+            "width" => Some(Key::Width),
+            "what" => Some(Key::What),
+            "cuts" => Some(Key::Cuts),
+            "ordered" => Some(Key::Ordered),
+            "kept" => Some(Key::Kept),
+            "sets" => Some(Key::Sets),
+            _ => None,
+        }
     }
 
     /// Whether it is this key.
     pub fn is(self, other: Key) -> bool
         ensures { result ≡ same_key self other }
     {
-        self.word() == other.word()
+        self == other
     }
 
     /// Whether the key takes the value.

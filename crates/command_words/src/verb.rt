@@ -21,50 +21,25 @@ pub enum Verb {
     Unjson,
 }
 
-/// The commands.
-fn verbs() -> &'static [Verb]
-    ensures { result.now ≡ verbs }
-{
-    &[
-        Verb::Synth,
-        Verb::Check,
-        Verb::Replay,
-        Verb::Programs,
-        Verb::Family,
-        Verb::Trial,
-        Verb::Bound,
-        Verb::Ordered,
-        Verb::Degrade,
-        Verb::Json,
-        Verb::Unjson,
-    ]
-}
-
 impl Verb {
-    /// The name of the command.
-    fn word(self) -> &'static str
-        ensures { result.now ≡ verb_word self }
-    {
-        match self {
-            Verb::Synth => "synth",
-            Verb::Check => "check",
-            Verb::Replay => "replay",
-            Verb::Programs => "programs",
-            Verb::Family => "family",
-            Verb::Trial => "trial",
-            Verb::Bound => "bound",
-            Verb::Ordered => "ordered",
-            Verb::Degrade => "degrade",
-            Verb::Json => "json",
-            Verb::Unjson => "unjson",
-        }
-    }
-
     /// The verb with this name.
     pub fn of_word(word: &str) -> Option<Verb>
         ensures { result ≡ named verb_word verbs word.now }
     {
-        verbs().iter().copied().find(|verb| verb.word() == word)
+        match word {
+            "synth" => Some(Verb::Synth),
+            "check" => Some(Verb::Check),
+            "replay" => Some(Verb::Replay),
+            "programs" => Some(Verb::Programs),
+            "family" => Some(Verb::Family),
+            "trial" => Some(Verb::Trial),
+            "bound" => Some(Verb::Bound),
+            "ordered" => Some(Verb::Ordered),
+            "degrade" => Some(Verb::Degrade),
+            "json" => Some(Verb::Json),
+            "unjson" => Some(Verb::Unjson),
+            _ => None,
+        }
     }
 
     /// The keys that the command requires.
