@@ -1,9 +1,9 @@
 -- Keys looked up in what words give.
-use Rattle.std.proofs.Common.{◌≡◌, ◌∙◌, ◌&&◌, ℕ, Bool, true, false, cond, if◌then◌else◌, sym, ap, refl, subst, List, [], ◌∷◌, map, find, Option, Some, None, IfSome, option_map, is_some, unwrap_or, nat_le, ◌≤◌, ◌<◌, ◌+◌, length, get_or, drop, drop-cons, add-one, arith}
-use Rattle.std.specs.{List.AllByRecursion, Cmp.Lexicographic.bytes_decides, Str.Parse.digits_value}
+use Rattle.std.proofs.Common.{◌≡◌, ◌∙◌, ◌&&◌, ℕ, Bool, true, false, cond, if◌then◌else◌, bytes_eq, decimal, sym, ap, refl, subst, List, [], ◌∷◌, Some, None, IfSome, option_map, is_some, unwrap_or, nat_le, ◌≤◌, ◌<◌, ◌+◌, length, get_or, drop, drop-cons, add-one, arith}
+use Rattle.std.{specs.{List.AllByRecursion, Cmp.Lexicographic.bytes_decides, Str.Parse.digits_value}, proofs.lemmas.Bool.Decides.nat_tests}
 use Rattle.text_lines.specs.Number.{number_up_to}
-use Rattle.topology_text.specs.Names.{is_name, name_of}
-use Rattle.command_words.specs.{declared.{given.GivenWord.GivenWord, key.Key.Key, verb.Verb.Verb}, Tables.{named, keys, key_word, key_row, same_key, Takes, Number, Name, OneOf}, Words.fits}
+use Rattle.topology_text.specs.Names.{name_of}
+use Rattle.command_words.specs.{declared.{given.GivenWord.GivenWord, key.Key.Key, verb.Verb.Verb}, Tables.{named, keys, key_word, key_row, same_key, Number}, Words.fits}
 use Rattle.command_words.specs.inner.Seen.{seen, seen_all, AreFit, AreRight, IsRight, IsUpTo}
 use Rattle.command_words.specs.declared.key.Key.TheVariants as key
 use Rattle.command_words.specs.Given.{Given, given_at, word_at}
@@ -32,18 +32,22 @@ found P k (x ∷ g) each =
 fits_at : (k : Key) (g : List Given) (x : Given) → AreFit g → Some x ≡ given_at k g → fits (key_row k).1 x.text ≡ true
 fits_at k g x fit e = subst (λ o. IfSome o (λ y. fits (key_row k).1 y.text ≡ true)) (sym e) (found (λ j y. fits (key_row j).1 y.text ≡ true) k g fit)
 
-number_some : (b m : Bool) (d : ℕ) → (is_some (if b then Some d else None) && m) ≡ true → (if b then Some d else None) ≡ Some d
-number_some true m d e = refl
-number_some false m d e = absurd (cc)
+fit_number : (least d : ℕ) (b m : Bool) → (is_some (if b && m then Some d else None) && nat_le least d) ≡ true → ((if b && m then Some d else None) ≡ Some d) × (m ≡ true) × (nat_le least d ≡ true)
+fit_number least d true true e = (refl, refl, e)
+fit_number least d true false e = absurd (cc)
+fit_number least d false m e = absurd (cc)
 
-number_fits : (takes : Takes) (greatest : ℕ) (text : List ℕ) → IsUpTo greatest takes → fits takes text ≡ true → number_up_to greatest text ≡ Some (digits_value 10 text)
-number_fits (Number least most) greatest text up fit = rw up (number_some _ _ _ fit)
-number_fits Name greatest text up fit = absurd up
-number_fits (OneOf words) greatest text up fit = absurd up
+-- a number that fits is read, and it is in the range
+pub number_fits : (least greatest : ℕ) (text : List ℕ) → fits (Number least greatest) text ≡ true → (number_up_to greatest text ≡ Some (digits_value 10 text)) × (least ≤ digits_value 10 text) × (digits_value 10 text ≤ greatest)
+number_fits least greatest text fit =
+    let tests = fit_number least (digits_value 10 text) (bytes_eq text (decimal (digits_value 10 text))) (nat_le (digits_value 10 text) greatest) fit in
+    let below = tests.1 in
+    let above = tests.2 in
+    (tests.0, grind (arith, nat_tests), grind (arith, nat_tests))
 
 -- the number of a key is read
 pub number_read : (k : Key) (g : List Given) (x : Given) (greatest : ℕ) → AreFit g → IsUpTo greatest (key_row k).1 → Some x ≡ given_at k g → number_up_to greatest x.text ≡ option_map (λ y. digits_value 10 y.text) (given_at k g)
-number_read k g x greatest fit up e = rw (← e) (number_fits (key_row k).1 greatest x.text up (fits_at k g x fit e))
+number_read k g x greatest fit up e = rw (← e) (number_fits up.0 greatest x.text (subst (λ t. fits t x.text ≡ true) up.1 (fits_at k g x fit e))).0
 
 -- so is the name of a root
 pub name_read : (g : List Given) (x : Given) → AreFit g → Some x ≡ given_at key.Root g → name_of x.text ≡ Some x.text

@@ -1,12 +1,12 @@
 -- What is given and checked makes a proper command.
-use Rattle.std.proofs.Common.{◌≡◌, ◌≢◌, ◌≤◌, ◌&&◌, ◌||◌, ◌∙◌, ℕ, Bool, true, false, not, cond, if◌then◌else◌, sym, ap, refl, subst, arith, codes, bytes_eq, decimal, List, [], ◌∷◌, find, Option, Some, None, IfSome, IsSome, option_map, is_some, unwrap_or, nat_le}
-use Rattle.std.{specs.{List.{AllByRecursion, list_all, list_any}, Str.Parse.digits_value, Cmp.Lexicographic.bytes_decides}, proofs.lemmas.{Bool.{and_parts, not-false, Decides.nat_tests}}}
+use Rattle.std.proofs.Common.{◌≡◌, ◌≢◌, ◌≤◌, ◌&&◌, ◌||◌, ℕ, Bool, true, false, not, cond, refl, subst, codes, bytes_eq, List, [], ◌∷◌, Option, Some, None, IfSome, option_map, is_some, unwrap_or}
+use Rattle.std.{specs.{List.{AllByRecursion, list_all}}, proofs.lemmas.{Bool.{and_parts, not-false}}}
 use Rattle.candidate_order.specs.{Ranges.IsLimits, declared.pruning.Pruning.Pruning}
-use Rattle.collective_spec.specs.{declared.kind.Kind.{Kind, TheVariants.{Allreduce, Custom}}, Kinds.{word_of, every_kind, takes_root}}
+use Rattle.collective_spec.specs.{declared.kind.Kind.{TheVariants.{Allreduce, Custom}}, Kinds.{word_of, every_kind, takes_root}}
 use Rattle.command_words.specs.declared.{command.{JsonWhat.JsonWhat, RootWord.RootWord}, key.Key.Key, verb.Verb.{Verb, TheVariants.{Synth, Check, Replay, Programs, Family, Trial, Bound, Ordered, Degrade, Json, Unjson}}}
 use Rattle.command_words.specs.{Tables.{named, key_row, same_key, search, whats, what_word, Number}, Words.{fits, is_refused}, Commands.{IsProper, command_for}}
 use Rattle.command_words.specs.inner.Seen.{AreRight, IsRight, has_idle_point, has_idle_root, has_required, has_wrong_size}
-use Rattle.command_words.proofs.Found.{found}
+use Rattle.command_words.proofs.Found.{found, number_fits}
 use Rattle.command_words.specs.declared.command.JsonWhat.TheVariants as what
 use Rattle.command_words.specs.declared.key.Key.TheVariants as key
 use Rattle.command_words.specs.Given.{Given, given_at, is_given, text_at, number_at, kind_at, what_at, root_at, limits_at}
@@ -25,19 +25,6 @@ other_named name (w ∷ ws) text d v apart other =
     elim (bytes_eq (name w) text) as (λ b. bytes_eq (name w) text ≡ b → unwrap_or (cond b (Some w) (named name ws text)) d ≢ v)
     [ true ↦ (λ e same. let e2 : bytes_eq (name v) text ≡ true = subst (λ x. bytes_eq (name x) text ≡ true) same e in absurd (cc)) | false ↦ (λ _. other_named name ws text d v apart other) ] refl
 
-between : (least d : ℕ) (b m : Bool) → (is_some (if b && m then Some d else None) && nat_le least d) ≡ true → (m ≡ true) × (nat_le least d ≡ true)
-between least d true true e = (refl, e)
-between least d true false e = absurd (cc)
-between least d false m e = absurd (cc)
-
--- a number that a key takes is in the range of the key
-in_range : (least greatest : ℕ) (text : List ℕ) → fits (Number least greatest) text ≡ true → (least ≤ digits_value 10 text) × (digits_value 10 text ≤ greatest)
-in_range least greatest text fit =
-    let tests = between least (digits_value 10 text) (bytes_eq text (decimal (digits_value 10 text))) (nat_le (digits_value 10 text) greatest) fit in
-    let below = tests.0 in
-    let above = tests.1 in
-    (grind (arith, nat_tests), grind (arith, nat_tests))
-
 -- each key passes a test that all pass
 each : (p : Key → Bool) (ks : List Key) → list_all p ks ≡ true → AllByRecursion (λ k. p k ≡ true) ks
 each p [] all = tt
@@ -51,8 +38,9 @@ module _ (verb : Verb) (n : ℕ) (g : List Given) (right : AreRight verb n g) wh
   -- the number of a key that is given is in its range
   number_in : (k : Key) (least greatest : ℕ) → (key_row k).1 ≡ Number least greatest → is_given k g ≡ true → (least ≤ number_at k g) × (number_at k g ≤ greatest)
   number_in k least greatest row given =
-      in_range least greatest (text_at k g) (subst (λ t. fits t (text_at k g) ≡ true) row
-      (elim (given_at k g) as (λ o. IfSome o (IsRight verb n k) → is_some o ≡ true → fits (key_row k).1 (unwrap_or (option_map (λ x. x.text) o) []) ≡ true) [ None ↦ (λ _ e. absurd (cc)) | Some x ↦ (λ r _. r.fit) ] (found (IsRight verb n) k g right) given))
+      let fit : fits (key_row k).1 (text_at k g) ≡ true = elim (given_at k g) as (λ o. IfSome o (IsRight verb n k) → is_some o ≡ true → fits (key_row k).1 (unwrap_or (option_map (λ x. x.text) o) []) ≡ true) [ None ↦ (λ _ e. absurd (cc)) | Some x ↦ (λ r _. r.fit) ] (found (IsRight verb n) k g right) given in
+      let number = number_fits least greatest (text_at k g) (rw row at fit) in
+      (number.1, number.2)
 
   -- a value is not refused
   not_refused : (k : Key) → is_refused verb k [] ≡ false → is_refused verb k (text_at k g) ≡ false

@@ -1,6 +1,6 @@
 -- Words taken one by one: each gives a key that none before it gave.
 use Rattle.std.proofs.Common.{◌≡◌, ◌∙◌, ◌<◌, ◌≤◌, ◌+◌, ◌-◌, ℕ, zero, suc, true, false, cond, sym, ap, refl, arith, List, [], ◌∷◌, length, get_or, drop, map, slice_set, is_some, Some, Result, Err}
-use Rattle.std.{specs.{List.{AllByRecursion, IsDistinct, list_any}, declared.string.String.String, String.string_bytes, Cmp.IsEquivalence}, proofs.{Math.Seq.drop-length, lemmas.{List.{drop-set, length-drop, length-map, length-take-le}, Cmp.{nat_list_eq_equiv, on_equiv}, Map.{Keys.{IsDistinct-cons, IsDistinct-from_apart}, Made.length-le_from_is_member}}}}
+use Rattle.std.{specs.{List.{AllByRecursion, IsDistinct, list_any}, declared.string.String.String, String.string_bytes}, proofs.{Math.Seq.drop-length, lemmas.{List.{drop-set, length-drop, length-map, length-take-le}, Cmp.{nat_list_eq_equiv, on_equiv}, Map.{Keys.{IsDistinct-cons, IsDistinct-from_apart}, Made.length-le_from_is_member}}}}
 use Rattle.text_lines.specs.Check.{◌>>=◌}
 use Rattle.command_words.specs.declared.{fault.{WordCode.WordCode, WordFault.WordFault}, given.GivenWord.GivenWord, key.Key.Key, verb.Verb.Verb}
 use Rattle.command_words.specs.{Tables.{keys, key_word, same_key}, Words.{texts, at_word, with_word, given_from}, Commands.command_from, inner.Seen.{command_given, from_place, seen, seen_all}}

@@ -19,10 +19,9 @@ seen_all given = map seen given
 abbrev pub from_place : ℕ → List GivenWord → List GivenWord
 from_place first places = take (18 - first) (drop first places)
 
--- the numbers that a key takes are at most this
+-- the key takes numbers up to this
 abbrev pub IsUpTo : ℕ → Takes → Type 0
-IsUpTo greatest (Number _ most) = greatest ≡ most
-IsUpTo greatest _ = ⊥
+IsUpTo greatest takes = (least : ℕ) × (takes ≡ Number least greatest)
 
 -- each value is one that its key takes
 abbrev pub AreFit : List Given → Type 0
