@@ -1,28 +1,21 @@
 -- Words taken one by one: each gives a key that none before it gave.
-use Rattle.std.proofs.Common.{◌≡◌, ◌∙◌, ◌<◌, ◌≤◌, ◌+◌, ◌-◌, ℕ, zero, suc, true, false, cond, sym, ap, refl, arith, List, [], ◌∷◌, length, get_or, drop, map, slice_set, is_some, Some, Result, Err}
-use Rattle.std.{specs.{List.{AllByRecursion, IsDistinct, list_any}, declared.string.String.String, String.string_bytes}, proofs.{Math.Seq.drop-length, lemmas.{List.{drop-set, length-drop, length-map, length-take-le}, Cmp.{nat_list_eq_equiv, on_equiv}, Map.{Keys.{IsDistinct-cons, IsDistinct-from_apart}, Made.length-le_from_is_member}}}}
+use Rattle.std.proofs.Common.{◌≡◌, ◌∙◌, ◌<◌, ◌≤◌, ◌+◌, ◌-◌, ℕ, suc, true, false, cond, sym, ap, refl, arith, List, [], ◌∷◌, length, get_or, drop, map, slice_set, is_some, Some, Result, Err}
+use Rattle.std.{specs.{List.{AllByRecursion, IsDistinct, list_any}, declared.string.String.String, String.string_bytes}, proofs.{Math.Seq.drop-length, lemmas.{List.{drop_more, drop-set, get_or-map, length-drop, length-map, length-take-le}, Cmp.{nat_list_eq_equiv, on_equiv}, Map.{Keys.{IsDistinct-cons, IsDistinct-from_apart}, Made.length-le_from_is_member}}}}
 use Rattle.text_lines.specs.Check.{◌>>=◌}
 use Rattle.command_words.specs.declared.{fault.{WordCode.WordCode, WordFault.WordFault}, given.GivenWord.GivenWord, key.Key.Key, verb.Verb.Verb}
 use Rattle.command_words.specs.{Tables.{keys, key_word, same_key}, Words.{texts, at_word, with_word, given_from}, Commands.command_from, inner.Seen.{command_given, from_place, seen, seen_all}}
 use Rattle.command_words.specs.declared.key.Key.TheVariants as key
 use Rattle.command_words.specs.Given.{Given, given_at, is_given}
 
--- the texts from place k on begin with that of the word there
-texts_from : {Z : Type 0} (words : List (String Z)) (k : ℕ) (word : String Z) → k < length words → word ≡ get_or words k word → drop k (texts words) ≡ string_bytes word ∷ drop (suc k) (texts words)
-texts_from [] k word inside same = absurd (omega arith)
-texts_from (w ∷ ws) zero word inside same = ap (λ x. string_bytes x ∷ texts ws) (sym same)
-texts_from (w ∷ ws) (suc k) word inside same = texts_from ws k word (omega arith) same
-
 -- what is read of the words that are left is what is read of the first of them, and then of the others
 pub word_read : {Z : Type 0} (verb : Verb) (g : List Given) (index : ℕ) (words : List (String Z)) (k : ℕ) (word : String Z) (text : List ℕ) (read : Result (List Given) WordCode)
     → k < length words → word ≡ get_or words k word → text ≡ string_bytes word → index ≡ k + 1 → with_word verb g index text ≡ read
     → (at_word index read >>= (λ more. given_from verb more (k + 1 + 1) (drop (k + 1) (texts words)))) ≡ given_from verb g (k + 1) (drop k (texts words))
-word_read verb g index words k word text read inside same bytes at taken =
-    let next : suc k ≡ k + 1 = omega arith in
-    let here = texts_from words k word inside same ∙ ap (λ j. string_bytes word ∷ drop j (texts words)) next in
-    ap (λ r. at_word index r >>= (λ more. given_from verb more (k + 1 + 1) (drop (k + 1) (texts words)))) (sym taken ∙ ap (with_word verb g index) bytes)
-    ∙ ap (λ i. at_word i (with_word verb g i (string_bytes word)) >>= (λ more. given_from verb more (k + 1 + 1) (drop (k + 1) (texts words)))) at
-    ∙ ap (given_from verb g (k + 1)) (sym here)
+word_read {Z} verb g index words k word text read inside same bytes at taken =
+    let bytes_of = λ (w : String Z). string_bytes w in
+    let first : get_or (texts words) k text ≡ text = get_or-map bytes_of words k word text inside ∙ ap bytes_of (sym same) ∙ sym bytes in
+    let here : drop k (texts words) ≡ text ∷ drop (k + 1) (texts words) = drop_more (texts words) k text (omega (arith, inside, length-map words bytes_of)) ∙ ap (λ t. t ∷ drop (k + 1) (texts words)) first in
+    rw (here, ← at, ← taken) refl
 
 -- a refusal of a word is one of all words
 pub word_refused : (verb : Verb) (words : List (List ℕ)) (fault : WordFault) → Err fault ≡ given_from verb [] 1 words → Err fault ≡ command_given verb words

@@ -23,7 +23,6 @@ pub struct GivenWord<'a> {
 }
 
 /// What gives the key.
-#[tactic(auto, using(crate::proofs::Found::seen_from))]
 pub fn given_at<'a>(key: Key, given: &[GivenWord<'a>]) -> Option<GivenWord<'a>>
     ensures { option_map seen result ≡ given_at key (seen_all given.now) }
 {
@@ -63,7 +62,6 @@ pub fn word_at(key: Key, given: &[GivenWord<'_>]) -> u32
 }
 
 /// The number that the key is given, if it is given.
-#[tactic(auto, using(crate::proofs::Found::number_read))]
 pub fn number_given(key: Key, greatest: u64, given: &[GivenWord<'_>]) -> Option<u64>
     requires fit { AreFit (seen_all given.now) }
     requires greatest { IsUpTo greatest (key_row key).1 }
@@ -111,7 +109,6 @@ pub fn what_at(given: &[GivenWord<'_>]) -> JsonWhat
 }
 
 /// The root, where one is named.
-#[tactic(auto, using(crate::proofs::Found::name_read))]
 pub fn root_at(given: &[GivenWord<'_>]) -> Option<RootWord>
     requires { AreFit (seen_all given.now) }
     ensures { result ≡ root_at (seen_all given.now) }
