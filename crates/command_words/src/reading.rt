@@ -49,8 +49,8 @@ fn with_word<'a>(
     })
 }
 
-/// The command whose name the words stand behind. What they give is kept with the last in front:
-/// that of the word with index n at place 18 - n.
+/// The command of the words behind its name. What they give is kept with the last in front, that of
+/// the word with index n at place 18 - n: there are 18 keys, and none is given twice.
 fn command_given(verb: Verb, words: &[String]) -> Result<Command, WordFault>
     ensures read { result ≡ command_given verb (texts words.now) }
     ensures proper { IfOk result IsProper }
