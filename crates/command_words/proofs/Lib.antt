@@ -1,8 +1,5 @@
 pub mod Naming
 pub mod Cutting
+pub mod Found
+pub mod Proper
 pub mod Taking
-pub mod Refusing
-pub mod Counted
-pub mod Kept
-pub mod Made
-pub mod WordsRead

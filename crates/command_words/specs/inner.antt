@@ -1,6 +1,3 @@
 -- What no contract of a public call says: contracts and proofs inside this crate alone cite it.
-pub mod Counting
-pub mod Numbers
-pub mod Values
-pub mod Building
-pub mod Reading
+pub mod Seen
+pub mod Vectors

@@ -1,244 +1,178 @@
-//! Commands, from the values of their words.
+//! Commands, from what their words give.
 
-ghost use Rattle.std.specs.Prelude.{◌≡◌, true, IfOk};
-ghost use Rattle.candidate_order.specs.Ranges.{unpruned};
-ghost use Rattle.command_words.specs.{Commands.{AreSearchWords, IsProper}, inner.Values.{AreProper, takes_kind}};
-ghost use Rattle.command_words.specs.inner.Building.{bound_from, command_from, degrade_from, family_from, json_from, ordered_from, point_for, point_taken, programs_from, replay_from, required, root_taken, search_from, synth_from, trial_from, unjson_from};
+ghost use Rattle.std.specs.{Prelude.{◌≡◌, ◌≤◌, IfOk, IfErr, option_map}, Str.Parse.digits_value};
+ghost use Rattle.command_words.specs.{Codes.word_number, Commands.{blame, command_for, command_from, required, IsProper}, Given.given_at};
+ghost use Rattle.command_words.specs.inner.Seen.{AreFit, AreRight, has_idle_point, has_idle_root, has_required, has_wrong_size, seen_all};
 
-use crate::command::{Command, JsonWhat, PointWord, RootWord, SearchWords};
+use crate::command::{Command, JsonWhat, PointWord};
 use crate::fault::{WordCode, WordFault};
-use crate::values::Values;
+use crate::given::{
+    GivenWord, family_at, is_given, kind_at, limits_at, number_at, number_given, root_at, what_at,
+    word_at,
+};
+use crate::key::{Key, MAX_GROUP, MAX_POINT, MAX_SIZE, MAX_TRIAL, MAX_WIDTH, is_among};
 use crate::verb::Verb;
-use candidate_order::{Limits, Pruning};
-use collective_spec::{Kind, takes_root};
+use candidate_order::Pruning;
+use collective_spec::takes_root;
 use topology_text::family_allows;
 
-/// The value of a key that is required, where there are `count` words.
-fn required<T: Drop>(value: Option<T>, count: u32) -> Result<T, WordFault>
-    ensures { result ≡ required value count }
+/// The keys that have to be given; programs as JSON require a point.
+fn required(verb: Verb, given: &[GivenWord<'_>]) -> &'static [Key]
+    ensures { result.now ≡ required verb (seen_all given.now) }
 {
-    value.ok_or(WordFault {
-        code: WordCode::KeyMissing,
-        word: count,
-    })
+    match (verb, what_at(given)) {
+        (Verb::Json, JsonWhat::Programs) => &[Key::What, Key::Point],
+        _ => verb.required(),
+    }
 }
 
-/// A root is named only where the collective takes one.
-fn root_taken(kind: Kind, root: Option<RootWord>) -> Result<(), WordFault>
-    ensures { result ≡ root_taken kind root }
+/// A refusal at the word that gives the key.
+fn blame(code: WordCode, key: Key, given: &[GivenWord<'_>]) -> WordFault
+    ensures { result ≡ blame code key (seen_all given.now) }
 {
-    match root {
-        Some(root) if !takes_root(kind) => Err(WordFault {
-            code: WordCode::RootNotTaken,
-            word: root.word,
+    WordFault {
+        code,
+        word: word_at(key, given),
+    }
+}
+
+/// The point that is named, and the index of its word.
+fn point_at(given: &[GivenWord<'_>]) -> Option<PointWord>
+    requires { AreFit (seen_all given.now) }
+    ensures { result ≡ option_map (λ point. record { point = digits_value 10 point.text; word = point.word }) (given_at Key.Point (seen_all given.now)) }
+{
+    match number_given(Key::Point, MAX_POINT, given) {
+        Some(point) => Some(PointWord {
+            point: point as u32,
+            word: word_at(Key::Point, given),
         }),
-        _ => Ok(()),
+        None => None,
     }
 }
 
-/// The words of a search.
-fn search_from(values: Values, count: u32, verb: Verb) -> Result<SearchWords, WordFault>
-    requires { AreProper verb values }
-    ensures read { result ≡ search_from values count }
-    ensures proper { IfOk result AreSearchWords }
-    ensures taken { IfOk result (λ asked. takes_kind verb asked.kind ≡ true) }
-    ensures unpruned { IfOk result (λ asked. asked.limits.pruning ≡ unpruned) }
-{
-    let collective = required(values.collective, count)?;
-    let k = required(values.k, count)?;
-    let steps = required(values.steps, count)?;
-    let chunks = required(values.chunks, count)?;
-    let conflicts = required(values.conflicts, count)?;
-    root_taken(collective.kind, values.root)?;
-    Ok(SearchWords {
-        kind: collective.kind,
-        kind_word: collective.word,
-        limits: Limits::new(k, steps, chunks, conflicts),
-        root: values.root,
-    })
-}
-
-fn synth_from(values: Values, count: u32) -> Result<Command, WordFault>
-    requires { AreProper Verb.Synth values }
-    ensures read { result ≡ synth_from values count }
-    ensures proper { IfOk result IsProper }
-{
-    let pruning = Pruning {
-        cuts: values.cuts,
-        ordered: values.ordered,
-    };
-    let kept = values.kept;
-    let asked = search_from(values, count, Verb::Synth)?;
-    Ok(Command::Synth {
-        kind: asked.kind,
-        kind_word: asked.kind_word,
-        limits: asked.limits.with_pruning(pruning),
-        root: asked.root,
-        kept,
-    })
-}
-
-fn bound_from(values: Values, count: u32) -> Result<Command, WordFault>
-    requires { AreProper Verb.Bound values }
-    ensures read { result ≡ bound_from values count }
-    ensures proper { IfOk result IsProper }
-{
-    let all_sets = values.all_sets;
-    let asked = search_from(values, count, Verb::Bound)?;
-    Ok(Command::Bound {
-        kind: asked.kind,
-        kind_word: asked.kind_word,
-        limits: asked.limits,
-        root: asked.root,
-        all_sets,
-    })
-}
-
-fn ordered_from(values: Values, count: u32) -> Result<Command, WordFault>
-    requires { AreProper Verb.Ordered values }
-    ensures read { result ≡ ordered_from values count }
-    ensures proper { IfOk result IsProper }
-{
-    let asked = search_from(values, count, Verb::Ordered)?;
-    Ok(Command::Ordered {
-        kind: asked.kind,
-        kind_word: asked.kind_word,
-        limits: asked.limits,
-        root: asked.root,
-    })
-}
-
-fn degrade_from(values: Values, count: u32) -> Result<Command, WordFault>
-    requires { AreProper Verb.Degrade values }
-    ensures read { result ≡ degrade_from values count }
-    ensures proper { IfOk result IsProper }
-{
-    let group = required(values.group, count)?;
-    let width = required(values.width, count)?;
-    Ok(Command::Degrade {
-        group: group.group,
-        group_word: group.word,
-        width: width.width,
-        width_word: width.word,
-    })
-}
-
-/// A point is named only with programs.
-fn point_taken(point: Option<PointWord>, what: Option<JsonWhat>) -> Result<(), WordFault>
-    ensures { result ≡ point_taken point what }
-{
-    match (point, what) {
-        (None, _) | (Some(_), Some(JsonWhat::Programs)) => Ok(()),
-        (Some(point), _) => Err(WordFault {
-            code: WordCode::UnknownKey,
-            word: point.word,
-        }),
-    }
-}
-
-/// The point that is to be given: programs require one.
-fn point_for(
-    what: JsonWhat,
-    point: Option<PointWord>,
-    count: u32,
-) -> Result<Option<PointWord>, WordFault>
-    ensures { result ≡ point_for what point count }
-{
-    match what {
-        JsonWhat::Programs => Ok(Some(required(point, count)?)),
-        _ => Ok(None),
-    }
-}
-
-fn json_from(values: Values, count: u32) -> Result<Command, WordFault>
-    requires { AreProper Verb.Json values }
-    ensures read { result ≡ json_from values count }
-    ensures proper { IfOk result IsProper }
-{
-    point_taken(values.point, values.what)?;
-    let what = required(values.what, count)?;
-    let point = point_for(what, values.point, count)?;
-    Ok(Command::Json { what, point })
-}
-
-fn unjson_from(values: Values, count: u32) -> Result<Command, WordFault>
-    requires { AreProper Verb.Unjson values }
-    ensures read { result ≡ unjson_from values count }
-    ensures proper { IfOk result IsProper }
-{
-    let what = required(values.what, count)?;
-    Ok(Command::Unjson { what })
-}
-
-fn replay_from(values: Values, count: u32) -> Result<Command, WordFault>
-    requires { AreProper Verb.Replay values }
-    ensures read { result ≡ replay_from values count }
-    ensures proper { IfOk result IsProper }
-{
-    let point = required(values.point, count)?;
-    Ok(Command::Replay {
-        point: point.point,
-        point_word: point.word,
-        order: values.order,
-    })
-}
-
-fn programs_from(values: Values, count: u32) -> Result<Command, WordFault>
-    requires { AreProper Verb.Programs values }
-    ensures read { result ≡ programs_from values count }
-    ensures proper { IfOk result IsProper }
-{
-    let point = required(values.point, count)?;
-    Ok(Command::Programs {
-        point: point.point,
-        point_word: point.word,
-    })
-}
-
-fn family_from(values: Values, count: u32) -> Result<Command, WordFault>
-    ensures read { result ≡ family_from values count }
-    ensures proper { IfOk result IsProper }
-{
-    let kind = required(values.kind, count)?;
-    let size = required(values.size, count)?;
-    if !family_allows(kind, size.size) {
-        return Err(WordFault {
-            code: WordCode::BadValue,
-            word: size.word,
-        });
-    }
-    Ok(Command::Family {
-        kind,
-        size: size.size,
-    })
-}
-
-fn trial_from(values: Values, count: u32) -> Result<Command, WordFault>
-    requires { AreProper Verb.Trial values }
-    ensures read { result ≡ trial_from values count }
-    ensures proper { IfOk result IsProper }
-{
-    let n = required(values.n, count)?;
-    Ok(Command::Trial { n })
-}
-
-/// The command of these values, where there are `count` words.
-pub fn command_from(verb: Verb, values: Values, count: u32) -> Result<Command, WordFault>
-    requires { AreProper verb values }
-    ensures read { result ≡ command_from verb values count }
-    ensures proper { IfOk result IsProper }
+/// The command of what is given, where this has the keys that it requires.
+fn command_for(verb: Verb, given: &[GivenWord<'_>]) -> Command
+    requires fit { AreFit (seen_all given.now) }
+    requires proper { IsProper (command_for verb (seen_all given.now)) }
+    ensures { result ≡ command_for verb (seen_all given.now) }
 {
     match verb {
-        Verb::Synth => synth_from(values, count),
-        Verb::Check => Ok(Command::Check),
-        Verb::Replay => replay_from(values, count),
-        Verb::Programs => programs_from(values, count),
-        Verb::Family => family_from(values, count),
-        Verb::Trial => trial_from(values, count),
-        Verb::Bound => bound_from(values, count),
-        Verb::Ordered => ordered_from(values, count),
-        Verb::Degrade => degrade_from(values, count),
-        Verb::Json => json_from(values, count),
-        Verb::Unjson => unjson_from(values, count),
+        Verb::Synth => Command::Synth {
+            kind: kind_at(given),
+            kind_word: word_at(Key::Collective, given),
+            limits: limits_at(
+                given,
+                Pruning {
+                    cuts: is_given(Key::Cuts, given),
+                    ordered: is_given(Key::Ordered, given),
+                },
+            ),
+            root: root_at(given),
+            kept: is_given(Key::Kept, given),
+        },
+        Verb::Check => Command::Check,
+        Verb::Replay => Command::Replay {
+            point: number_at(Key::Point, MAX_POINT, given) as u32,
+            point_word: word_at(Key::Point, given),
+            order: number_given(Key::Order, u64::MAX, given),
+        },
+        Verb::Programs => Command::Programs {
+            point: number_at(Key::Point, MAX_POINT, given) as u32,
+            point_word: word_at(Key::Point, given),
+        },
+        Verb::Family => Command::Family {
+            kind: family_at(given),
+            size: number_at(Key::Size, MAX_SIZE, given) as u8,
+        },
+        Verb::Trial => Command::Trial {
+            n: number_at(Key::N, MAX_TRIAL, given) as u16,
+        },
+        Verb::Bound => Command::Bound {
+            kind: kind_at(given),
+            kind_word: word_at(Key::Collective, given),
+            limits: limits_at(given, Pruning::none()),
+            root: root_at(given),
+            all_sets: is_given(Key::Sets, given),
+        },
+        Verb::Ordered => Command::Ordered {
+            kind: kind_at(given),
+            kind_word: word_at(Key::Collective, given),
+            limits: limits_at(given, Pruning::none()),
+            root: root_at(given),
+        },
+        Verb::Degrade => Command::Degrade {
+            group: number_at(Key::Group, MAX_GROUP, given) as u16,
+            group_word: word_at(Key::Group, given),
+            width: number_at(Key::Width, MAX_WIDTH, given) as u8,
+            width_word: word_at(Key::Width, given),
+        },
+        Verb::Json => Command::Json {
+            what: what_at(given),
+            point: point_at(given),
+        },
+        Verb::Unjson => Command::Unjson {
+            what: what_at(given),
+        },
     }
+}
+
+/// Whether a point is named where the command asks for none.
+fn has_idle_point(verb: Verb, given: &[GivenWord<'_>]) -> bool
+    ensures { result ≡ has_idle_point verb (seen_all given.now) }
+{
+    verb.has(Key::Point)
+        && is_given(Key::Point, given)
+        && !is_among(Key::Point, required(verb, given))
+}
+
+/// Whether each key is given that has to be.
+fn has_required(verb: Verb, given: &[GivenWord<'_>]) -> bool
+    ensures { result ≡ has_required verb (seen_all given.now) }
+{
+    required(verb, given)
+        .iter()
+        .all(|key| is_given(*key, given))
+}
+
+/// Whether a root is named where the collective takes none.
+fn has_idle_root(verb: Verb, given: &[GivenWord<'_>]) -> bool
+    ensures { result ≡ has_idle_root verb (seen_all given.now) }
+{
+    verb.has(Key::Root) && is_given(Key::Root, given) && !takes_root(kind_at(given))
+}
+
+/// Whether the kind of family does not have the size.
+fn has_wrong_size(verb: Verb, given: &[GivenWord<'_>]) -> bool
+    requires { AreFit (seen_all given.now) }
+    ensures { result ≡ has_wrong_size verb (seen_all given.now) }
+{
+    let size = number_at(Key::Size, MAX_SIZE, given) as u8;
+    verb.has(Key::Size) && !family_allows(family_at(given), size)
+}
+
+/// The command of what is given, where there are `count` words.
+#[tactic(auto, using(crate::proofs::Found::right_fit, crate::proofs::Found::word_within, crate::proofs::Proper::proper))]
+pub fn command_from(verb: Verb, given: &[GivenWord<'_>], count: u32) -> Result<Command, WordFault>
+    requires { AreRight verb count (seen_all given.now) }
+    ensures read { result ≡ command_from verb (seen_all given.now) count }
+    ensures proper { IfOk result IsProper }
+    ensures coded { IfErr result (λ fault. word_number fault.code ≤ 7) }
+    ensures placed { IfErr result (λ fault. fault.word ≤ count) }
+{
+    if has_idle_point(verb, given) {
+        return Err(blame(WordCode::UnknownKey, Key::Point, given));
+    }
+    if !has_required(verb, given) {
+        return Err(WordFault {
+            code: WordCode::KeyMissing,
+            word: count,
+        });
+    }
+    if has_idle_root(verb, given) {
+        return Err(blame(WordCode::RootNotTaken, Key::Root, given));
+    }
+    if has_wrong_size(verb, given) {
+        return Err(blame(WordCode::BadValue, Key::Size, given));
+    }
+    Ok(command_for(verb, given))
 }

@@ -4,10 +4,10 @@
 mod building;
 mod command;
 mod fault;
+mod given;
 mod key;
 mod kind_word;
 mod reading;
-mod values;
 mod vectors;
 mod verb;
 mod what_word;

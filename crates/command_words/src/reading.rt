@@ -1,14 +1,15 @@
 //! The words, read from left to right.
 
-ghost use Rattle.std.specs.Prelude.{◌≡◌, ◌+◌, ◌≤◌, length, IfOk, IfErr, option_map};
-ghost use Rattle.command_words.specs.{Codes.word_number, Commands.IsProper, Words.{at_word, command_of, key_and_value, texts}, inner.Building.command_given};
-ghost use Rattle.command_words.specs.inner.{Counting.count_of, Reading.{nothing, values_from, word_value}, Values.AreProper};
+ghost use Rattle.std.specs.Prelude.{◌≡◌, ◌+◌, ◌≤◌, ◌∷◌, false, length, IfOk, IfErr, option_map};
+ghost use Rattle.text_lines.specs.Check.{Tells};
+ghost use Rattle.command_words.specs.{Codes.word_number, Commands.IsProper, Given.is_given, Words.{command_of, key_and_value, texts, with_word}};
+ghost use Rattle.command_words.specs.inner.Seen.{IsRight, command_given, seen, seen_all};
 
 use crate::building::command_from;
 use crate::command::Command;
 use crate::fault::{WordCode, WordFault};
+use crate::given::{GivenWord, is_given};
 use crate::key::Key;
-use crate::values::Values;
 use crate::verb::Verb;
 
 /// The key and the value of a word: what stands before its first `=`, and what stands behind it.
@@ -18,67 +19,61 @@ fn cut(word: &str) -> Option<(&str, &str)>
     word.split_once('=')
 }
 
-/// The values with that of the word with this index.
-fn with_word(verb: Verb, values: Values, index: u32, word: &str) -> Result<Values, WordCode>
-    requires { AreProper verb values }
-    ensures read { result ≡ word_value verb values index word.now }
-    ensures proper { IfOk result (AreProper verb) }
-    ensures counted { IfOk result (λ more. count_of more ≡ count_of values + 1) }
+/// What the word with this index gives, behind words that gave these values.
+fn with_word<'a>(
+    verb: Verb,
+    given: &[GivenWord<'_>],
+    index: u32,
+    word: &'a str,
+) -> Result<GivenWord<'a>, WordCode>
+    ensures read { Tells (λ more. seen more ∷ seen_all given.now) result (with_word verb (seen_all given.now) index word.now) }
+    ensures first { IfOk result (λ more. is_given more.key (seen_all given.now) ≡ false) }
+    ensures right { IfOk result (λ more. IsRight verb index more.key (seen more)) }
+    ensures coded { IfErr result (λ code. word_number code ≤ 7) }
 {
-    let (key, value) = cut(word).ok_or(WordCode::UnknownKey)?;
+    let (key, text) = cut(word).ok_or(WordCode::UnknownKey)?;
     let key = Key::of_word(key).ok_or(WordCode::UnknownKey)?;
     if !verb.has(key) {
         return Err(WordCode::UnknownKey);
     }
-    if values.has(key) {
+    if is_given(key, given) {
         return Err(WordCode::KeyTwice);
     }
-    values.with(verb, key, value, index)
-}
-
-/// The values with that of the word with this index, or the refusal of the word.
-fn take_word(verb: Verb, values: Values, index: u32, word: &str) -> Result<Values, WordFault>
-    requires { AreProper verb values }
-    ensures read { result ≡ at_word index (word_value verb values index word.now) }
-    ensures proper { IfOk result (AreProper verb) }
-    ensures counted { IfOk result (λ more. count_of more ≡ count_of values + 1) }
-{
-    match with_word(verb, values, index, word) {
-        Ok(more) => Ok(more),
-        Err(code) => Err(WordFault { code, word: index }),
+    if !key.takes(text) || verb.refuses(key, text) {
+        return Err(WordCode::BadValue);
     }
+    Ok(GivenWord {
+        key,
+        text,
+        word: index,
+    })
 }
 
-/// The values of the words behind the first, of which there are at most 18.
-fn values_from(verb: Verb, words: &[String]) -> Result<Values, WordFault>
-    ensures read { result ≡ values_from verb nothing 1 (texts words.now) }
-    ensures proper { IfOk result (AreProper verb) }
-    ensures few { IfOk result (λ _. length words.now ≤ 18) }
-{
-    let mut values = Values::default();
-    let mut index: u32 = 1;
-    for word in words {
-        values = take_word(verb, values, index, word)?;
-        index += 1;
-    }
-    Ok(values)
-}
-
-/// The command of the values that words gave, if they are not refused. There are `count` words.
-fn command_given(
-    verb: Verb,
-    values: Result<Values, WordFault>,
-    count: usize,
-) -> Result<Command, WordFault>
-    requires proper { IfOk values (AreProper verb) }
-    requires few { IfOk values (λ _. count ≤ 19) }
-    ensures read { result ≡ command_given verb values count }
+/// The command of the words behind its name. What they give is kept with the last in front, that of
+/// the word with index n at place 18 - n: there are 18 keys, and none is given twice.
+fn command_given(verb: Verb, words: &[String]) -> Result<Command, WordFault>
+    ensures read { result ≡ command_given verb (texts words.now) }
     ensures proper { IfOk result IsProper }
+    ensures coded { IfErr result (λ fault. word_number fault.code ≤ 7) }
+    ensures placed { IfErr result (λ fault. fault.word ≤ length words.now + 1) }
 {
-    match values {
-        Ok(values) => command_from(verb, values, count as u32),
-        Err(fault) => Err(fault),
+    let mut places = [GivenWord {
+        key: Key::K,
+        text: "",
+        word: 0,
+    }; 18];
+    let mut first = 18;
+    for word in words {
+        let index = 19 - first as u32;
+        match with_word(verb, &places[first..], index, word) {
+            Ok(given) => {
+                first -= 1;
+                places[first] = given;
+            }
+            Err(code) => return Err(WordFault { code, word: index }),
+        }
     }
+    command_from(verb, &places[first..], 19 - first as u32)
 }
 
 /// The command that the words are: the first is the command's name, and every other a key, `=` and
@@ -105,5 +100,5 @@ pub fn read_words(words: &[String]) -> Result<Command, WordFault>
             word: 0,
         });
     };
-    command_given(verb, values_from(verb, rest), words.len())
+    command_given(verb, rest)
 }

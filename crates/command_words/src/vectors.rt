@@ -1,4 +1,5 @@
 //! What the words of command lines are.
+#![tactic(auto, unfolding(crate::specs::Words::command_of, crate::specs::inner::Vectors::digits))]
 
 ghost use Rattle.std.specs.Prelude.{◌≡◌, true, false, [], ◌∷◌, map, Ok, Err, Some, None, codes};
 ghost use Rattle.text_lines.specs.Text.{words_of};

@@ -1,12 +1,9 @@
 //! The first word: what is to be done.
 
-ghost use Rattle.std.specs.Prelude.{◌≡◌, Some, map};
-ghost use Rattle.command_words.specs.{Tables.{has_key, named, verb_word, verbs}, inner.{Numbers.{numbered, verb_number}, Values.{takes_kind, takes_what}}};
+ghost use Rattle.std.specs.Prelude.{◌≡◌};
+ghost use Rattle.command_words.specs.{Tables.{has_key, named, verb_row, verb_word, verbs}, Words.is_refused};
 
-use crate::command::JsonWhat;
-use crate::key::Key;
-use case_table::{Table, table};
-use collective_spec::Kind;
+use crate::key::{Key, is_among};
 
 /// The first word of a command.
 #[derive(Clone, Copy)]
@@ -25,88 +22,77 @@ pub enum Verb {
 }
 
 impl Verb {
-    /// The verb with this number; `None` exactly where the number is above 10.
-    fn of_number(number: u32) -> Option<Verb>
-        ensures { result ≡ numbered verb_number verbs number }
-    {
-        match number {
-            0 => Some(Verb::Synth),
-            1 => Some(Verb::Check),
-            2 => Some(Verb::Replay),
-            3 => Some(Verb::Programs),
-            4 => Some(Verb::Family),
-            5 => Some(Verb::Trial),
-            6 => Some(Verb::Bound),
-            7 => Some(Verb::Ordered),
-            8 => Some(Verb::Degrade),
-            9 => Some(Verb::Json),
-            10 => Some(Verb::Unjson),
-            _ => None,
-        }
-    }
-
     /// The verb with this name.
     pub fn of_word(word: &str) -> Option<Verb>
         ensures { result ≡ named verb_word verbs word.now }
     {
-        match words().find(word) {
-            Some(number) => Verb::of_number(number),
-            None => None,
+        match word {
+            "synth" => Some(Verb::Synth),
+            "check" => Some(Verb::Check),
+            "replay" => Some(Verb::Replay),
+            "programs" => Some(Verb::Programs),
+            "family" => Some(Verb::Family),
+            "trial" => Some(Verb::Trial),
+            "bound" => Some(Verb::Bound),
+            "ordered" => Some(Verb::Ordered),
+            "degrade" => Some(Verb::Degrade),
+            "json" => Some(Verb::Json),
+            "unjson" => Some(Verb::Unjson),
+            _ => None,
         }
     }
 
-    /// Whether the command takes the key.
+    /// The keys that the command requires.
+    pub fn required(self) -> &'static [Key]
+        ensures { result.now ≡ (verb_row self).required }
+    {
+        match self {
+            Verb::Synth | Verb::Bound | Verb::Ordered => &[
+                Key::Collective,
+                Key::K,
+                Key::Steps,
+                Key::Chunks,
+                Key::Conflicts,
+            ],
+            Verb::Check => &[],
+            Verb::Replay | Verb::Programs => &[Key::Point],
+            Verb::Family => &[Key::Kind, Key::Size],
+            Verb::Trial => &[Key::N],
+            Verb::Degrade => &[Key::Group, Key::Width],
+            Verb::Json | Verb::Unjson => &[Key::What],
+        }
+    }
+
+    /// The keys that the command may have besides.
+    fn may(self) -> &'static [Key]
+        ensures { result.now ≡ (verb_row self).may }
+    {
+        match self {
+            Verb::Synth => &[Key::Root, Key::Cuts, Key::Ordered, Key::Kept],
+            Verb::Bound => &[Key::Root, Key::Sets],
+            Verb::Ordered => &[Key::Root],
+            Verb::Replay => &[Key::Order],
+            Verb::Json => &[Key::Point],
+            _ => &[],
+        }
+    }
+
+    /// Whether the command has the key.
     pub fn has(self, key: Key) -> bool
         ensures { result ≡ has_key self key }
     {
+        is_among(key, self.required()) || is_among(key, self.may())
+    }
+
+    /// Whether the command does not take the value, which its key may take: those that tell of one
+    /// search take no allreduce, which has two, and programs are not read.
+    pub fn refuses(self, key: Key, text: &str) -> bool
+        ensures { result ≡ is_refused self key text.now }
+    {
         match self {
-            Verb::Synth => {
-                key.is_for_search() || matches!(key, Key::Cuts | Key::Ordered | Key::Kept)
-            }
-            Verb::Bound => key.is_for_search() || matches!(key, Key::Sets),
-            Verb::Ordered => key.is_for_search(),
-            Verb::Check => false,
-            Verb::Replay => matches!(key, Key::Point | Key::Order),
-            Verb::Programs => matches!(key, Key::Point),
-            Verb::Family => matches!(key, Key::Kind | Key::Size),
-            Verb::Trial => matches!(key, Key::N),
-            Verb::Degrade => matches!(key, Key::Group | Key::Width),
-            Verb::Json => matches!(key, Key::What | Key::Point),
-            Verb::Unjson => matches!(key, Key::What),
+            Verb::Bound | Verb::Ordered => Key::Collective.is(key) && "allreduce" == text,
+            Verb::Unjson => Key::What.is(key) && "programs" == text,
+            _ => false,
         }
     }
-
-    /// Whether the command takes collectives of the kind: those that tell of one search take no
-    /// allreduce, which has two.
-    pub fn takes_kind(self, kind: Kind) -> bool
-        ensures { result ≡ takes_kind self kind }
-    {
-        !matches!((self, kind), (Verb::Bound | Verb::Ordered, Kind::Allreduce))
-    }
-
-    /// Whether the command takes such a value: programs are not read.
-    pub fn takes_what(self, what: JsonWhat) -> bool
-        ensures { result ≡ takes_what self what }
-    {
-        !matches!((self, what), (Verb::Unjson, JsonWhat::Programs))
-    }
-}
-
-/// The names of the verbs, and their numbers.
-fn words() -> Table
-    ensures { result ≡ map (λ verb. (verb_word verb, verb_number verb)) verbs }
-{
-    table![
-        "synth" => 0,
-        "check" => 1,
-        "replay" => 2,
-        "programs" => 3,
-        "family" => 4,
-        "trial" => 5,
-        "bound" => 6,
-        "ordered" => 7,
-        "degrade" => 8,
-        "json" => 9,
-        "unjson" => 10,
-    ]
 }

@@ -9,7 +9,7 @@ use Rattle.report_form.specs.{Reports.{WordsValue, IsWords}, Spelling.{pruning_w
 use Rattle.command_words.specs.declared.{command.{Command.Command, RootWord.RootWord}, fault.WordCode.TheVariants.{BadValue, UnknownKey, KeyTwice}, key.Key.Key}
 use Rattle.command_words.specs.{declared.{fault.WordFault.WordFault, verb.Verb.Verb}, Commands.command_from, Tables.{has_key, key_row, Number}}
 use Rattle.command_words.specs.Words.{at_word, command_of, fits, given_from, is_refused, with_word}
-use Rattle.command_words.proofs.{Kept.{any_named, untaken}, Naming.kind_found}
+use Rattle.command_words.proofs.{Naming.{any_named, kind_found}, Proper.untaken}
 use Rattle.command_words.specs.declared.command.Command.TheVariants as command
 use Rattle.command_words.specs.declared.key.Key.TheVariants as key
 use Rattle.command_words.specs.declared.verb.Verb.TheVariants as verb

@@ -1,7 +1,0 @@
-use Rattle.std.{proofs.Common.rules, specs.Fmt.digits}
-use Rattle.command_words.specs.Words.{command_of}
-use Rattle.command_words.proofs.vectors.numbers_in_their_ranges.Goals as goal
-
-pub returns : goal.returns
-unfolding digits command_of
-returns c = search rules
