@@ -63,10 +63,7 @@ pub fn header_at(lines: &mut Lines<'_>, patterned: bool) -> Result<(), ReportFau
 {
     let text = lines.text();
     let number = lines.number();
-    let said = match header_part(lines) {
-        Ok(said) => said,
-        Err(fault) => return Err(among(text, fault)),
-    };
+    let said = header_part(lines).map_err(|fault| among(text, fault))?;
     if said == patterned {
         Ok(())
     } else {
