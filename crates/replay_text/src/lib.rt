@@ -10,6 +10,7 @@ mod point;
 mod programs;
 mod running;
 mod runs;
+mod steps;
 mod vectors;
 mod verdicts;
 mod words;

@@ -9,9 +9,8 @@ ghost use Rattle.text_lines.specs.Text.{text_of};
 ghost use Rattle.replay_text.specs.inner.Appended.{more_lines, placed_lines, placed_steps, store_lines, stored_lines};
 
 use crate::OutOfMemory;
-use crate::bags::{push_last_store, push_stores};
 use crate::order::{order_where, push_order};
-use crate::placements::{push_last_placement, push_placements};
+use crate::steps::{push_last, push_steps};
 use crate::verdicts::{push_sum_verdict, push_verdict, says_solves, says_sums};
 use inversion::SumVerdict;
 use node_programs::Store;
@@ -40,7 +39,7 @@ fn push_placed_order(
     };
     let start = Store::of_placement(alloc, pre)?;
     push_order(alloc, out, names, schedule, 0, start, seed)?;
-    push_last_placement(out, names, run)
+    push_last(out, names, run)
 }
 
 /// Appends the lines of a schedule that copies, by its run from a placement: who holds which chunk
@@ -60,7 +59,7 @@ pub(crate) fn push_placed_run(
     requires run { run.now ≡ run_of pre.now schedule.now }
     ensures { OnOk result (out.new.items ≡ out.old.items ++ text_of (placed_lines names.now pre.now schedule.now verdict order)) }
 {
-    push_placements(out, names, run)?;
+    push_steps(out, names, run)?;
     push_verdict(out, names, verdict)?;
     let shown = order_where(says_solves(&verdict), order);
     push_placed_order(alloc, out, names, schedule, pre, run, shown)
@@ -86,7 +85,7 @@ fn push_stored_order(
         return Ok(());
     };
     push_order(alloc, out, names, schedule, adding, start, seed)?;
-    push_last_store(out, names, run)
+    push_last(out, names, run)
 }
 
 /// Appends the lines of a schedule whose first steps add, by its run from a store: the bags of each
@@ -109,7 +108,7 @@ pub(crate) fn push_stored_run(
     ensures { OnOk result ((bags : Bags) → start ≡ stored start.chunks start.nodes bags
         → out.new.items ≡ out.old.items ++ text_of (stored_lines names.now start.chunks start.nodes bags schedule.now adding verdict order)) }
 {
-    push_stores(out, names, run)?;
+    push_steps(out, names, run)?;
     push_sum_verdict(out, names, verdict)?;
     let shown = order_where(says_sums(&verdict), order);
     push_stored_order(alloc, out, names, schedule, adding, start, run, shown)
