@@ -1,8 +1,7 @@
 -- The lines of a replay, one after the other.
-use Rattle.std.proofs.Common.{◌≡◌, ℕ, zero, suc, ◌+◌, ◌-◌, ◌∷◌, [], ◌++◌, List, Bool, if◌then◌else◌, decimal, map, filter, length, Option, None, Some, slice_get, slice_index, refl, ◌∙◌, ap, arith, append_assoc, sub-one, Result, OnOk}
+use Rattle.std.proofs.Common.{◌≡◌, ℕ, zero, suc, ◌+◌, ◌-◌, ◌∷◌, [], ◌++◌, List, Bool, if◌then◌else◌, decimal, map, filter, length, Option, None, Some, slice_get, slice_index, refl, ◌∙◌, ap, arith, append_assoc, sub-one}
 use Rattle.std.{specs.{Prelude.unwrap_or, Option.option_map, List.{flat_map, range_with_len, last_or}}, proofs.lemmas.{Grind.{common_steps, flat_map-append}, List.{map-append}}}
 use Rattle.std.proofs.lemmas.List.{Elements.filter-append, Folds.flat_map-map}
-use Rattle.std.proofs.lemmas.Result.{on_ok_weaker}
 use Rattle.bag_runs.specs.Kept.{counted}
 use Rattle.text_lines.{specs.Text.{line, text_of}, proofs.Words.join_fields}
 use Rattle.replay_text.specs.{Replay.numbered_steps, inner.Appended.{digits_of, last_of, step_head}}
@@ -11,8 +10,9 @@ use Rattle.replay_text.specs.{Replay.numbered_steps, inner.Appended.{digits_of, 
 pub appends : (a b c x y all : List ℕ) → b ≡ a ++ x → c ≡ b ++ y → x ++ y ≡ all → c ≡ a ++ all
 appends a b c x y all p q e = q ∙ ap (λ zs. zs ++ y) p ∙ append_assoc a x y ∙ ap (λ zs. a ++ zs) e
 
-pub append_same : {X E : Type 0} (r : Result X E) (a b x y : List ℕ) → x ≡ y → OnOk r (b ≡ a ++ x) → OnOk r (b ≡ a ++ y)
-append_same r a b x y e q = on_ok_weaker r (λ done. done ∙ ap (λ t. a ++ t) e) q
+-- steps, a verdict and what stands behind it, appended one after the other
+pub run_text : (steps more : List (List (List ℕ))) (verdict : List (List ℕ)) (a b c d : List ℕ) → b ≡ a ++ text_of steps → c ≡ b ++ line verdict → d ≡ c ++ text_of more → d ≡ a ++ text_of (steps ++ (verdict ∷ more))
+run_text steps more verdict a b c d p q r = grind (arith, common_steps, flat_map-append)
 
 range_behind : (a n : ℕ) → range_with_len a (n + 1) ≡ range_with_len a n ++ (a + n) ∷ []
 range_behind a zero = grind (arith, common_steps)

@@ -9,7 +9,6 @@ mod placements;
 mod point;
 mod programs;
 mod running;
-mod runs;
 mod steps;
 mod vectors;
 mod verdicts;
