@@ -1,6 +1,6 @@
 -- The lines that are appended for a point are those that it shows.
-use Rattle.std.proofs.Common.{◌≡◌, ℕ, zero, suc, ◌+◌, ◌<◌, ◌≤◌, Bool, true, false, if◌then◌else◌, List, [], ◌∷◌, ◌++◌, map, length, Option, None, Some, refl, sym, ap, ◌∙◌, arith, codes, decimal, append-nil, append_assoc}
-use Rattle.std.{specs.List.range_with_len, proofs.lemmas.{Grind.flat_map-append, Simd.map-map}}
+use Rattle.std.proofs.Common.{◌≡◌, ℕ, zero, suc, ◌+◌, ◌<◌, ◌≤◌, Bool, true, false, if◌then◌else◌, List, [], ◌∷◌, ◌++◌, map, length, Option, None, Some, refl, sym, ap, ◌∙◌, arith, codes, decimal}
+use Rattle.std.{specs.List.range_with_len, proofs.lemmas.{Grind.{common_steps, flat_map-append}, Simd.map-map}}
 use Rattle.schedule.specs.{Sends.ScheduleValue, Placed.PlacementValue, Links.TopologyValue, Bags.{Bags, contributions, held_at_2}, Running.run_of}
 use Rattle.schedule.specs.{JoinedRuns.joined_run, Judging.verdict_of, declared.verdict.Verdict.Verdict}
 use Rattle.inversion.specs.{declared.verdict.SumVerdict.SumVerdict, Saying.{says_solves, says_sums}}
@@ -93,10 +93,7 @@ adding_is x adds = ap (λ b. if b then 0 else steps_that_add x.point.mark (lengt
 -- ---- the whole text
 
 ended : (verdict : List (List ℕ)) (steps more : List (List (List ℕ))) → text_of (steps ++ (verdict ∷ (more ++ (codes "end" ∷ []) ∷ []))) ≡ text_of (steps ++ (verdict ∷ more)) ++ codes "end\n"
-ended verdict steps more =
-    ap text_of (sym (append_assoc steps (verdict ∷ more) ((codes "end" ∷ []) ∷ [])))
-    ∙ flat_map-append line (steps ++ (verdict ∷ more)) ((codes "end" ∷ []) ∷ [])
-    ∙ ap (λ t. text_of (steps ++ (verdict ∷ more)) ++ t) (append-nil (codes "end\n"))
+ended verdict steps more = grind (arith, common_steps, flat_map-append)
 
 pub text_is : (number : ℕ) (x : Shown) (order : Option ℕ) → line (codes "replay" ∷ decimal number ∷ []) ++ (text_of (body_lines x order) ++ codes "end\n") ≡ shown_text number x order
 unfolding shown_text

@@ -13,6 +13,7 @@ use topology_text::{Name, push_node_name};
 
 /// Appends how often each of so many nodes has contributed: a digit for each, where 2 stands for
 /// two or more.
+#[tactic(auto, using(crate::proofs::Lines::digits_more, std::proofs::lemmas::Grind::common_steps))]
 fn push_counts(out: &mut Vec<u8>, bag: &Bag, nodes: u8) -> Result<(), OutOfMemory>
     ensures { OnOk result (out.new.items ≡ out.old.items ++ digits_of (counted nodes bag.now)) }
 {
@@ -34,6 +35,7 @@ fn push_bag(out: &mut Vec<u8>, store: &Store, node: u8, chunk: u16) -> Result<()
 }
 
 /// Appends each chunk, and its bag at a node.
+#[tactic(auto, using(crate::proofs::Lines::flat_more, std::proofs::lemmas::Grind::common_steps))]
 fn push_bags(out: &mut Vec<u8>, store: &Store, node: u8) -> Result<(), OutOfMemory>
     requires { node < store.now.nodes }
     ensures { OnOk result (out.new.items ≡ out.old.items ++ flat_map (λ chunk. 32 ∷ bag_word store.now node chunk) (range_with_len 0 store.now.chunks)) }
@@ -45,6 +47,7 @@ fn push_bags(out: &mut Vec<u8>, store: &Store, node: u8) -> Result<(), OutOfMemo
 }
 
 /// Appends the line of a node.
+#[tactic(auto, using(crate::proofs::Lines::mapped_line, std::proofs::lemmas::Grind::common_steps))]
 fn push_keeper(
     out: &mut Vec<u8>,
     names: &[Name],
@@ -62,6 +65,7 @@ fn push_keeper(
 impl NodeLines for Store {
     ghost lines = { store_lines };
 
+    #[tactic(auto, using(crate::proofs::Lines::lines_more, std::proofs::lemmas::Grind::common_steps))]
     fn push_lines(&self, out: &mut Vec<u8>, names: &[Name]) -> Result<(), OutOfMemory> {
         for node in 0..self.nodes() {
             push_keeper(out, names, self, node)?;

@@ -35,6 +35,7 @@ fn push_movers(out: &mut Vec<u8>, names: &[Name], moves: &[u8]) -> Result<(), Ou
 }
 
 /// Appends the seed of an order, how many events there are, and the node of each.
+#[tactic(auto, using(crate::proofs::Lines::mapped_line, std::proofs::lemmas::Grind::common_steps))]
 fn push_moves(out: &mut Vec<u8>, names: &[Name], seed: u64, moves: &[u8]) -> Result<(), OutOfMemory>
     ensures { OnOk result (out.new.items ≡ out.old.items ++ text_of (move_lines names.now seed (length moves.now) moves.now)) }
 {

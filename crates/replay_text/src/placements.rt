@@ -29,6 +29,7 @@ fn push_if_held(
 }
 
 /// Appends the chunks that a node holds.
+#[tactic(auto, using(crate::proofs::Lines::fields_more, std::proofs::lemmas::Grind::common_steps))]
 fn push_held(out: &mut Vec<u8>, placement: &Placement, node: u8) -> Result<(), OutOfMemory>
     requires { node < placement.now.nodes }
     ensures { OnOk result (out.new.items ≡ out.old.items ++ flat_map (λ chunk. 32 ∷ decimal chunk) (held_by placement.now node)) }
@@ -40,6 +41,7 @@ fn push_held(out: &mut Vec<u8>, placement: &Placement, node: u8) -> Result<(), O
 }
 
 /// Appends the line of a node.
+#[tactic(auto, using(crate::proofs::Lines::mapped_line, std::proofs::lemmas::Grind::common_steps))]
 fn push_holder(
     out: &mut Vec<u8>,
     names: &[Name],
@@ -57,6 +59,7 @@ fn push_holder(
 impl NodeLines for Placement {
     ghost lines = { held_lines };
 
+    #[tactic(auto, using(crate::proofs::Lines::lines_more, std::proofs::lemmas::Grind::common_steps))]
     fn push_lines(&self, out: &mut Vec<u8>, names: &[Name]) -> Result<(), OutOfMemory> {
         for node in 0..self.nodes() {
             push_holder(out, names, self, node)?;

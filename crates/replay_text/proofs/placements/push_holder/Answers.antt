@@ -1,6 +1,0 @@
-use Rattle.std.proofs.{Common.arith, lemmas.Grind.common_steps}
-use Rattle.replay_text.proofs.Lines.{mapped_line}
-use Rattle.replay_text.proofs.placements.push_holder.Goals as goal
-
-pub returns : goal.returns
-returns c = grind (arith, common_steps, mapped_line)
