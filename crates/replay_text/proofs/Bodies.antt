@@ -1,5 +1,5 @@
 -- The lines that are appended for a point are those that it shows.
-use Rattle.std.proofs.Common.{◌≡◌, ℕ, zero, suc, ◌+◌, ◌<◌, ◌≤◌, Bool, true, false, if◌then◌else◌, List, [], ◌∷◌, ◌++◌, map, length, Option, None, Some, refl, sym, ap, ◌∙◌, arith, codes, decimal}
+use Rattle.std.proofs.Common.{◌≡◌, ℕ, zero, suc, ◌+◌, ◌<◌, ◌≤◌, Bool, true, false, if◌then◌else◌, List, [], ◌∷◌, ◌++◌, map, length, Option, Some, refl, sym, ap, ◌∙◌, arith, codes, decimal}
 use Rattle.std.{specs.List.range_with_len, proofs.lemmas.{Grind.{common_steps, flat_map-append}, Simd.map-map}}
 use Rattle.schedule.specs.{Sends.ScheduleValue, Placed.PlacementValue, Links.TopologyValue, Bags.{Bags, contributions, held_at_2}, Running.run_of}
 use Rattle.schedule.specs.{JoinedRuns.joined_run, Judging.verdict_of, declared.verdict.Verdict.Verdict}
@@ -25,17 +25,11 @@ words_if x copied = if copied then verdict_words x.names (copied_verdict x) else
 abbrev holds_if : Shown → Bool → Bool
 holds_if x copied = if copied then says_solves (copied_verdict x) else says_sums (summed_verdict x)
 
--- an order is shown where the verdict holds
-order_where : (x : Shown) (order : Option ℕ) (holds : Bool) → order_lines x (if holds then order else None) ≡ (if holds then order_lines x order else [])
-order_where x order true = refl
-order_where x order false = refl
-
-pub body_text : (x : Shown) (order shown : Option ℕ) (holds : Bool) (steps : List (List (List (List ℕ)))) (words : List (List ℕ)) (a b c d : List ℕ) → steps ≡ shown_steps x → words ≡ shown_verdict x → holds ≡ holds_as_shown x → shown ≡ (if holds then order else None)
-    → b ≡ a ++ text_of (numbered_steps 0 steps) → c ≡ b ++ line words → d ≡ c ++ text_of (order_lines x shown) → d ≡ a ++ text_of (body_lines x order)
-body_text x order shown holds steps words a b c d s w h o p q r =
-    let more : order_lines x shown ≡ (if holds_as_shown x then order_lines x order else []) = ap (order_lines x) (o ∙ ap (λ k. if k then order else None) h) ∙ order_where x order (holds_as_shown x) in
+pub body_text : (x : Shown) (order : Option ℕ) (holds : Bool) (steps : List (List (List (List ℕ)))) (words : List (List ℕ)) (a b c d : List ℕ) → steps ≡ shown_steps x → words ≡ shown_verdict x → holds ≡ holds_as_shown x
+    → b ≡ a ++ text_of (numbered_steps 0 steps) → c ≡ b ++ line words → d ≡ c ++ text_of (if holds then order_lines x order else []) → d ≡ a ++ text_of (body_lines x order)
+body_text x order holds steps words a b c d s w h p q r =
     run_text (numbered_steps 0 (shown_steps x)) (if holds_as_shown x then order_lines x order else []) (shown_verdict x) a b c d
-    (p ∙ ap (λ ls. a ++ text_of (numbered_steps 0 ls)) s) (q ∙ ap (λ ws. b ++ line ws) w) (r ∙ ap (λ ls. c ++ text_of ls) more)
+    (p ∙ ap (λ ls. a ++ text_of (numbered_steps 0 ls)) s) (q ∙ ap (λ ws. b ++ line ws) w) (r ∙ ap (λ k. c ++ text_of (if k then order_lines x order else [])) h)
 
 -- the moves of a run, and what the nodes have in the end
 pub order_text : (x : Shown) (names : List (List ℕ)) (seed : ℕ) (moves : List ℕ) (steps : List (List (List (List ℕ)))) (a b d : List ℕ) → names ≡ x.names → moves ≡ chosen (machine_of x) seed → length moves ≡ operations (machine_of x) → steps ≡ shown_steps x

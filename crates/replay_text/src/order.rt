@@ -1,6 +1,6 @@
 //! The run of a point's programs in the order that a seed draws.
 
-ghost use Rattle.std.specs.Prelude.{◌≡◌, ◌++◌, ◌∷◌, flat_map, length, map, if◌then◌else◌, Contains, None, OnOk};
+ghost use Rattle.std.specs.Prelude.{◌≡◌, ◌++◌, ◌∷◌, flat_map, length, map, if◌then◌else◌, [], Contains, OnOk};
 ghost use Rattle.text_lines.specs.Text.{text_of};
 ghost use Rattle.topology_text.specs.Spelling.{name_at};
 ghost use Rattle.report_form.specs.Numbered.{points_of};
@@ -16,13 +16,6 @@ use report_form::Report;
 use std::alloc::Global;
 use text_lines::push_word;
 use topology_text::{Name, push_node_field};
-
-/// The order is shown only where the verdict holds.
-pub(crate) fn order_where(holds: bool, order: Option<u64>) -> Option<u64>
-    ensures { result ≡ (if holds then order else None) }
-{
-    if holds { order } else { None }
-}
 
 /// Appends the names of the nodes that move, each behind a space.
 fn push_movers(out: &mut Vec<u8>, names: &[Name], moves: &[u8]) -> Result<(), OutOfMemory>
@@ -46,8 +39,8 @@ fn push_moves(out: &mut Vec<u8>, names: &[Name], seed: u64, moves: &[u8]) -> Res
     push_word(out, b"\n")
 }
 
-/// Appends the run of the programs of a point, where an order is shown, and what the nodes have
-/// after the last step of its run.
+/// Appends the run of the programs of a point, where the verdict holds and an order is asked for,
+/// and what the nodes have after the last step of its run.
 pub(crate) fn push_order<N: NodeLines>(
     alloc: Global,
     out: &mut Vec<u8>,
@@ -55,12 +48,16 @@ pub(crate) fn push_order<N: NodeLines>(
     part: Part,
     point: &Point,
     run: &[N],
+    holds: bool,
     order: Option<u64>,
 ) -> Result<(), OutOfMemory>
     requires listed { Contains (points_of report.now) (part, point.now) }
     requires run { map (N.lines report.now.topology.names) run.now ≡ shown_steps (shown_in report.now (part, point.now)) }
-    ensures { OnOk result (out.new.items ≡ out.old.items ++ text_of (order_lines (shown_in report.now (part, point.now)) order)) }
+    ensures { OnOk result (out.new.items ≡ out.old.items ++ text_of (if holds then order_lines (shown_in report.now (part, point.now)) order else [])) }
 {
+    if !holds {
+        return Ok(());
+    }
     let Some(seed) = order else {
         return Ok(());
     };

@@ -7,7 +7,7 @@ ghost use Rattle.replay_text.specs.{Showing.{adding_of, is_copied, shown_in, sho
 
 use crate::OutOfMemory;
 use crate::adding::{copies, is_joined, steps_that_add};
-use crate::order::{order_where, push_order};
+use crate::order::push_order;
 use crate::running::start_store;
 use crate::steps::push_steps;
 use crate::verdicts::{push_sum_verdict, push_verdict, says_solves, says_sums};
@@ -55,8 +55,8 @@ fn push_copied(
     let verdict = solves_by_run(topology, &pre, &post, schedule, &run);
     push_steps(out, names, &run)?;
     push_verdict(out, names, verdict)?;
-    let shown = order_where(says_solves(&verdict), order);
-    push_order(alloc, out, report, part, point, &run, shown)
+    let holds = says_solves(&verdict);
+    push_order(alloc, out, report, part, point, &run, holds, order)
 }
 
 /// The verdict on a point that adds up, of which so many first steps do, by the store after its
@@ -115,8 +115,8 @@ fn push_added(
     let verdict = judge_sums(alloc, report, part, point, spec, adding, last)?;
     push_steps(out, names, &run)?;
     push_sum_verdict(out, names, verdict)?;
-    let shown = order_where(says_sums(&verdict), order);
-    push_order(alloc, out, report, part, point, &run, shown)
+    let holds = says_sums(&verdict);
+    push_order(alloc, out, report, part, point, &run, holds, order)
 }
 
 /// Appends the lines of a point behind its number, but for the end.

@@ -17,6 +17,6 @@ returns g c =
     let some : 0 < length runs = omega (arith, ap length c.in_ok-runs.ensures.moves, length-map runs (λ r. r.items)) in
     let drawn : moves ≡ chosen (machine_of x) c.in-Some.seed = read ∙ that_one (λ r. r.items) runs (chosen (machine_of x) c.in-Some.seed) run c.in_ok-runs.ensures.moves in
     let many : length moves ≡ operations (machine_of x) = ap length read ∙ c.in_ok-runs.ensures.count 0 run some in
-    rw c.in-Some.is (on_ok_weaker c.push_last.result
+    rw (c.if-not-holds.false, c.in-Some.is) (on_ok_weaker c.push_last.result
     (λ done. order_text x names c.in-Some.seed moves (map (lines names) c.args.run.now) c.args.out.now.items c.push_moves.new.out.items c.push_last.new.out.items n drawn many ((λ i. map (lines (n i)) c.args.run.now) ∙ c.requires.run) c.in_ok-push_moves.ensures done)
     c.push_last.ensures)

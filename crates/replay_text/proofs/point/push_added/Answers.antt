@@ -35,6 +35,6 @@ returns c =
     let ran = added_run x c.requires.adds c.in_ok-start.start c.steps_that_add-adding.result c.schedule-schedule.result.now c.in_ok-run.run'.items c.rounds.result.now c.in_ok-start.ensures (c.steps_that_add-adding.ensures ∙ sym (adding_is x c.requires.adds)) c.schedule-schedule.ensures c.in_ok-run.ensures c.rounds.ensures.rounds in
     let judged = judged_added x c.requires.adds names n v c.in_ok-verdict.ensures in
     on_ok_weaker c.push_order.result
-    (λ done. body_text x c.args.order c.order_where-shown.result c.says_sums.result (map (store_lines names) c.deref.result.now) (sum_words names v) c.args.out.now.items c.push_steps.new.out.items c.push_sum_verdict.new.out.items c.push_order.new.out.items
-    (steps_added x c.requires.adds names n c.deref.result.now (c.deref.ensures.value ∙ ran)) judged.0 (c.says_sums.ensures ∙ judged.1) c.order_where-shown.ensures c.in_ok-push_steps.ensures c.in_ok-push_sum_verdict.ensures done)
+    (λ done. body_text x c.args.order c.says_sums-holds.result (map (store_lines names) c.deref.result.now) (sum_words names v) c.args.out.now.items c.push_steps.new.out.items c.push_sum_verdict.new.out.items c.push_order.new.out.items
+    (steps_added x c.requires.adds names n c.deref.result.now (c.deref.ensures.value ∙ ran)) judged.0 (c.says_sums-holds.ensures ∙ judged.1) c.in_ok-push_steps.ensures c.in_ok-push_sum_verdict.ensures done)
     c.push_order.ensures

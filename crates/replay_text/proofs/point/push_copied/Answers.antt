@@ -29,6 +29,6 @@ returns c =
     let judged = judged_copied x c.requires.copied names i.pre s n pre c.schedule-schedule.ensures c.topology-topology.result.now i.post v topology (ap (λ (j : Instance). j.post) own) c.solves_by_run-verdict.ensures in
     let steps = steps_copied x c.requires.copied names i.pre s n pre c.schedule-schedule.ensures c.deref-2.result.now (c.deref-2.ensures.value ∙ c.in_ok-run.ensures) in
     on_ok_weaker c.push_order.result
-    (λ done. body_text x c.args.order c.order_where-shown.result c.says_solves.result (map (held_lines names) c.deref-2.result.now) (verdict_words names v) c.args.out.now.items c.push_steps.new.out.items c.push_verdict.new.out.items c.push_order.new.out.items
-    steps judged.0 (c.says_solves.ensures ∙ judged.1) c.order_where-shown.ensures c.in_ok-push_steps.ensures c.in_ok-push_verdict.ensures done)
+    (λ done. body_text x c.args.order c.says_solves-holds.result (map (held_lines names) c.deref-2.result.now) (verdict_words names v) c.args.out.now.items c.push_steps.new.out.items c.push_verdict.new.out.items c.push_order.new.out.items
+    steps judged.0 (c.says_solves-holds.ensures ∙ judged.1) c.in_ok-push_steps.ensures c.in_ok-push_verdict.ensures done)
     c.push_order.ensures
