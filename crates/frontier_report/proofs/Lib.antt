@@ -1,9 +1,7 @@
 pub mod Turns
-pub mod After
 pub mod Numbers
 pub mod Onward
 pub mod FrontierTurns
 pub mod Scheduled
 pub mod ReaderAnswers
 pub mod BehindTopology
-pub mod ListedLines

@@ -4,13 +4,13 @@ use Rattle.text_lines.specs.{Text.{Row, Place, rows_of, start, onto_row}, Check.
 use Rattle.text_lines.proofs.{Checks.part_ok, Gives.as_many}
 use Rattle.schedule.specs.Links.{GroupValue}
 use Rattle.collective_spec.specs.Patterns.{PatternValue}
-use Rattle.topology_text.specs.{Spelling.{group_words, custom_lines}, Reading.{groups_at, pattern_at}}
+use Rattle.topology_text.specs.{Spelling.{group_words, custom_lines}, Reading.{groups_at, nodes_line, pattern_at}}
 use Rattle.topology_text.proofs.{Groups.groups_give, Patterns.pattern_gives}
 use Rattle.report_form.specs.{SynthLine.{AskedValue, asked_line}, Reading.version_line}
 use Rattle.report_lines.specs.Room.{HasRoom, Onward}
 
 -- a line that was there was taken
-pub part_onward : {A C : Type 0} (check : Option Row → Result A C) (p : Place) (x : A × Place) (code : C) → check None ≡ Err code → line_part check p ≡ Ok x → Onward p x.1
+part_onward : {A C : Type 0} (check : Option Row → Result A C) (p : Place) (x : A × Place) (code : C) → check None ≡ Err code → line_part check p ≡ Ok x → Onward p x.1
 part_onward {A} {C} check p x code lacking e = by_rows p.rows refl
   where
     by_rows : (rows : List Row) → p.rows ≡ rows → Onward p x.1
@@ -29,6 +29,9 @@ pub part_number : {A C : Type 0} (check : Option Row → Result A C) (p : Place)
 part_number check p x e =
     let (passed, place_is) = part_ok check p x e in
     ap (λ (q : Place). q.number) place_is
+
+pub nodes_onward : (p : Place) (x : List (List ℕ) × Place) → line_part nodes_line p ≡ Ok x → Onward p x.1
+nodes_onward p x e = part_onward nodes_line p x _ refl e
 
 pub groups_onward : (names : List (List ℕ)) (p : Place) (x : List GroupValue × Place) → groups_at names p ≡ Ok x → Onward p x.1
 groups_onward names p x e = let t = (groups_give names p).ok x e in omega (arith, as_many (map (group_words names) x.0) p x.1 t.lines)

@@ -1,10 +1,42 @@
--- The last of a list that was pushed to.
-use Rattle.std.{proofs.Common.{◌≡◌, ◌∷◌, [], ◌++◌, List, Option, Some, map, refl}, specs.List.last_or}
+-- Parts that repeat, turn by turn, and the last of those that were read.
+use Rattle.std.{proofs.Common.{◌≡◌, ℕ, suc, ◌+◌, ◌-◌, ◌<◌, ◌≤◌, ◌&&◌, ◌==◌, Bool, true, false, if◌then◌else◌, List, [], ◌∷◌, ◌++◌, length, map, slice_get, Option, None, Some, Result, Ok, ap, refl, arith, length-append, sub-one}, proofs.lemmas.Bool.Decides.nat_tests, specs.{List.last_or, Option.option_map}}
+use Rattle.text_lines.specs.{Text.{Row, Place}, Check.first, Repeated.{row_begins, parts_from}}
 
-pub last_push : {A : Type 0} (xs : List A) (o : Option A) (x : A) → last_or o (xs ++ x ∷ []) ≡ Some x
-last_push [] o x = refl
-last_push (y ∷ ys) o x = last_push ys (Some y) x
+some_begins : (word : List ℕ) (rows : List Row) → row_begins word (first rows) ≡ true → 0 < length rows
+some_begins word [] e = absurd (cc)
+some_begins word (row ∷ rows) e = omega arith
 
-pub last_push_map : {A B : Type 0} (f : A → B) (xs : List A) (o : Option B) (x : A) → last_or o (map f (xs ++ x ∷ [])) ≡ Some (f x)
-last_push_map f [] o x = refl
-last_push_map f (y ∷ ys) o x = last_push_map f ys (Some (f y)) x
+-- behind a part go on those that may still come
+pub turn_taken : {A C : Type 0} (word : List ℕ) (check : List A → Place → Result (A × Place) (C × ℕ)) (most : ℕ) (before now : List A) (p q : Place) (x : A) → row_begins word (first p.rows) ≡ true → check before p ≡ Ok (x, q) → now ≡ before ++ x ∷ [] → length before + length p.rows ≤ most
+    → parts_from word check (most - length now) now q ≡ parts_from word check (most - length before) before p
+turn_taken word check most before now p q x begun read all few =
+    let left : most - length before ≡ suc (most - length now) = omega (arith, some_begins word p.rows begun, ap length all, length-append before (x ∷ []), few) in
+    rw (left, begun, read, all)
+
+last_behind : {A : Type 0} (xs : List A) (x : A) (o : Option A) → slice_get (x ∷ xs) (length xs) ≡ last_or o (x ∷ xs)
+last_behind [] x o = refl
+last_behind (y ∷ ys) x o = last_behind ys y (Some x)
+
+pub last_of : {A : Type 0} (xs : List A) → slice_get xs (length xs - 1) ≡ last_or None xs
+last_of [] = refl
+last_of (x ∷ xs) = rw sub-one (last_behind xs x None)
+
+part_of_last : {A B : Type 0} (f : A → B) (xs : List A) (o : Option A) → last_or (option_map f o) (map f xs) ≡ option_map f (last_or o xs)
+part_of_last f [] o = refl
+part_of_last f (x ∷ xs) o = part_of_last f xs (Some x)
+
+pub last_part : {A B : Type 0} (f : A → B) (xs : List A) → last_or None (map f xs) ≡ option_map f (last_or None xs)
+last_part f xs = part_of_last f xs None
+
+-- ---- two tests in a row
+
+pub not_tested : {A B : Type 0} (t u : Bool) (x : A) (y : B) → None ≡ (if t then Some x else None) → None ≡ (if t && u then Some y else None)
+not_tested true u x y e = absurd (cc)
+not_tested false u x y e = refl
+
+pub tested : {A B : Type 0} (f : A → ℕ → B) (t : Bool) (n k : ℕ) (x z : A) → Some z ≡ (if t then Some x else None) → (n == k) ≡ true → Some (f z k) ≡ (if t && n == k then Some (f x n) else None)
+tested f true n k x z e given =
+    let same : z ≡ x = cc in
+    let as_many : n ≡ k = grind (arith, nat_tests) in
+    rw (given, same, as_many)
+tested f false n k x z e given = absurd (cc)

@@ -1,5 +1,4 @@
 -- What no contract of a public call says: contracts and proofs inside this crate alone cite it.
-pub mod After
 pub mod Bodies
 pub mod Gives
 pub mod Header

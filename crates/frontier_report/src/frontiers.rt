@@ -5,8 +5,9 @@ ghost use Rattle.report_form.specs.{Reports.parts_of, Reading.{body_of, frontier
 ghost use Rattle.report_lines.specs.{Asking.asks, Room.{HasRoom, Onward}};
 ghost use Rattle.frontier_report.specs.inner.{Bodies.body_value, Gives.Reads};
 
-use crate::listed::{refuted_part, unknown_part};
-use crate::points::{joined_points_part, points_part};
+use crate::listed::{Refuted, Unknowns};
+use crate::points::{JoinedPoints, Points};
+use crate::repeats::repeated;
 use crate::report_stop::ReportStop;
 use candidate_order::{Frontier, Point};
 use collective_spec::Kind;
@@ -36,25 +37,23 @@ fn parts_of(kind: Kind) -> &'static [Part]
 }
 
 /// Takes a frontier: its points, then what is refuted, then what is unknown.
-#[tactic(auto, unfolding(report_form::specs::Reading::frontier_at))]
-fn frontier_part(
-    alloc: Global,
-    lines: &mut Lines<'_>,
-    names: &IndexSet<Name>,
-    question: &Question<'_>,
-) -> Result<Frontier, ReportStop>
-    requires room { HasRoom lines.old.place }
-    requires few { length names.now.keys ≤ 16 }
-    requires names { length names.now.keys ≡ (asks question.now).topology.nodes }
-    ensures read { Reads (λ frontier. (frontier, lines.new.place)) result (frontier_at names.now.keys (asks question.now) question.now.part lines.old.place) }
+#[tactic(auto, using(text_lines::proofs::Repeated::lines_are_parts), unfolding(report_form::specs::Reading::frontier_at))]
+fn frontier_part(lines: &mut Lines<'_>, points: &Points<'_>) -> Result<Frontier, ReportStop>
+    requires { HasRoom lines.old.place }
+    ensures read { Reads (λ frontier. (frontier, lines.new.place)) result (frontier_at points.now.names.now.keys (asks points.now.question.now) points.now.question.now.part lines.old.place) }
     ensures text { lines.new.text ≡ lines.old.text }
     ensures onward { OnOk result (Onward lines.old.place lines.new.place) }
 {
+    let Points {
+        alloc,
+        question,
+        ..
+    } = *points;
     fixed_part(lines, part_bytes(question.part))?;
-    let points = points_part(alloc, lines, names, question)?;
-    let refuted = refuted_part(alloc, lines, question)?;
-    let unknown = unknown_part(alloc, lines, question)?;
-    Ok(Frontier::new(points, refuted, unknown))
+    let listed = repeated(alloc, lines, b"point ", points)?;
+    let refuted = repeated(alloc, lines, b"refuted ", &Refuted(question))?;
+    let unknown = repeated(alloc, lines, b"unknown ", &Unknowns(question))?;
+    Ok(Frontier::new(listed, refuted, unknown))
 }
 
 /// Takes a frontier for each of these parts.
@@ -77,12 +76,17 @@ fn frontiers_of(
     let mut frontiers: Vec<(Part, Frontier)> = Vec::new(alloc);
     for part in parts {
         let part = *part;
-        let question = Question {
+        let question = &Question {
             words,
             topology,
             part,
         };
-        let frontier = frontier_part(alloc, lines, names, &question)?;
+        let points = Points {
+            alloc,
+            names,
+            question,
+        };
+        let frontier = frontier_part(lines, &points)?;
         frontiers.push((part, frontier))?;
     }
     Ok(frontiers)
@@ -106,13 +110,18 @@ fn joined_part(
 {
     match words.collective().kind {
         Kind::Allreduce => {
-            let question = Question {
+            let question = &Question {
                 words,
                 topology,
                 part: Part::Joined,
             };
+            let points = Points {
+                alloc,
+                names,
+                question,
+            };
             fixed_part(lines, part_bytes(Part::Joined))?;
-            joined_points_part(alloc, lines, names, &question)
+            repeated(alloc, lines, b"point ", &JoinedPoints(points))
         }
         _ => Ok(Vec::new(alloc)),
     }

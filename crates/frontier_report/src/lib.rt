@@ -5,6 +5,7 @@ mod frontiers;
 mod listed;
 mod points;
 mod reading;
+mod repeats;
 mod report_stop;
 mod rounds;
 mod sends;

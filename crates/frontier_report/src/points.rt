@@ -1,139 +1,81 @@
 //! The points of a report, each of several lines.
 
-ghost use Rattle.std.specs.Prelude.{◌≡◌, [], ◌≤◌, ◌<◌, codes, length, OnOk};
-ghost use Rattle.text_lines.specs.Repeated.{parts_at};
+ghost use Rattle.std.specs.Prelude.{◌≡◌, ◌≤◌, length, OnOk};
 ghost use Rattle.report_form.specs.Points.{frontier_point_at, joined_point_at, schedule_at};
-ghost use Rattle.frontier_report.specs.inner.{After.point_after, Gives.Reads};
+ghost use Rattle.frontier_report.specs.inner.Gives.{Reads};
 ghost use Rattle.report_lines.specs.{Asking.asks, Heads.head_value, Room.{HasRoom, Onward}};
 
+use crate::repeats::{Repeats, repeated};
 use crate::report_stop::ReportStop;
 use crate::rounds::rounds_part;
-use crate::sends::{Extent, sends_part};
-use candidate_order::{Candidate, Point};
+use crate::sends::Sends;
+use candidate_order::Point;
 use indexmap::IndexSet;
-use report_lines::{Head, Question, head_part, joined_head_part, next_begins};
+use report_lines::{Head, Question, head_part, joined_head_part};
 use schedule::Schedule;
 use std::alloc::Global;
 use text_lines::Lines;
 use topology_text::Name;
 
-/// Takes the lines behind that of the candidate.
-#[tactic(auto, unfolding(report_form::specs::Points::schedule_at))]
-fn schedule_part(
-    alloc: Global,
-    lines: &mut Lines<'_>,
-    names: &IndexSet<Name>,
-    question: &Question<'_>,
-    head: Head,
-) -> Result<Point, ReportStop>
-    requires room { HasRoom lines.old.place }
-    requires few { length names.now.keys ≤ 16 }
-    requires names { length names.now.keys ≡ (asks question.now).topology.nodes }
-    requires some { 1 ≤ head.candidate.s }
-    requires steps { head.candidate.s ≤ 16 }
-    ensures read { Reads (λ point. (point, lines.new.place)) result (schedule_at names.now.keys (asks question.now) (head_value head) lines.old.place) }
-    ensures text { lines.new.text ≡ lines.old.text }
-    ensures onward { OnOk result (Onward lines.old.place lines.new.place) }
-    ensures fewer { OnOk result (length lines.new.place.rows ≤ length lines.old.place.rows) }
-{
-    let rounds = rounds_part(alloc, lines, head.candidate)?;
-    let extent = Extent {
-        chunks: question.chunks(head.candidate.c),
-        steps: head.candidate.s,
-    };
-    let sends = sends_part(alloc, lines, names, extent)?;
-    let schedule = Schedule::new(rounds, sends);
-    Ok(Point::new(head.candidate, schedule, head.mark))
+/// What reads the points of a frontier: the names of the nodes, and what its part asks.
+#[derive(Clone, Copy)]
+pub struct Points<'a> {
+    pub alloc: Global,
+    pub names: &'a IndexSet<Name>,
+    pub question: &'a Question<'a>,
+    ghost few: { length names.now.keys ≤ 16 },
+    ghost named: { length names.now.keys ≡ (asks question.now).topology.nodes },
 }
 
-/// Takes a point of a frontier, behind the last one.
-fn point_part(
-    alloc: Global,
-    lines: &mut Lines<'_>,
-    names: &IndexSet<Name>,
-    question: &Question<'_>,
-    last: Option<Candidate>,
-) -> Result<Point, ReportStop>
-    requires room { HasRoom lines.old.place }
-    requires few { length names.now.keys ≤ 16 }
-    requires names { length names.now.keys ≡ (asks question.now).topology.nodes }
-    ensures read { Reads (λ point. (point, lines.new.place)) result (point_after names.now.keys (asks question.now) last lines.old.place) }
-    ensures text { lines.new.text ≡ lines.old.text }
-    ensures onward { OnOk result (Onward lines.old.place lines.new.place) }
-    ensures fewer { OnOk result (length lines.new.place.rows < length lines.old.place.rows) }
-{
-    let head = head_part(lines, question, last)?;
-    schedule_part(alloc, lines, names, question, head)
-}
+/// What reads joined points.
+#[derive(Clone, Copy)]
+pub struct JoinedPoints<'a>(pub Points<'a>);
 
-/// Takes the points of a frontier, up to the first line that begins none.
-pub fn points_part(
-    alloc: Global,
-    lines: &mut Lines<'_>,
-    names: &IndexSet<Name>,
-    question: &Question<'_>,
-) -> Result<Vec<Point>, ReportStop>
-    requires room { HasRoom lines.old.place }
-    requires few { length names.now.keys ≤ 16 }
-    requires names { length names.now.keys ≡ (asks question.now).topology.nodes }
-    ensures read { Reads (λ v. (v.items, lines.new.place)) result (parts_at (codes "point ") (frontier_point_at names.now.keys (asks question.now)) lines.old.place) }
-    ensures text { lines.new.text ≡ lines.old.text }
-    ensures onward { OnOk result (Onward lines.old.place lines.new.place) }
-{
-    let mut points: Vec<Point> = Vec::new(alloc);
-    let mut last = None;
-    while next_begins(lines, b"point ") {
-        let point = match point_part(alloc, lines, names, question, last) {
-            Ok(point) => point,
-            Err(stop) => return Err(stop),
+impl Points<'_> {
+    /// Takes the lines behind that of the candidate.
+    #[tactic(auto, using(text_lines::proofs::Repeated::lines_are_parts), unfolding(report_form::specs::Points::schedule_at))]
+    fn schedule_part(&self, lines: &mut Lines<'_>, head: Head) -> Result<Point, ReportStop>
+        requires room { HasRoom lines.old.place }
+        requires some { 1 ≤ head.candidate.s }
+        requires steps { head.candidate.s ≤ 16 }
+        ensures read { Reads (λ point. (point, lines.new.place)) result (schedule_at self.now.names.now.keys (asks self.now.question.now) (head_value head) lines.old.place) }
+        ensures text { lines.new.text ≡ lines.old.text }
+        ensures onward { OnOk result (Onward lines.old.place lines.new.place) }
+        ensures fewer { OnOk result (length lines.new.place.rows ≤ length lines.old.place.rows) }
+    {
+        let rounds = rounds_part(self.alloc, lines, head.candidate)?;
+        let reader = Sends {
+            names: self.names,
+            question: self.question,
+            candidate: head.candidate,
         };
-        last = Some(point.candidate());
-        points.push(point)?;
+        let sends = repeated(self.alloc, lines, b"send ", &reader)?;
+        let schedule = Schedule::new(rounds, sends);
+        Ok(Point::new(head.candidate, schedule, head.mark))
     }
-    Ok(points)
 }
 
-/// Takes a joined point.
-#[tactic(auto, unfolding(report_form::specs::Points::joined_point_at))]
-fn joined_point_part(
-    alloc: Global,
-    lines: &mut Lines<'_>,
-    names: &IndexSet<Name>,
-    question: &Question<'_>,
-) -> Result<Point, ReportStop>
-    requires room { HasRoom lines.old.place }
-    requires few { length names.now.keys ≤ 16 }
-    requires names { length names.now.keys ≡ (asks question.now).topology.nodes }
-    ensures read { Reads (λ point. (point, lines.new.place)) result (joined_point_at names.now.keys (asks question.now) [] lines.old.place) }
-    ensures text { lines.new.text ≡ lines.old.text }
-    ensures onward { OnOk result (Onward lines.old.place lines.new.place) }
-    ensures fewer { OnOk result (length lines.new.place.rows < length lines.old.place.rows) }
-{
-    let head = joined_head_part(lines, question)?;
-    schedule_part(alloc, lines, names, question, head)
+impl Repeats for Points<'_> {
+    type Item = Point;
+
+    ghost part_at = { λ points. frontier_point_at points.names.now.keys (asks points.question.now) };
+
+    #[tactic(auto, using(crate::proofs::Turns::last_of, crate::proofs::Turns::last_part), unfolding(report_form::specs::Points::frontier_point_at))]
+    fn read(&self, lines: &mut Lines<'_>, before: &[Point]) -> Result<Point, ReportStop> {
+        let last = before.last().map(|point| point.candidate());
+        let head = head_part(lines, self.question, last)?;
+        self.schedule_part(lines, head)
+    }
 }
 
-/// Takes the joined points, up to the first line that begins none.
-pub fn joined_points_part(
-    alloc: Global,
-    lines: &mut Lines<'_>,
-    names: &IndexSet<Name>,
-    question: &Question<'_>,
-) -> Result<Vec<Point>, ReportStop>
-    requires room { HasRoom lines.old.place }
-    requires few { length names.now.keys ≤ 16 }
-    requires names { length names.now.keys ≡ (asks question.now).topology.nodes }
-    ensures read { Reads (λ v. (v.items, lines.new.place)) result (parts_at (codes "point ") (joined_point_at names.now.keys (asks question.now)) lines.old.place) }
-    ensures text { lines.new.text ≡ lines.old.text }
-    ensures onward { OnOk result (Onward lines.old.place lines.new.place) }
-{
-    let mut points: Vec<Point> = Vec::new(alloc);
-    while next_begins(lines, b"point ") {
-        let point = match joined_point_part(alloc, lines, names, question) {
-            Ok(point) => point,
-            Err(stop) => return Err(stop),
-        };
-        points.push(point)?;
+impl Repeats for JoinedPoints<'_> {
+    type Item = Point;
+
+    ghost part_at = { λ points. joined_point_at points.0.names.now.keys (asks points.0.question.now) };
+
+    #[tactic(auto, unfolding(report_form::specs::Points::joined_point_at))]
+    fn read(&self, lines: &mut Lines<'_>, _before: &[Point]) -> Result<Point, ReportStop> {
+        let head = joined_head_part(lines, self.0.question)?;
+        self.0.schedule_part(lines, head)
     }
-    Ok(points)
 }

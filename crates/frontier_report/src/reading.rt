@@ -72,6 +72,7 @@ fn answered(alloc: Global, bytes: &[u8]) -> Result<Report, ReportFault>
 
 /// The report that the text spells, all of the text, which has fewer than 4,294,967,294 lines, so
 /// that they have numbers. A fault names the first check that fails, and its line.
+#[tactic(auto, using(crate::proofs::ReaderAnswers::is_found, crate::proofs::ReaderAnswers::only_it, crate::proofs::ReaderAnswers::blames))]
 pub fn read_report(alloc: Global, bytes: &[u8]) -> Result<Report, ReportFault>
     requires { length (rows_of bytes.now) + 2 < 2 ^ 32 }
     // What is read is spelled so.

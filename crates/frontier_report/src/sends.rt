@@ -1,17 +1,17 @@
 //! The lines of a point's sends.
 
-ghost use Rattle.std.specs.Prelude.{◌≡◌, ◌≤◌, ◌<◌, Some, None, if◌then◌else◌, codes, length, OnOk};
-ghost use Rattle.text_lines.specs.{Line.{IsIn, row_at}, Check.Tells, Repeated.lines_at};
+ghost use Rattle.std.specs.{Prelude.{◌≡◌, ◌≤◌, Some, None, if◌then◌else◌, length}, List.last_or};
+ghost use Rattle.text_lines.specs.{Line.{IsIn, row_at}, Check.{Tells, line_part}};
 ghost use Rattle.report_form.specs.Points.{follows, may_be_sent, send_from, send_line};
-ghost use Rattle.frontier_report.specs.inner.{After.send_after, Gives.Reads, Wide.hop_of};
-ghost use Rattle.report_lines.specs.Room.{HasRoom, Onward};
+ghost use Rattle.frontier_report.specs.inner.Wide.{chunks_of, hop_of};
 
+use crate::repeats::Repeats;
 use crate::report_stop::ReportStop;
+use candidate_order::Candidate;
 use indexmap::IndexSet;
 use report_form::{ReportCode, ReportFault};
-use report_lines::{fixed_word, next_node, next_number, no_more, tokens_on};
+use report_lines::{Question, fixed_word, next_line, next_node, next_number, no_more, tokens_on};
 use schedule::{Hop, hop_cmp};
-use std::alloc::Global;
 use text_lines::{Line, Lines, Tokens};
 use topology_text::Name;
 
@@ -25,11 +25,13 @@ pub struct WideHop {
     pub step: u16,
 }
 
-/// What the sends of a schedule keep to: chunks are numbered from 0, steps from 1.
-#[derive(Clone, Copy, Debug)]
-pub struct Extent {
-    pub chunks: u16,
-    pub steps: u8,
+/// What reads the sends of a candidate's schedule.
+#[derive(Clone, Copy)]
+pub struct Sends<'a> {
+    pub names: &'a IndexSet<Name>,
+    pub question: &'a Question<'a>,
+    pub candidate: Candidate,
+    ghost few: { length names.now.keys ≤ 16 },
 }
 
 /// Takes the shape of the line.
@@ -51,81 +53,63 @@ fn send_of(tokens: &mut Tokens<'_>, names: &IndexSet<Name>) -> Result<WideHop, R
     })
 }
 
-/// The send, where its chunk and its step are in range.
-fn in_extent(extent: Extent, h: WideHop) -> Option<Hop>
-    ensures { result ≡ (if may_be_sent extent.chunks extent.steps (hop_of h) then Some (hop_of h) else None) }
+/// Whether a send stands behind the last of those before it, if there is one.
+#[tactic(auto, using(crate::proofs::Turns::last_of))]
+fn follows(before: &[Hop], hop: Hop) -> bool
+    ensures { result ≡ follows (last_or None before.now) hop }
 {
-    if h.chunk >= extent.chunks || h.step < 1 || h.step > u16::from(extent.steps) {
-        return None;
-    }
-    Some(Hop {
-        chunk: h.chunk,
-        from: h.from,
-        to: h.to,
-        step: h.step as u8,
-    })
-}
-
-/// Whether a send stands behind the one before it, if there is one.
-fn follows(last: Option<Hop>, hop: Hop) -> bool
-    ensures { result ≡ follows last hop }
-{
-    match last {
+    match before.last() {
         None => true,
-        Some(last) => hop_cmp(&last, &hop).is_lt(),
+        Some(last) => hop_cmp(last, &hop).is_lt(),
     }
 }
 
-/// A send, behind the last one.
-fn send_on(
-    text: &[u8],
-    line: Line,
-    names: &IndexSet<Name>,
-    extent: Extent,
-    last: Option<Hop>,
-) -> Result<Hop, ReportCode>
-    requires span { IsIn text.now line }
-    requires few { length names.now.keys ≤ 16 }
-    ensures { Tells (λ hop. hop) result (send_after names.now.keys extent.chunks extent.steps last (Some (row_at text.now line))) }
-{
-    let mut tokens = tokens_on(text, line)?;
-    let wide = send_of(&mut tokens, names)?;
-    match in_extent(extent, wide) {
-        Some(hop) if follows(last, hop) => Ok(hop),
-        _ => Err(ReportCode::Limits),
+impl Sends<'_> {
+    /// The send, where its chunk and its step are in range: chunks are numbered from 0, steps
+    /// from 1.
+    fn in_range(&self, h: WideHop) -> Option<Hop>
+        ensures { result ≡ (if may_be_sent (chunks_of self.now.question.now self.now.candidate) self.now.candidate.s (hop_of h) then Some (hop_of h) else None) }
+    {
+        let chunks = self.question.chunks(self.candidate.c);
+        if h.chunk >= chunks || h.step < 1 || h.step > u16::from(self.candidate.s) {
+            return None;
+        }
+        Some(Hop {
+            chunk: h.chunk,
+            from: h.from,
+            to: h.to,
+            step: h.step as u8,
+        })
     }
-}
 
-/// Takes the lines of the sends, up to the first line that is none.
-pub fn sends_part(
-    alloc: Global,
-    lines: &mut Lines<'_>,
-    names: &IndexSet<Name>,
-    extent: Extent,
-) -> Result<Vec<Hop>, ReportStop>
-    requires room { HasRoom lines.old.place }
-    requires few { length names.now.keys ≤ 16 }
-    ensures read { Reads (λ v. (v.items, lines.new.place)) result (lines_at (codes "send ") (send_line names.now.keys extent.chunks extent.steps) lines.old.place) }
-    ensures text { lines.new.text ≡ lines.old.text }
-    ensures onward { OnOk result (Onward lines.old.place lines.new.place) }
-    ensures fewer { OnOk result (length lines.new.place.rows ≤ length lines.old.place.rows) }
-{
-    let text = lines.text();
-    let mut sends = Vec::new(alloc);
-    let mut last = None;
-    while let Some(line) = lines.next_with(b"send ") {
-        match send_on(text, line, names, extent, last) {
-            Ok(hop) => {
-                sends.push(hop)?;
-                last = Some(hop);
-            }
-            Err(code) => {
-                return Err(ReportStop::Refused(ReportFault {
-                    code,
-                    line: line.number,
-                }));
-            }
+    /// A send, behind those before it.
+    fn send_on(&self, text: &[u8], line: Line, before: &[Hop]) -> Result<Hop, ReportCode>
+        requires { IsIn text.now line }
+        ensures { Tells (λ hop. hop) result (send_line self.now.names.now.keys (chunks_of self.now.question.now self.now.candidate) self.now.candidate.s before.now (Some (row_at text.now line))) }
+    {
+        let mut tokens = tokens_on(text, line)?;
+        let wide = send_of(&mut tokens, self.names)?;
+        match self.in_range(wide) {
+            Some(hop) if follows(before, hop) => Ok(hop),
+            _ => Err(ReportCode::Limits),
         }
     }
-    Ok(sends)
+}
+
+impl Repeats for Sends<'_> {
+    type Item = Hop;
+
+    ghost part_at = { λ sends before. line_part (send_line sends.names.now.keys (chunks_of sends.question.now sends.candidate) sends.candidate.s before) };
+
+    fn read(&self, lines: &mut Lines<'_>, before: &[Hop]) -> Result<Hop, ReportStop> {
+        let text = lines.text();
+        let line = next_line(lines)?;
+        let hop = self
+            .send_on(text, line, before)
+            .map_err(|code| ReportFault {
+                code,
+                line: line.number,
+            })?;
+        Ok(hop)
+    }
 }

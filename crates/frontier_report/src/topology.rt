@@ -63,10 +63,7 @@ pub fn header_at(lines: &mut Lines<'_>, patterned: bool) -> Result<(), ReportFau
 {
     let text = lines.text();
     let number = lines.number();
-    let said = match header_part(lines) {
-        Ok(said) => said,
-        Err(fault) => return Err(among(text, fault)),
-    };
+    let said = header_part(lines).map_err(|fault| among(text, fault))?;
     if said == patterned {
         Ok(())
     } else {
@@ -78,6 +75,7 @@ pub fn header_at(lines: &mut Lines<'_>, patterned: bool) -> Result<(), ReportFau
 }
 
 /// Takes the names of the nodes.
+#[tactic(auto, using(crate::proofs::Onward::nodes_onward))]
 pub fn names_at(alloc: Global, lines: &mut Lines<'_>) -> Result<IndexSet<Name>, ReportStop>
     requires room { HasMuchRoom lines.old.place }
     ensures read { Reads (λ names. (names.keys, lines.new.place)) result (among (rows_of lines.old.text) (line_part nodes_line lines.old.place)) }

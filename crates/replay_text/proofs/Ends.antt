@@ -1,45 +1,43 @@
 -- The store after the last step of a point that adds up, and the verdict on it.
-use Rattle.std.{proofs.Common.{◌≡◌, ℕ, ◌+◌, ◌<◌, true, false, List, length, map, get_or, sym, ap, ◌∙◌, arith}, specs.List.range_with_len}
-use Rattle.std.proofs.lemmas.List.FromFn.{length-map-range_with_len, get_or-map-range_with_len}
-use Rattle.schedule.specs.{Links.TopologyValue, Sends.ScheduleValue, Placed.PlacementValue, Bags.{Bags, contributions}, JoinedRuns.{joined_after, joined_run}}
+use Rattle.std.{proofs.Common.{◌≡◌, ℕ, ◌+◌, ◌<◌, true, false, List, length, map, get_or, if◌then◌else◌, sym, ap, ◌∙◌, arith}, specs.List.range_with_len}
+use Rattle.std.proofs.lemmas.{List.FromFn.{length-map-range_with_len, get_or-map-range_with_len}, Simd.map-map}
+use Rattle.schedule.specs.{Links.TopologyValue, Sends.ScheduleValue, Placed.PlacementValue, Bags.{Bags, contributions, of_placement}, JoinedRuns.{joined_after, joined_run}}
 use Rattle.bag_runs.{specs.Stores.{StoreValue, stored}, proofs.JoinedSteps.adding_throughout}
 use Rattle.inversion.specs.Judging.{last_bags, sum_verdict_of}
 use Rattle.allreduce_join.{specs.Judging.{joined_bags, joined_verdict_of}, proofs.OneVerdict.{judged_adding, judged_everywhere}}
-use Rattle.replay_text.specs.{Showing.{Shown, adding_of, chunks_at, is_copied, is_joined, nodes_of, summed_verdict}, Points.{IsShowable, last_store_of}}
-use Rattle.replay_text.proofs.{Bodies.{adding_is, demand_at, start_itself, start_kept}, Ordered.mapped_twice}
+use Rattle.replay_text.specs.{Showing.{Shown, adding_of, chunks_at, instance_at, is_copied, is_joined, nodes_of, summed_verdict}, inner.Appended.start_bags, Points.{IsShowable, last_store_of}}
+use Rattle.replay_text.proofs.Bodies.{adding_is, demand_at}
 
--- ---- in a run
+-- ---- in the run of the point
 
-module _ (chunks nodes : ℕ) (bags : Bags) (s : ScheduleValue) (adding : ℕ) (run : List StoreValue) (rounds : List ℕ) (same : rounds ≡ s.rounds) (is : run ≡ map (stored chunks nodes) (joined_run bags s adding)) where
-  after_each : run ≡ map (λ n. stored chunks nodes (joined_after bags s adding n)) (range_with_len 0 (length s.rounds + 1))
-  after_each = is ∙ mapped_twice (stored chunks nodes) (joined_after bags s adding) (range_with_len 0 (length s.rounds + 1))
-
-  run_inside : length rounds < length run
-  run_inside = omega (arith, ap length same, ap length after_each, length-map-range_with_len (λ n. stored chunks nodes (joined_after bags s adding n)) 0 (length s.rounds + 1))
-
-  run_last : (last : StoreValue) → last ≡ get_or run (length rounds) last → last ≡ stored chunks nodes (joined_after bags s adding (length s.rounds))
-  run_last last read =
-      read
-      ∙ (λ i. get_or (after_each i) (length (same i)) last)
-      ∙ get_or-map-range_with_len (λ n. stored chunks nodes (joined_after bags s adding n)) 0 (length s.rounds + 1) (length s.rounds) (length s.rounds) last (omega arith) (omega arith)
-
--- ---- in that of the point
-
-module _ (x : Shown) (start : StoreValue) (chunks nodes adding : ℕ) (s : ScheduleValue) (run : List StoreValue) (rounds : List ℕ) (own_chunks : chunks ≡ chunks_at x) (own_nodes : nodes ≡ nodes_of x) (own_adding : adding ≡ adding_of x) (own : s ≡ x.point.schedule)
-    (is : start ≡ stored chunks nodes (contributions nodes)) (ran : (bags : Bags) → start ≡ stored start.chunks start.nodes bags → run ≡ map (stored start.chunks start.nodes) (joined_run bags s adding)) (same : rounds ≡ s.rounds) where
+module _ (x : Shown) (adds : is_copied x ≡ false) (start : StoreValue) (adding : ℕ) (s : ScheduleValue) (run : List StoreValue) (rounds : List ℕ) (is : start ≡ stored (chunks_at x) (nodes_of x) (start_bags x)) (own_adding : adding ≡ adding_of x) (own : s ≡ x.point.schedule)
+    (ran : (bags : Bags) → start ≡ stored start.chunks start.nodes bags → run ≡ map (stored start.chunks start.nodes) (joined_run bags s adding)) (same : rounds ≡ s.rounds) where
   abbrev bags_of : Bags
   bags_of = contributions (nodes_of x)
 
+  abbrev after : ℕ → StoreValue
+  after n = stored (chunks_at x) (nodes_of x) (joined_after bags_of x.point.schedule (adding_of x) n)
+
   made : start ≡ stored (chunks_at x) (nodes_of x) bags_of
-  made = start_kept x start chunks nodes own_chunks own_nodes is
+  made = is ∙ ap (λ b. stored (chunks_at x) (nodes_of x) (if b then of_placement (instance_at x).pre else bags_of)) adds
+
+  pub added_run : run ≡ map (stored (chunks_at x) (nodes_of x)) (joined_run bags_of x.point.schedule (adding_of x))
+  added_run = ran bags_of (made ∙ sym (λ i. stored (made i).chunks (made i).nodes bags_of)) ∙ (λ i. map (stored (made i).chunks (made i).nodes) (joined_run bags_of (own i) (own_adding i)))
+
+  after_each : run ≡ map after (range_with_len 0 (length x.point.schedule.rounds + 1))
+  after_each = added_run ∙ map-map (stored (chunks_at x) (nodes_of x)) (joined_after bags_of x.point.schedule (adding_of x)) (range_with_len 0 (length x.point.schedule.rounds + 1))
+
+  as_many : length rounds ≡ length x.point.schedule.rounds
+  as_many = ap length same ∙ ap (λ (p : ScheduleValue). length p.rounds) own
 
   pub added_inside : length rounds < length run
-  added_inside = run_inside start.chunks start.nodes bags_of s adding run rounds same (ran bags_of (start_itself x start made))
+  added_inside = omega (arith, as_many, ap length after_each, length-map-range_with_len after 0 (length x.point.schedule.rounds + 1))
 
   pub added_last : (last : StoreValue) → last ≡ get_or run (length rounds) last → last ≡ last_store_of x
   added_last last read =
-      run_last start.chunks start.nodes bags_of s adding run rounds same (ran bags_of (start_itself x start made)) last read
-      ∙ (λ i. stored (made i).chunks (made i).nodes (joined_after bags_of (own i) (own_adding i) (length (own i).rounds)))
+      read
+      ∙ (λ i. get_or (after_each i) (as_many i) last)
+      ∙ get_or-map-range_with_len after 0 (length x.point.schedule.rounds + 1) (length x.point.schedule.rounds) (length x.point.schedule.rounds) last (omega arith) (omega arith)
 
 -- ---- as the verdicts take it
 

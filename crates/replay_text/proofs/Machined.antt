@@ -1,5 +1,5 @@
 -- The machine of a point, and the events of its runs.
-use Rattle.std.{proofs.Common.{◌≡◌, ℕ, List, [], ◌∷◌, length, map, sym, ap, ◌∙◌, subst, All, Result, IfOk}, specs.List.AllByRecursion}
+use Rattle.std.{proofs.Common.{◌≡◌, ℕ, get_or, List, [], ◌∷◌, length, map, sym, ap, ◌∙◌, subst, All, Result, IfOk}, specs.List.AllByRecursion}
 use Rattle.std.proofs.lemmas.List.Elements.{All-from_recursion}
 use Rattle.schedule.specs.Sends.{IsInRange, ScheduleValue}
 use Rattle.node_programs.specs.{declared.op.Op.Op, Below.AreBelow, Machines.{State, started}, Programs.programs_of, Runs.{chosen, operations}}
@@ -38,3 +38,8 @@ each_done moves x runs seeds shows drawn =
     All-from_recursion (λ run. length (moves run) ≡ operations (machine_of x)) runs
     (all_as_long moves (chosen (machine_of x)) (operations (machine_of x)) runs seeds drawn
     (λ seed. (every_seed (chunks_at x) (nodes_of x) (start_bags x) x.point.schedule (adding_of x) seed shows.schedule shows.in_range).events))
+
+-- of lists that are made of one, the first
+pub that_one : {X : Type 0} (f : X → List ℕ) (runs : List X) (one : List ℕ) (d : X) → map f runs ≡ one ∷ [] → f (get_or runs 0 d) ≡ one
+that_one f [] one d made = absurd (cc)
+that_one f (run ∷ runs) one d made = cc

@@ -1,7 +1,8 @@
 -- What a report keeps of each of its points, and the instance that its part asks for.
-use Rattle.std.proofs.Common.{◌≡◌, ◌≢◌, arith, ◌≤◌, ◌<◌, ◌⊎◌, inl, inr, ⊎_elim, ℕ, zero, suc, true, false, List, [], ◌∷◌, map, length, All, Option, None, Some, IfSome, IsTrue, slice_get, refl, sym, subst, ap, nat_le, Contains}
+use Rattle.std.proofs.Common.{◌≡◌, ◌≢◌, arith, ◌≤◌, ◌<◌, ◌⊎◌, inl, inr, ⊎_elim, ℕ, zero, suc, true, false, List, [], ◌∷◌, map, length, All, Option, None, Some, IfSome, IsTrue, refl, sym, subst, ap, nat_le, Contains}
 use Rattle.std.{specs.List.{AllByRecursion, flat_map}, proofs.lemmas.Bool.{and_parts, leb-true, not-true}}
-use Rattle.std.proofs.lemmas.List.Elements.{All-contains, All-from_recursion, recursion_from_All}
+use Rattle.std.proofs.lemmas.List.Elements.{All-contains, Contains-get_or, All-from_recursion, recursion_from_All}
+use Rattle.std.proofs.lemmas.Option.{get_or_from_slice_get, slice_get_within}
 use Rattle.outer_ports.specs.declared.part.Part.{Part}
 use Rattle.outer_ports.specs.declared.part.Part.TheVariants as part
 use Rattle.collective_spec.specs.{declared.{kind.Kind.Kind, collective.Collective.Collective, spec.Spec.Spec}, Kinds.{allows, is_custom}}
@@ -16,10 +17,10 @@ use Rattle.report_form.specs.{Reports.{ReportValue, IsReport, IsPrintedPoint, Is
 use Rattle.schedule.proofs.First.{each_append}
 use Rattle.replay_text.specs.{Showing.{is_joined, shown_in, steps_that_add}, Points.IsShowable}
 
-get_has : {X : Type 0} (P : X → Type 0) (xs : List X) (n : ℕ) (x : X) → AllByRecursion P xs → slice_get xs n ≡ Some x → P x
-get_has P [] n x all e = absurd (cc)
-get_has P (y ∷ ys) zero x all e = let same : y ≡ x = cc in subst P same all.0
-get_has P (y ∷ ys) (suc n) x all e = get_has P ys n x all.1 e
+-- the point of a number is one of the report's
+pub numbered : (r : ReportValue) (n : ℕ) (x : Part × PointValue) → point_at r n ≡ Some x → Contains (points_of r) x
+numbered r zero x e = absurd (cc)
+numbered r (suc n) x e = subst (Contains (points_of r)) (get_or_from_slice_get (points_of r) n x x e) (Contains-get_or (points_of r) n x (slice_get_within (points_of r) n x e))
 
 -- ---- what its part asks for
 
@@ -117,12 +118,7 @@ module _ (r : ReportValue) (valid : IsReport r) where
       let frontiers : AllByRecursion (λ y. All (IsPrintedPoint (question_of r.words r.topology y.0)) y.1.points) r.frontiers = recursion_from_All _ r.frontiers (λ k d at. (valid.frontiers k d at).points) in
       each_append Shows _ _ (frontiers_show r.frontiers single frontiers) joined
 
-  -- the point of a number is one of the report's
-  pub numbered_shows : (n : ℕ) (x : Part × PointValue) → point_at r n ≡ Some x → IsShowable (shown_in r x)
-  numbered_shows zero x e = absurd (cc)
-  numbered_shows (suc n) x e = get_has Shows (points_of r) n x all_show e
-
-  -- and so is each that stands among them
+  -- each point that stands among those of the report
   pub listed_shows : (x : Part × PointValue) → Contains (points_of r) x → IsShowable (shown_in r x)
   listed_shows x at = All-contains Shows (points_of r) x (All-from_recursion Shows (points_of r) all_show) at
 

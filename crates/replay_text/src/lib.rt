@@ -9,7 +9,7 @@ mod placements;
 mod point;
 mod programs;
 mod running;
-mod runs;
+mod steps;
 mod vectors;
 mod verdicts;
 mod words;

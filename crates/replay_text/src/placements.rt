@@ -1,12 +1,12 @@
 //! The lines of placements: who holds which chunk.
 
-ghost use Rattle.std.specs.Prelude.{◌≡◌, ◌<◌, ◌++◌, ◌∷◌, [], decimal, if◌then◌else◌, flat_map, map, OnOk};
+ghost use Rattle.std.specs.Prelude.{◌≡◌, ◌<◌, ◌++◌, ◌∷◌, [], decimal, if◌then◌else◌, flat_map, OnOk};
 ghost use Rattle.schedule.specs.Placed.{holds};
-ghost use Rattle.text_lines.specs.Text.{line, text_of};
-ghost use Rattle.replay_text.specs.{Replay.{held_lines, numbered_steps}, inner.Appended.{last_of, held_by, holder_words, step_head}};
+ghost use Rattle.text_lines.specs.Text.{line};
+ghost use Rattle.replay_text.specs.{Replay.held_lines, inner.Appended.{held_by, holder_words}};
 
 use crate::OutOfMemory;
-use crate::words::push_step_head;
+use crate::steps::NodeLines;
 use schedule::Placement;
 use text_lines::{push_number_field, push_word};
 use topology_text::{Name, push_node_name};
@@ -29,6 +29,7 @@ fn push_if_held(
 }
 
 /// Appends the chunks that a node holds.
+#[tactic(auto, using(crate::proofs::Lines::fields_more, std::proofs::lemmas::Grind::common_steps))]
 fn push_held(out: &mut Vec<u8>, placement: &Placement, node: u8) -> Result<(), OutOfMemory>
     requires { node < placement.now.nodes }
     ensures { OnOk result (out.new.items ≡ out.old.items ++ flat_map (λ chunk. 32 ∷ decimal chunk) (held_by placement.now node)) }
@@ -40,6 +41,7 @@ fn push_held(out: &mut Vec<u8>, placement: &Placement, node: u8) -> Result<(), O
 }
 
 /// Appends the line of a node.
+#[tactic(auto, using(crate::proofs::Lines::mapped_line, std::proofs::lemmas::Grind::common_steps))]
 fn push_holder(
     out: &mut Vec<u8>,
     names: &[Name],
@@ -54,57 +56,14 @@ fn push_holder(
     push_word(out, b"\n")
 }
 
-/// Appends the line of each node.
-fn push_placement(
-    out: &mut Vec<u8>,
-    names: &[Name],
-    placement: &Placement,
-) -> Result<(), OutOfMemory>
-    ensures { OnOk result (out.new.items ≡ out.old.items ++ text_of (held_lines names.now placement.now)) }
-{
-    for node in 0..placement.nodes() {
-        push_holder(out, names, placement, node)?;
-    }
-    Ok(())
-}
+impl NodeLines for Placement {
+    ghost lines = { held_lines };
 
-/// Appends the lines of a step.
-fn push_step(
-    out: &mut Vec<u8>,
-    names: &[Name],
-    step: u64,
-    placement: &Placement,
-) -> Result<(), OutOfMemory>
-    ensures { OnOk result (out.new.items ≡ out.old.items ++ text_of (step_head step ∷ held_lines names.now placement.now)) }
-{
-    push_step_head(out, step)?;
-    push_placement(out, names, placement)
-}
-
-/// Appends the lines of all steps, from step 0 on.
-pub(crate) fn push_placements(
-    out: &mut Vec<u8>,
-    names: &[Name],
-    run: &[Placement],
-) -> Result<(), OutOfMemory>
-    ensures { OnOk result (out.new.items ≡ out.old.items ++ text_of (numbered_steps 0 (map (held_lines names.now) run.now))) }
-{
-    for (step, placement) in run.iter().enumerate() {
-        push_step(out, names, step as u64, placement)?;
-    }
-    Ok(())
-}
-
-/// Appends the lines of the nodes after the last step.
-pub(crate) fn push_last_placement(
-    out: &mut Vec<u8>,
-    names: &[Name],
-    run: &[Placement],
-) -> Result<(), OutOfMemory>
-    ensures { OnOk result (out.new.items ≡ out.old.items ++ text_of (last_of (map (held_lines names.now) run.now))) }
-{
-    match run.last() {
-        Some(placement) => push_placement(out, names, placement),
-        None => Ok(()),
+    #[tactic(auto, using(crate::proofs::Lines::lines_more, std::proofs::lemmas::Grind::common_steps))]
+    fn push_lines(&self, out: &mut Vec<u8>, names: &[Name]) -> Result<(), OutOfMemory> {
+        for node in 0..self.nodes() {
+            push_holder(out, names, self, node)?;
+        }
+        Ok(())
     }
 }

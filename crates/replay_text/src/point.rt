@@ -1,13 +1,16 @@
 //! The replay of a point of a report.
 
-ghost use Rattle.std.specs.Prelude.{◌≡◌, ◌++◌, true, false, Some, IfOk, OnOk};
-ghost use Rattle.report_form.specs.Numbered.{point_at};
+ghost use Rattle.std.specs.Prelude.{◌≡◌, ◌++◌, true, false, Some, Contains, IfOk, OnOk};
+ghost use Rattle.report_form.specs.Numbered.{point_at, points_of};
 ghost use Rattle.text_lines.specs.Text.{text_of};
 ghost use Rattle.replay_text.specs.{Showing.{adding_of, is_copied, shown_in, shown_text, summed_verdict}, Points.{IsShowable, body_lines, last_store_of}};
 
 use crate::OutOfMemory;
 use crate::adding::{copies, is_joined, steps_that_add};
-use crate::runs::{push_placed_run, push_stored_run};
+use crate::order::push_order;
+use crate::running::start_store;
+use crate::steps::push_steps;
+use crate::verdicts::{push_sum_verdict, push_verdict, says_solves, says_sums};
 use crate::words::push_numbered;
 use allreduce_join::all_summed_by_last;
 use candidate_order::Point;
@@ -32,12 +35,14 @@ fn push_copied(
     spec: &Spec,
     order: Option<u64>,
 ) -> Result<(), OutOfMemory>
+    requires listed { Contains (points_of report.now) (part, point.now) }
     requires showable { IsShowable (shown_in report.now (part, point.now)) }
     requires spec { spec.now ≡ (shown_in report.now (part, point.now)).question.spec }
     requires copied { is_copied (shown_in report.now (part, point.now)) ≡ true }
     ensures { OnOk result (out.new.items ≡ out.old.items ++ text_of (body_lines (shown_in report.now (part, point.now)) order)) }
 {
     let named = report.topology();
+    let names = named.names();
     let topology = named.topology();
     let schedule = point.schedule();
     let Instance { pre, post, .. } = spec_instance(
@@ -48,16 +53,10 @@ fn push_copied(
     )?;
     let run = run_steps(alloc, &pre, schedule)?;
     let verdict = solves_by_run(topology, &pre, &post, schedule, &run);
-    push_placed_run(
-        alloc,
-        out,
-        named.names(),
-        schedule,
-        &pre,
-        &run,
-        verdict,
-        order,
-    )
+    push_steps(out, names, &run)?;
+    push_verdict(out, names, verdict)?;
+    let holds = says_solves(&verdict);
+    push_order(alloc, out, report, part, point, &run, holds, order)
 }
 
 /// The verdict on a point that adds up, of which so many first steps do, by the store after its
@@ -101,31 +100,23 @@ fn push_added(
     spec: &Spec,
     order: Option<u64>,
 ) -> Result<(), OutOfMemory>
+    requires listed { Contains (points_of report.now) (part, point.now) }
     requires showable { IsShowable (shown_in report.now (part, point.now)) }
     requires spec { spec.now ≡ (shown_in report.now (part, point.now)).question.spec }
     requires adds { is_copied (shown_in report.now (part, point.now)) ≡ false }
     ensures { OnOk result (out.new.items ≡ out.old.items ++ text_of (body_lines (shown_in report.now (part, point.now)) order)) }
 {
-    let named = report.topology();
-    let nodes = named.topology().nodes();
+    let names = report.topology().names();
     let schedule = point.schedule();
     let adding = steps_that_add(point);
-    let chunks = spec.chunks(nodes, point.candidate().c);
-    let start = Store::of_contributions(alloc, chunks, nodes)?;
+    let start = start_store(alloc, report, part, point, spec)?;
     let run = replay_steps(alloc, &start, schedule, adding)?;
     let last = &run[schedule.rounds().len()];
     let verdict = judge_sums(alloc, report, part, point, spec, adding, last)?;
-    push_stored_run(
-        alloc,
-        out,
-        named.names(),
-        schedule,
-        adding,
-        start,
-        &run,
-        verdict,
-        order,
-    )
+    push_steps(out, names, &run)?;
+    push_sum_verdict(out, names, verdict)?;
+    let holds = says_sums(&verdict);
+    push_order(alloc, out, report, part, point, &run, holds, order)
 }
 
 /// Appends the lines of a point behind its number, but for the end.
@@ -138,6 +129,7 @@ fn push_body(
     spec: &Spec,
     order: Option<u64>,
 ) -> Result<(), OutOfMemory>
+    requires listed { Contains (points_of report.now) (part, point.now) }
     requires showable { IsShowable (shown_in report.now (part, point.now)) }
     requires spec { spec.now ≡ (shown_in report.now (part, point.now)).question.spec }
     ensures { OnOk result (out.new.items ≡ out.old.items ++ text_of (body_lines (shown_in report.now (part, point.now)) order)) }

@@ -18,7 +18,7 @@ use report_form::{Report, spec_of_part};
 use std::alloc::Global;
 
 /// What the nodes have before the first step of a point.
-fn start_store(
+pub(crate) fn start_store(
     alloc: Global,
     report: &Report,
     part: Part,

@@ -1,13 +1,10 @@
 -- What the printers of a replay append, of the values that the code keeps.
-use Rattle.std.specs.Prelude.{ℕ, ◌+◌, List, [], ◌∷◌, ◌++◌, if◌then◌else◌, filter, map, Option, None, Some, unwrap_or, codes, decimal}
+use Rattle.std.specs.Prelude.{ℕ, ◌+◌, List, [], ◌∷◌, ◌++◌, if◌then◌else◌, filter, map, None, unwrap_or, codes, decimal}
 use Rattle.std.specs.List.{range_with_len, last_or}
-use Rattle.schedule.specs.{Sends.ScheduleValue, Placed.{PlacementValue, holds}, Bags.{Bag, Bags, contributions, held_at_2, of_placement}, Running.run_of}
-use Rattle.schedule.specs.{JoinedRuns.joined_run, declared.verdict.Verdict.Verdict}
-use Rattle.inversion.specs.{declared.verdict.SumVerdict.SumVerdict, Saying.{says_solves, says_sums}}
-use Rattle.bag_runs.specs.Stores.{StoreValue, bag_in, stored}
-use Rattle.node_programs.specs.{Machines.State, Runs.{operations, chosen}, Ended.machine_of}
+use Rattle.schedule.specs.{Placed.{PlacementValue, holds}, Bags.{Bag, Bags, contributions, held_at_2, of_placement}}
+use Rattle.bag_runs.specs.Stores.{StoreValue, bag_in}
 use Rattle.topology_text.specs.Spelling.{name_at}
-use Rattle.replay_text.specs.{Replay.{held_lines, numbered_steps, verdict_words}, Showing.{Shown, chunks_at, instance_at, is_copied, nodes_of, sum_words}}
+use Rattle.replay_text.specs.{Showing.{Shown, chunks_at, instance_at, is_copied, nodes_of}}
 
 -- ---- parts of the lines of a step
 
@@ -60,33 +57,3 @@ move_lines names seed events moves =
 -- the lines of the last step
 abbrev pub last_of : List (List (List (List ℕ))) → List (List (List ℕ))
 last_of steps = unwrap_or (last_or None steps) []
-
--- the run of a machine in the order of a seed, and what the nodes have in the end
-abbrev pub ordered_lines : List (List ℕ) → State → List (List (List (List ℕ))) → ℕ → List (List (List ℕ))
-ordered_lines names m steps seed = move_lines names seed (operations m) (chosen m seed) ++ last_of steps
-
-abbrev pub more_lines : List (List ℕ) → State → List (List (List (List ℕ))) → Option ℕ → List (List (List ℕ))
-more_lines names m steps None = []
-more_lines names m steps (Some seed) = ordered_lines names m steps seed
-
--- ---- the lines behind the number of the point, but for the end
-
--- of a schedule that copies, from a placement
-abbrev pub placed_steps : List (List ℕ) → PlacementValue → ScheduleValue → List (List (List (List ℕ)))
-placed_steps names pre s = map (held_lines names) (run_of pre s)
-
-abbrev pub placed_lines : List (List ℕ) → PlacementValue → ScheduleValue → Verdict → Option ℕ → List (List (List ℕ))
-placed_lines names pre s v order =
-    let m = machine_of pre.chunks pre.nodes (of_placement pre) s 0 in
-    let steps = placed_steps names pre s in
-    numbered_steps 0 steps ++ (verdict_words names v ∷ more_lines names m steps (if says_solves v then order else None))
-
--- of a schedule whose first steps add, from a store of these bags
-abbrev pub stored_steps : List (List ℕ) → ℕ → ℕ → Bags → ScheduleValue → ℕ → List (List (List (List ℕ)))
-stored_steps names chunks nodes bags s adding = map (λ b. store_lines names (stored chunks nodes b)) (joined_run bags s adding)
-
-abbrev pub stored_lines : List (List ℕ) → ℕ → ℕ → Bags → ScheduleValue → ℕ → SumVerdict → Option ℕ → List (List (List ℕ))
-stored_lines names chunks nodes bags s adding v order =
-    let m = machine_of chunks nodes bags s adding in
-    let steps = stored_steps names chunks nodes bags s adding in
-    numbered_steps 0 steps ++ (sum_words names v ∷ more_lines names m steps (if says_sums v then order else None))

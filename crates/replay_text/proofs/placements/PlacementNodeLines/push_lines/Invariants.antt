@@ -1,0 +1,7 @@
+use Rattle.std.{proofs.Common.{◌≡◌, ◌++◌, map}, specs.List.range_with_len}
+use Rattle.text_lines.specs.Text.{text_of}
+use Rattle.replay_text.specs.inner.Appended.{holder_words}
+use Rattle.replay_text.proofs.placements.PlacementNodeLines.push_lines.Given as goal
+
+abbrev pub invariant-loop-node : goal.invariant-loop-node
+invariant-loop-node l = l.out.items ≡ l.initial.out.items ++ text_of (map (holder_words l.names l.self) (range_with_len 0 l.node))

@@ -1,7 +1,0 @@
-use Rattle.std.proofs.Common.{◌≡◌, ◌++◌, map, take}
-use Rattle.text_lines.specs.Text.{text_of}
-use Rattle.replay_text.specs.Replay.{held_lines, numbered_steps}
-use Rattle.replay_text.proofs.placements.push_placements.Given as goal
-
-abbrev pub invariant-loop-step : goal.invariant-loop-step
-invariant-loop-step l = l.out.items ≡ l.initial.out.items ++ text_of (numbered_steps 0 (map (held_lines l.names) (take l.step l.run)))
