@@ -111,6 +111,9 @@ plain_count {n = n} h = record { reads = ap (option_map number) (number_of-decim
 pub plain_text : {k : ℕ} (s : List ℕ) → IsUtf8 s → Plain k (string s)
 plain_text s h = record { reads = refl; numbers = tt; flat = omega arith; utf8 = IsUtf8-quoted s h; whole = refl }
 
+pub plain_word : {k : ℕ} {s : List ℕ} → are_ascii s ≡ true → Plain k (string s)
+plain_word {s = s} h = plain_text s (IsUtf8-are_ascii s h)
+
 -- ---- what is printed is read back
 
 pub deeper : {m n : ℕ} {d : Data} → m ≤ n → Plain m d → Plain n d
