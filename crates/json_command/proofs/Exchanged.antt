@@ -35,27 +35,12 @@ refused_unless due read memory code place after status number (Ok a) is then (in
 abbrev pub topology_due : Result NamedTopologyValue (TopologyCode × ℕ) → Result Task Refusal
 topology_due read = refused_as BadTopology topology_number read >>= (λ t. Ok (Write (printed ((topology_form t.names).json t))))
 
-module _ (bytes : List ℕ) where
-  pub topology_written : (t : NamedTopologyValue) (text : List ℕ) → topology_of bytes ≡ Ok t → text ≡ printed (topology_json t) → IsAnswerAlone (json_asked what.Topology None bytes) Done text
-  topology_written t text read shown = written_as (json_asked what.Topology None bytes) (printed ((topology_form t.names).json t)) text (ap topology_due read) shown
-
-  pub no_topology : {E : Type 0} (code : TopologyCode) (line : ℕ) (result : Result Answer E)
-      → ((code ≡ topology.OutOfMemory) × (line ≡ 0)) ⊎ (topology_of bytes ≡ Err (code, line)) → IfOk result (λ _. code ≢ topology.OutOfMemory) → IfOk result (SaysAt BadTopology (topology_number code) line)
-      → IfOk result (λ a. IsAnswerAlone (json_asked what.Topology None bytes) a.status a.text.items)
-  no_topology code line result = refused_unless (json_asked what.Topology None bytes) (topology_of bytes) topology.OutOfMemory code line topology_due BadTopology topology_number result refl refl
-
-  pub report_written : (r : ReportValue) (text : List ℕ) → read_report bytes ≡ Ok r → text ≡ printed (report_json r) → IsAnswerAlone (json_asked what.Report None bytes) Done text
-  report_written r text read shown = written_as (json_asked what.Report None bytes) (printed ((report_form r.topology.names).json r)) text (ap (λ x. x >>= (λ report. Ok (Write (printed ((report_form report.topology.names).json report))))) read) shown
-
 module _ (r : ReportValue) (asked : PointWord) where
-  abbrev programs_from : Option (Part × PointValue) → Result Task Refusal
+  abbrev pub programs_from : Option (Part × PointValue) → Result Task Refusal
   programs_from found = need found (refused_word UnknownPoint asked.word) >>= (λ p. Ok (Write (printed (programs_value r asked.point p))))
 
   pub no_programs : (status : Status) (text : List ℕ) → point_at r asked.point ≡ None → Says BadWords (refusal_line (refused_word UnknownPoint asked.word)) status text → IsAnswerAlone (json_programs_in r (Some asked)) status text
   no_programs status text e says = refused_answers (json_programs_in r (Some asked)) (refused_word UnknownPoint asked.word) status text (ap programs_from e) says
-
-  pub programs_written : (p : Part × PointValue) (text : List ℕ) → point_at r asked.point ≡ Some p → text ≡ printed (programs_value r asked.point p) → IsAnswerAlone (json_programs_in r (Some asked)) Done text
-  programs_written p text e shown = written_as (json_programs_in r (Some asked)) (printed (programs_value r asked.point p)) text (ap programs_from e) shown
 
 -- ---- what is read from it
 
@@ -72,19 +57,3 @@ module _ (bytes : List ℕ) where
 
   pub report_same : read_json (report_form []) report_of bytes ≡ report_of_json bytes
   report_same = read_alike (report_form []) report_of bytes
-
-  pub topology_read : (t : NamedTopologyValue) (text : List ℕ) → topology_of_json bytes ≡ Ok t → text ≡ spelling t → IsAnswerAlone (unjson_asked what.Topology bytes) Done text
-  topology_read t text read spelled = written_as (unjson_asked what.Topology bytes) (spelling t) text (ap topology_read_due (topology_same ∙ read)) spelled
-
-  pub report_read : (r : ReportValue) (text : List ℕ) → report_of_json bytes ≡ Ok r → text ≡ report_text r → IsAnswerAlone (unjson_asked what.Report bytes) Done text
-  report_read r text read spelled = written_as (unjson_asked what.Report bytes) (report_text r) text (ap report_read_due (report_same ∙ read)) spelled
-
-  pub no_topology_json : {E : Type 0} (code : JsonCode) (place : ℕ) (result : Result Answer E)
-      → ((code ≡ json.OutOfMemory) × (place ≡ 0)) ⊎ (topology_of_json bytes ≡ Err (code, place)) → IfOk result (λ _. code ≢ json.OutOfMemory) → IfOk result (SaysAt BadJson (json_number code) place)
-      → IfOk result (λ a. IsAnswerAlone (unjson_asked what.Topology bytes) a.status a.text.items)
-  no_topology_json code place result = refused_unless (unjson_asked what.Topology bytes) (topology_of_json bytes) json.OutOfMemory code place topology_read_due BadJson json_number result (ap topology_read_due topology_same) refl
-
-  pub no_report_json : {E : Type 0} (code : JsonCode) (place : ℕ) (result : Result Answer E)
-      → ((code ≡ json.OutOfMemory) × (place ≡ 0)) ⊎ (report_of_json bytes ≡ Err (code, place)) → IfOk result (λ _. code ≢ json.OutOfMemory) → IfOk result (SaysAt BadJson (json_number code) place)
-      → IfOk result (λ a. IsAnswerAlone (unjson_asked what.Report bytes) a.status a.text.items)
-  no_report_json code place result = refused_unless (unjson_asked what.Report bytes) (report_of_json bytes) json.OutOfMemory code place report_read_due BadJson json_number result (ap report_read_due report_same) refl
