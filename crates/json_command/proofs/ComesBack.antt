@@ -1,5 +1,5 @@
 -- What is written as JSON is read back as the text that it was written of.
-use Rattle.std.proofs.{Common.{◌≡◌, ℕ, ◌≤◌, nat_lt, Bool, true, false, List, [], length, None, Result, Ok, Err, sym, ap, ◌∙◌, refl, arith}, lemmas.Bool.le-ltb}
+use Rattle.std.proofs.{Common.{◌≡◌, ℕ, ◌≤◌, nat_lt, Bool, true, false, List, [], length, None, Result, Ok, Err, sym, ap, ◌∙◌, refl}, lemmas.Bool.le-ltb}
 use Rattle.text_lines.specs.Check.{◌>>=◌, refuse}
 use Rattle.topology_text.{specs.{declared.fault.TopologyCode.TopologyCode, Reading.topology_of, Value.NamedTopologyValue}, proofs.Laws.all_take}
 use Rattle.report_form.specs.{declared.fault.ReportCode.ReportCode, Answer.report_number, Reading.report_of, Reports.ReportValue}

@@ -1,21 +1,18 @@
 -- What answers the words for JSON: what was read of the bytes, or its refusal.
-use Rattle.std.proofs.Common.{◌≡◌, ◌≢◌, ◌⊎◌, inl, inr, ℕ, List, [], Option, None, Some, Result, Ok, Err, refl, ap, ◌∙◌, IfOk}
+use Rattle.std.proofs.Common.{◌≡◌, ◌≢◌, ◌⊎◌, inl, inr, ℕ, List, [], Option, None, Some, Result, Ok, Err, ap, ◌∙◌, IfOk}
 use Rattle.outer_ports.specs.declared.part.Part.{Part}
 use Rattle.text_lines.specs.Check.{◌>>=◌, need}
 use Rattle.candidate_order.specs.Frontiers.{PointValue}
 use Rattle.topology_text.specs.{declared.fault.TopologyCode.TopologyCode, Value.NamedTopologyValue, Answer.topology_number, Reading.topology_of}
 use Rattle.topology_text.specs.Spelling.{spelling}
-use Rattle.topology_text.specs.declared.fault.TopologyCode.TheVariants as topology
 use Rattle.report_form.specs.{Reading.report_of, Reports.ReportValue, Numbered.point_at, Spelling.report_text}
-use Rattle.json_values.specs.{declared.fault.JsonCode.JsonCode, Answer.{json_number, topology_of_json}, Json.printed, Reading.read_json, TopologyJson.topology_json, TopologyForm.topology as topology_form}
-use Rattle.json_values.specs.declared.fault.JsonCode.TheVariants as json
-use Rattle.json_rules.{specs.{ReportForm.report as report_form, Answer.report_of_json, ReportJson.report_json}, proofs.ReadJson.read_alike}
-use Rattle.command_words.specs.declared.command.JsonWhat.TheVariants as what
+use Rattle.json_values.specs.{declared.fault.JsonCode.JsonCode, Answer.{json_number, topology_of_json}, Json.printed, Reading.read_json, TopologyForm.topology as topology_form}
+use Rattle.json_rules.{specs.{ReportForm.report as report_form, Answer.report_of_json}, proofs.ReadJson.read_alike}
 use Rattle.command_words.specs.declared.{command.PointWord.PointWord, fault.WordCode.TheVariants.UnknownPoint}
-use Rattle.run_rules.specs.declared.{status.Status.{Status, TheVariants.{BadJson, BadTopology, BadWords, Done}}, answer.Answer.Answer}
+use Rattle.run_rules.specs.declared.{status.Status.{Status, TheVariants.{BadJson, BadTopology, BadWords}}, answer.Answer.Answer}
 use Rattle.run_rules.specs.{Answers.{IsAnswerAlone, Says}, Refusals.{Refusal, refused_as, refused_at, refused_word, refusal_line}}
-use Rattle.run_rules.specs.Tasks.{Task, Write, json_asked, json_programs_in, programs_value, read_report, unjson_asked}
-use Rattle.run_rules.proofs.Answered.{refused_answers, written_as}
+use Rattle.run_rules.specs.Tasks.{Task, Write, json_programs_in, programs_value}
+use Rattle.run_rules.proofs.Answered.{refused_answers}
 
 -- a refusal at a line or a place, as the answer says it
 abbrev pub SaysAt : Status → ℕ → ℕ → Answer → Type 0
