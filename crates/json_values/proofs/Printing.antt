@@ -1,12 +1,9 @@
 -- Values of JSON that are built, and what a name is as a text.
-use Rattle.std.proofs.Common.{◌≡◌, ℕ, zero, suc, ◌+◌, ◌<◌, Bool, true, cond, List, [], ◌∷◌, ◌++◌, map, Option, refl, ap, ◌∙◌, arith, IsUtf8, Result, Ok, Err}
+use Rattle.std.proofs.Common.{◌≡◌, ℕ, zero, suc, ◌+◌, ◌<◌, Bool, true, cond, List, [], ◌∷◌, ◌++◌, map, refl, ap, ◌∙◌, arith, IsUtf8, Result, Ok, Err}
 use Rattle.std.{specs.{List.{list_all, filter, range_with_len}, Str.IsAscii}, proofs.lemmas.{Bool.{and_parts, Decides.nat_tests}, List.map-append}}
 use Rattle.std.{proofs.lemmas.{List.FromFn.map-range_with_len_more, Str.IsUtf8-from_ascii}, specs.Result.{IsOk, MatchResult}}
 use Rattle.topology_text.{specs.Names.{is_name_byte, is_name}, proofs.Printed.passing_more}
-use Rattle.collective_spec.specs.Patterns.{PatternValue}
-use Rattle.topology_text.specs.Value.{NamedTopologyValue}
 use Rattle.serde_json.specs.{Data.Data, View.view, declared.value.Value.Value}
-use Rattle.json_values.specs.{TopologyForm.topology, TopologyJson.topology_json}
 
 -- ---- names
 
@@ -38,7 +35,3 @@ passed_more f p n h = ap (map f) (passing_more p n ∙ ap (λ b. filter p (range
 
 pub numbered_more : {A : Type 0} (f : ℕ → A) (n : ℕ) → map f (range_with_len 0 (n + 1)) ≡ map f (range_with_len 0 n) ++ f n ∷ []
 numbered_more f n = map-range_with_len_more f 0 n n (omega arith)
-
--- what is built where there is a pattern, and where there is none
-pub value_with : (t : NamedTopologyValue) (p : Option PatternValue) → p ≡ t.custom → (topology t.names).json (record t { custom = p }) ≡ topology_json t
-value_with t p h = ap (λ c. (topology t.names).json (record t { custom = c })) h
