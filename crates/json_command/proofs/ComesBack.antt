@@ -1,21 +1,19 @@
 -- What is written as JSON is read back as the text that it was written of.
-use Rattle.std.proofs.{Common.{◌≡◌, ℕ, ◌≤◌, nat_lt, Bool, true, false, List, [], length, None, Result, Ok, Err, sym, ap, ◌∙◌, refl, arith}, lemmas.Bool.le-ltb}
+use Rattle.std.proofs.{Common.{◌≡◌, ℕ, ◌≤◌, nat_lt, Bool, true, false, List, [], length, None, Result, Ok, Err, sym, ap, ◌∙◌, refl}, lemmas.Bool.le-ltb}
 use Rattle.text_lines.specs.Check.{◌>>=◌, refuse}
 use Rattle.topology_text.{specs.{declared.fault.TopologyCode.TopologyCode, Reading.topology_of, Value.NamedTopologyValue}, proofs.Laws.all_take}
 use Rattle.report_form.specs.{declared.fault.ReportCode.ReportCode, Answer.report_number, Reading.report_of, Reports.ReportValue}
 use Rattle.report_form.proofs.ReportTaken.{report_take}
-use Rattle.serde_json.specs.{Data.depth, Read.max_depth, Written.compact_text}
-use Rattle.json_values.{specs.{Json.printed, TopologyJson.topology_json, Answer.topology_of_json}, proofs.Built.{topology_back, topology_flat}}
+use Rattle.json_values.{specs.{Json.printed, TopologyJson.topology_json, Answer.topology_of_json}, proofs.Built.topology_back}
 use Rattle.json_rules.specs.{ReportForm.report as report_form, Answer.report_of_json, ReportJson.report_json}
-use Rattle.json_reports.proofs.Built.{report_back, report_flat}
+use Rattle.json_reports.proofs.Built.{report_back}
 use Rattle.command_words.specs.{declared.command.{Command.Command, JsonWhat.JsonWhat}, Words.command_of}
 use Rattle.command_words.specs.declared.command.Command.TheVariants as command
 use Rattle.command_words.specs.declared.command.JsonWhat.TheVariants as what
 use Rattle.run_rules.specs.{declared.status.Status.TheVariants.{BadReport, TooLong}, Commands.reads_source, Steps.whole_text}
 use Rattle.run_rules.specs.Refusals.{Refusal, refused_as, refused_at}
 use Rattle.run_rules.specs.Tasks.{Task, Write, due, json_asked, json_programs_in, limit, read_report, task_of, unjson_asked, words_asked}
-use Rattle.json_command.proofs.{Exchanged.{topology_due, topology_read_due, topology_same, report_read_due, report_same}, Fitting.{Fits, read_again, text_utf8}}
-use Rattle.json_command.proofs.{TopologyFits.topology_fits, ReportFits.report_fits}
+use Rattle.json_command.proofs.Exchanged.{topology_due, topology_read_due, topology_same, report_read_due, report_same}
 
 -- the text of what is to be written
 written_of : Result Task Refusal → List ℕ
@@ -28,12 +26,8 @@ module _ (bytes text : List ℕ) where
   topology_comes_back (Err e) is due = absurd cc
   topology_comes_back (Ok t) is due =
       let taken = all_take bytes t is in
-      let value = topology_json t in
-      let fits : Fits value = topology_fits t taken.0 in
-      let shallow : depth value ≤ max_depth = omega (arith, topology_flat t) in
-      let shown : text ≡ printed value = sym (ap written_of due) in
-      let back : topology_of_json text ≡ Ok t = topology_back t text (compact_text value) taken.0 shown (text_utf8 value fits) (read_again value fits shallow) in
-      ap topology_read_due (topology_same text ∙ back) ∙ ap (λ s. Ok (Write s)) (sym taken.1)
+      let shown : text ≡ printed (topology_json t) = sym (ap written_of due) in
+      ap topology_read_due (topology_same text ∙ ap topology_of_json shown ∙ topology_back t taken.0) ∙ ap (λ s. Ok (Write s)) (sym taken.1)
 
   report_due : Result ReportValue (ReportCode × ℕ) → Result Task Refusal
   report_due read = refused_as BadReport report_number read >>= (λ r. Ok (Write (printed ((report_form r.topology.names).json r))))
@@ -43,12 +37,8 @@ module _ (bytes text : List ℕ) where
   report_comes_back (Err e) is due = absurd cc
   report_comes_back (Ok r) is due =
       let taken = report_take bytes r is in
-      let value = report_json r in
-      let fits : Fits value = report_fits r taken.valid in
-      let shallow : depth value ≤ max_depth = omega (arith, report_flat r) in
-      let shown : text ≡ printed value = sym (ap written_of due) in
-      let back : report_of_json text ≡ Ok r = report_back r text (compact_text value) taken.valid shown (text_utf8 value fits) (read_again value fits shallow) in
-      ap report_read_due (report_same text ∙ back) ∙ ap (λ s. Ok (Write s)) (sym taken.spelled)
+      let shown : text ≡ printed (report_json r) = sym (ap written_of due) in
+      ap report_read_due (report_same text ∙ ap report_of_json shown ∙ report_back r taken.valid) ∙ ap (λ s. Ok (Write s)) (sym taken.spelled)
 
   -- programs are not written without a point
   no_programs : (read : Result ReportValue Refusal) → read >>= (λ r. json_programs_in r None) ≡ Ok (Write text) → ⊥

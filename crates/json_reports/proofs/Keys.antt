@@ -35,7 +35,11 @@ keys_same a b c x y z p q r = ap (λ k. ascending k b c) p ∙ ap (λ k. ascendi
 abbrev pub given : Bool → List ℕ → List ℕ → Members → Members
 given has key text ms = unwrap_or (option_map (λ y. put key (string y) ms) (if has then Some text else None)) ms
 
+-- the numbers and what may be left out
+abbrev pub counts_with : (k s c n : ℕ) (root : List ℕ) (rooted cuts ordered : Bool) → Members
+counts_with k s c n root rooted cuts ordered =
+    put (codes "k") (count_of k) (put (codes "steps") (count_of s) (put (codes "chunks") (count_of c) (put (codes "conflicts") (count_of n) (given rooted (codes "root") root (given cuts (codes "cuts") (codes "yes") (given ordered (codes "ordered") (codes "yes") no_members))))))
+
 -- the JSON of these numbers and of these words, with what may be left out
 abbrev pub words_with : (k s c n : ℕ) (kind root : List ℕ) (rooted cuts ordered : Bool) → Data
-words_with k s c n kind root rooted cuts ordered =
-    object (put (codes "collective") (string kind) (put (codes "k") (count_of k) (put (codes "steps") (count_of s) (put (codes "chunks") (count_of c) (put (codes "conflicts") (count_of n) (given rooted (codes "root") root (given cuts (codes "cuts") (codes "yes") (given ordered (codes "ordered") (codes "yes") no_members))))))))
+words_with k s c n kind root rooted cuts ordered = object (put (codes "collective") (string kind) (counts_with k s c n root rooted cuts ordered))

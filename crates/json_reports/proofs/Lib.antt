@@ -1,3 +1,4 @@
+pub mod OnLiterals
 pub mod ReportForm
 pub mod Built
 pub mod Short

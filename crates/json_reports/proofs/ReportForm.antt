@@ -11,12 +11,12 @@ use Rattle.candidate_order.specs.Frontiers.{PointValue, FrontierValue, QuestionV
 use Rattle.candidate_order.specs.declared.mark.Mark.TheVariants as mark
 use Rattle.topology_text.specs.{Names.AreNames, Spelling.{name_at, version_word}}
 use Rattle.report_form.specs.Reports.{WordsValue, ReportValue, IsReport, IsFrontier, IsPrintedPoint, IsJoinedPoint, HasSchedule, parts_of, question_of}
-use Rattle.report_form.specs.Spelling.{pruning_words, synth_words, point_lines, rounds_words, send_words, refuted_words, unknown_words, frontier_lines, joined_lines, report_lines}
+use Rattle.report_form.specs.Spelling.{pruning_words, synth_words, point_lines, send_words, refuted_words, unknown_words, frontier_lines, joined_lines, report_lines}
 use Rattle.list_laws.proofs.Each.{each_always}
-use Rattle.serde_json.specs.{Data.{Data, string}, Find.{as_array, get}}
+use Rattle.serde_json.{specs.{Data.{Data, string}, Find.{as_array, get}}, proofs.Views.get_member-put}
 use Rattle.json_values.specs.{Shape.{◌>>=◌, ◌⊕◌, one, headed}, Forms.{count, each, name, row_read}, TopologyForm.version, TopologyJson.topology_json}
 use Rattle.json_values.proofs.TopologyForm.{each_one, each_some, name_there, topology_form}
-use Rattle.json_reports.{specs.Candidates.{refuted, unknown}, proofs.Keys.words_with}
+use Rattle.json_reports.{specs.Candidates.{refuted, unknown}, proofs.Keys.{counts_with, words_with}}
 use Rattle.json_rules.specs.{ReportForm.{send, point, frontier, kinds, words}, ReportJson.{report_json, report_in}}
 
 -- the sends are of nodes that have a name
@@ -32,13 +32,16 @@ module _ (names : List (List ℕ)) (named : AreNames names) where
       → (point names).read ((point names).json (record { candidate = record { s = s; r = r; c = c }; schedule = record { rounds = rounds; sends = sends }; mark = m })) ≡ Some (point_lines names (record { candidate = record { s = s; r = r; c = c }; schedule = record { rounds = rounds; sends = sends }; mark = m }))
   point_of s r c rounds sends m below = by_mark m
     where
-      rest : (head : List (List ℕ)) → (Some (head ∷ []) ⊕ one (headed (codes "rounds") ((each count).read ((each count).json rounds))) ⊕ (each (send names)).read ((each (send names)).json sends)) ≡ Some (head ∷ rounds_words rounds ∷ map (send_words names) sends)
-      rest head = ap₂ (λ x y. Some (head ∷ []) ⊕ one (headed (codes "rounds") x) ⊕ y) (each_one count decimal rounds (each_always _ (λ n. refl) rounds)) (each_one (send names) (send_words names) sends (each_weaker _ _ send_found sends below))
+      counted : (each count).read ((each count).json rounds) ≡ Some (map decimal rounds)
+      counted = each_one count decimal rounds (each_always _ (λ n. refl) rounds)
+
+      sent : (each (send names)).read ((each (send names)).json sends) ≡ Some (map (send_words names) sends)
+      sent = each_one (send names) (send_words names) sends (each_weaker _ _ send_found sends below)
 
       by_mark : (m : Mark) → (point names).read ((point names).json (record { candidate = record { s = s; r = r; c = c }; schedule = record { rounds = rounds; sends = sends }; mark = m })) ≡ Some (point_lines names (record { candidate = record { s = s; r = r; c = c }; schedule = record { rounds = rounds; sends = sends }; mark = m }))
-      by_mark mark.Optimal = rest (codes "point" ∷ decimal s ∷ decimal r ∷ decimal c ∷ codes "optimal" ∷ [])
-      by_mark mark.Open = rest (codes "point" ∷ decimal s ∷ decimal r ∷ decimal c ∷ codes "open" ∷ [])
-      by_mark (mark.Joined adding) = rest (codes "point" ∷ decimal s ∷ decimal r ∷ decimal c ∷ codes "joined" ∷ decimal adding ∷ [])
+      by_mark mark.Optimal = rw (counted, sent) refl
+      by_mark mark.Open = rw (counted, sent) refl
+      by_mark (mark.Joined adding) = rw (counted, sent) refl
 
   points_found : (points : List PointValue) → AllByRecursion (SendsBelow names) points → (each (point names)).read ((each (point names)).json points) ≡ Some (flat_map (point_lines names) points)
   points_found points below = each_some (point names) (point_lines names) points (each_weaker _ _ (λ (p : PointValue). point_of p.candidate.s p.candidate.r p.candidate.c p.schedule.rounds p.schedule.sends p.mark) points below)
@@ -46,15 +49,16 @@ module _ (names : List (List ℕ)) (named : AreNames names) where
   frontier_found : (p : Part) (f : FrontierValue) → p ≢ part.Joined → AllByRecursion (SendsBelow names) f.points → (frontier names).read ((frontier names).json (p, f)) ≡ Some (frontier_lines names (p, f))
   frontier_found p f h below = by_part p h
     where
-      rest : (head : List (List ℕ)) → (Some (head ∷ []) ⊕ (each (point names)).read ((each (point names)).json f.points) ⊕ (each refuted).read ((each refuted).json f.refuted) ⊕ (each unknown).read ((each unknown).json f.unknown)) ≡ Some (head ∷ (flat_map (point_lines names) f.points ++ (map refuted_words f.refuted ++ map unknown_words f.unknown)))
-      rest head =
-          ap (λ x. Some (head ∷ []) ⊕ x ⊕ (each refuted).read ((each refuted).json f.refuted) ⊕ (each unknown).read ((each unknown).json f.unknown)) (points_found f.points below)
-          ∙ ap₂ (λ x y. Some (head ∷ []) ⊕ Some (flat_map (point_lines names) f.points) ⊕ x ⊕ y) (each_one refuted refuted_words f.refuted (each_always _ (λ x. refl) f.refuted)) (each_one unknown unknown_words f.unknown (each_always _ (λ x. refl) f.unknown))
+      none : (each refuted).read ((each refuted).json f.refuted) ≡ Some (map refuted_words f.refuted)
+      none = each_one refuted refuted_words f.refuted (each_always _ (λ x. refl) f.refuted)
+
+      open_ones : (each unknown).read ((each unknown).json f.unknown) ≡ Some (map unknown_words f.unknown)
+      open_ones = each_one unknown unknown_words f.unknown (each_always _ (λ x. refl) f.unknown)
 
       by_part : (p : Part) → p ≢ part.Joined → (frontier names).read ((frontier names).json (p, f)) ≡ Some (frontier_lines names (p, f))
-      by_part part.Whole h = rest (codes "frontier" ∷ codes "whole" ∷ [])
-      by_part part.Reduce h = rest (codes "frontier" ∷ codes "reduce" ∷ [])
-      by_part part.Gather h = rest (codes "frontier" ∷ codes "gather" ∷ [])
+      by_part part.Whole h = rw (points_found f.points below, none, open_ones) refl
+      by_part part.Reduce h = rw (points_found f.points below, none, open_ones) refl
+      by_part part.Gather h = rw (points_found f.points below, none, open_ones) refl
       by_part part.Joined h = absurd (h refl)
 
 -- ---- the words
@@ -76,31 +80,15 @@ module _ (names : List (List ℕ)) (k s c n : ℕ) (kind root : List ℕ) (is_ki
   line_of collective at_root said =
       one (headed (codes "synth") (option_map (map (λ w. codes "collective" ++ 61 ∷ w)) collective ⊕ Some ((codes "k=" ++ decimal k) ∷ []) ⊕ Some ((codes "steps=" ++ decimal s) ∷ []) ⊕ Some ((codes "chunks=" ++ decimal c) ∷ []) ⊕ Some ((codes "conflicts=" ++ decimal n) ∷ []) ⊕ at_root ⊕ Some said))
 
-  rooted_found : (said : List (List ℕ)) → line_of (kinds.read (string kind)) (option_map (map (λ w. codes "root" ++ 61 ∷ w)) (name.read (string root))) said ≡ line_of (Some (kind ∷ [])) (Some ((codes "root=" ++ root) ∷ [])) said
-  rooted_found said = ap₂ (λ x y. line_of x (option_map (map (λ w. codes "root" ++ 61 ∷ w)) y) said) is_kind is_name
-
-  unrooted_found : (said : List (List ℕ)) → line_of (kinds.read (string kind)) (Some []) said ≡ line_of (Some (kind ∷ [])) (Some []) said
-  unrooted_found said = ap (λ x. line_of x (Some []) said) is_kind
-
   members_found : (rooted cuts ordered : Bool) → (words names).read (words_with k s c n kind root rooted cuts ordered) ≡ line_of (Some (kind ∷ [])) (Some (if rooted then (codes "root=" ++ root) ∷ [] else [])) (pruning_words (record { cuts = cuts; ordered = ordered }))
-  members_found true true true = rooted_found (codes "cuts=yes" ∷ codes "ordered=yes" ∷ [])
-  members_found true true false = rooted_found (codes "cuts=yes" ∷ [])
-  members_found true false true = rooted_found (codes "ordered=yes" ∷ [])
-  members_found true false false = rooted_found []
-  members_found false true true = unrooted_found (codes "cuts=yes" ∷ codes "ordered=yes" ∷ [])
-  members_found false true false = unrooted_found (codes "cuts=yes" ∷ [])
-  members_found false false true = unrooted_found (codes "ordered=yes" ∷ [])
-  members_found false false false = unrooted_found []
-
-  kind_at : (rooted cuts ordered : Bool) → get (codes "collective") (words_with k s c n kind root rooted cuts ordered) ≡ Some (string kind)
-  kind_at true true true = refl
-  kind_at true true false = refl
-  kind_at true false true = refl
-  kind_at true false false = refl
-  kind_at false true true = refl
-  kind_at false true false = refl
-  kind_at false false true = refl
-  kind_at false false false = refl
+  members_found true true true = rw (is_kind, is_name) refl
+  members_found true true false = rw (is_kind, is_name) refl
+  members_found true false true = rw (is_kind, is_name) refl
+  members_found true false false = rw (is_kind, is_name) refl
+  members_found false true true = rw is_kind refl
+  members_found false true false = rw is_kind refl
+  members_found false false true = rw is_kind refl
+  members_found false false false = rw is_kind refl
 
 module _ (names : List (List ℕ)) (named : AreNames names) (w : WordsValue) (below : w.collective.root < length names) where
   words_found : (words names).read ((words names).json w) ≡ Some (synth_words names w ∷ [])
@@ -110,10 +98,8 @@ module _ (names : List (List ℕ)) (named : AreNames names) (w : WordsValue) (be
 
   joins_found : (get (codes "collective") ((words names).json w) >>= kinds.read) ≡ Some (word_of w.collective.kind ∷ [])
   joins_found =
-      ap (λ o. o >>= kinds.read)
-      (kind_at names w.limits.k w.limits.max_s w.limits.max_c w.limits.conflicts (word_of w.collective.kind) (name_at names w.collective.root) (kind_found w.collective.kind) (name_there names named w.collective.root below)
-      (takes_root w.collective.kind) w.limits.pruning.cuts w.limits.pruning.ordered)
-      ∙ kind_found w.collective.kind
+      let others = counts_with w.limits.k w.limits.max_s w.limits.max_c w.limits.conflicts (name_at names w.collective.root) (takes_root w.collective.kind) w.limits.pruning.cuts w.limits.pruning.ordered in
+      ap (λ o. o >>= kinds.read) (get_member-put (codes "collective") (string (word_of w.collective.kind)) others) ∙ kind_found w.collective.kind
 
 -- ---- the whole
 
@@ -151,16 +137,6 @@ joined_found names named kind.Reduce joined below only = ap (λ j. joined_read n
 joined_found names named kind.Reducescatter joined below only = ap (λ j. joined_read names false ((each (point names)).json j)) (only (λ e. cc))
 joined_found names named kind.Custom joined below only = ap (λ j. joined_read names false ((each (point names)).json j)) (only (λ e. cc))
 
--- the parts of the text, one after the other
-abbrev parts : Option (List (List ℕ)) → Option (List (List (List ℕ))) → Option (List (List (List ℕ))) → Option (List (List (List ℕ))) → Option (List (List (List ℕ))) → Option (List (List (List ℕ)))
-parts title asked topology frontiers joined = one (headed (codes "sccl") title) ⊕ asked ⊕ topology ⊕ frontiers ⊕ joined ⊕ Some ((codes "end" ∷ []) ∷ [])
-
-in_parts : (title : Option (List (List ℕ))) (asked topology frontiers joined : Option (List (List (List ℕ)))) (t : List (List ℕ)) (a b c e : List (List (List ℕ))) → title ≡ Some t → asked ≡ Some a → topology ≡ Some b → frontiers ≡ Some c → joined ≡ Some e
-    → parts title asked topology frontiers joined ≡ Some ((codes "sccl" ∷ t) ∷ (a ++ (b ++ ((c ++ e) ++ (codes "end" ∷ []) ∷ []))))
-in_parts title asked topology frontiers joined t a b c e p q r s u =
-    ap₂ (λ x y. parts x y topology frontiers joined) p q ∙ ap₂ (λ x y. parts (Some t) (Some a) x y joined) r s
-    ∙ ap (λ x. parts (Some t) (Some a) (Some b) (Some c) x) u ∙ ap (λ ls. Some ((codes "sccl" ∷ t) ∷ (a ++ (b ++ ls)))) (sym (append_assoc c e ((codes "end" ∷ []) ∷ [])))
-
 hop_within : (size chunks nodes : ℕ) → size ≡ nodes → (h : Hop) → is_hop_below chunks nodes h ≡ true → (h.from < size) × (h.to < size)
 hop_within size chunks nodes many h is =
     let ends = and_parts (nat_lt h.from nodes) (nat_lt h.to nodes) (and_parts (nat_lt h.chunk chunks) (nat_lt h.from nodes && nat_lt h.to nodes) is).1 in
@@ -184,6 +160,7 @@ report_form r valid =
     let each_part = mapped (λ p. p ≢ part.Joined) (λ x. x.0) r.frontiers (subst (AllByRecursion (λ p. p ≢ part.Joined)) (sym valid.parts) (parts_have k)) in
     let points = each_weaker _ _ (λ (x : Part × FrontierValue) (ok : IsFrontier (question_of w r.topology x.0) x.1). each_weaker _ _ (λ (p : PointValue) (h : IsPrintedPoint (question_of w r.topology x.0) p). below (question_of w r.topology x.0) valid.topology.as_many p h.has) x.1.points (recursion_from_All _ x.1.points ok.points)) r.frontiers (recursion_from_All _ r.frontiers valid.frontiers) in
     let joined = each_weaker _ _ (λ (p : PointValue) (h : IsJoinedPoint (question_of w r.topology part.Joined) p). below (question_of w r.topology part.Joined) valid.topology.as_many p h.has) r.joined (recursion_from_All _ r.joined valid.joined) in
-    in_parts _ _ _ _ _ _ _ _ _ _ (title_of names r.topology.topology.nodes r.topology.topology.groups r.topology.custom) (words_found names named w valid.words.root) (topology_form r.topology valid.topology)
-    (each_some (frontier names) (frontier_lines names) r.frontiers (frontier_each names named r.frontiers each_part points))
-    (ap (λ o. joined_read names (unwrap_or (option_map (λ ts. bytes_eq (slice_index_or ts 0 []) (codes "allreduce")) o) false) ((each (point names)).json r.joined)) (joins_found names named w valid.words.root) ∙ joined_found names named k r.joined joined valid.only_allreduce)
+    let title = title_of names r.topology.topology.nodes r.topology.topology.groups r.topology.custom in
+    let parts = each_some (frontier names) (frontier_lines names) r.frontiers (frontier_each names named r.frontiers each_part points) in
+    let points_joined = ap (λ o. joined_read names (unwrap_or (option_map (λ ts. bytes_eq (slice_index_or ts 0 []) (codes "allreduce")) o) false) ((each (point names)).json r.joined)) (joins_found names named w valid.words.root) ∙ joined_found names named k r.joined joined valid.only_allreduce in
+    rw (topology_form r.topology valid.topology, title, words_found names named w valid.words.root, parts, points_joined, append_assoc (flat_map (frontier_lines names) r.frontiers) (joined_lines names k r.joined) ((codes "end" ∷ []) ∷ [])) refl

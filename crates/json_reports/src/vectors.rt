@@ -1,4 +1,5 @@
 //! Small reports as JSON.
+#![tactic(auto, unfolding(crate::proofs::OnLiterals::report_json_on_literals))]
 
 ghost use Rattle.std.specs.Prelude.{◌≡◌, true, false, ◌∷◌, [], codes, Ok, Err};
 ghost use Rattle.report_form.specs.Rows.{broadcast_report, allreduce_report, pruned_report};

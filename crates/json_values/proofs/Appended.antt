@@ -1,8 +1,9 @@
 -- Tokens and lines that are appended one after another.
-use Rattle.std.{proofs.Common.{◌≡◌, ℕ, List, [], ◌∷◌, ◌++◌, Option, Some, None, Result, Ok, Err, ◌≤◌, ◌==◌, false, drop, length, true≢false, map, option_map, refl, ap, sym, codes, decimal, ◌+◌, ◌≢◌, suc, ◌∙◌, append_assoc}, specs.List.flat_map, proofs.lemmas.List.{append-nil, drop_all}}
+use Rattle.std.{proofs.Common.{◌≡◌, ℕ, List, [], ◌∷◌, ◌++◌, Option, Some, None, Result, Ok, Err, ◌≤◌, ◌==◌, false, drop, length, true≢false, map, option_map, refl, ap, codes, decimal, ◌+◌, ◌≢◌, suc, ◌∙◌, append_assoc}, specs.List.flat_map, proofs.lemmas.List.{append-nil, drop_all}}
 use Rattle.text_lines.{specs.{declared.stop.Stop.{Stop, TheVariants.{Memory, Refused}}, Text.{line, fields, text_of}}, proofs.Words.join_fields}
 use Rattle.serde_json.specs.{Data.{Data, Items, no_items, item}, Events.items_len, Find.{as_array, get}, View.items_view, declared.value.Value.Value}
-use Rattle.json_values.specs.{Shape.{◌>>=◌, ◌⊕◌, one, headed}, Appends.Appends, Forms.{each, each_read, name, row_read}, Pieces.tokens_in, TopologyForm.chunks_read, declared.token.Token.Token, inner.Chunks.chunks_in}
+use Rattle.json_values.proofs.Values.{nothing_behind}
+use Rattle.json_values.specs.{Shape.{◌>>=◌, one, headed}, Appends.Appends, Forms.{each_read, row_read}, Pieces.tokens_in, TopologyForm.chunks_read, declared.token.Token.Token, inner.Chunks.chunks_in}
 
 -- the bytes, and what these values stand for behind them
 abbrev pub with_rest : {A : Type 0} → (A → List ℕ) → (Data → Option (List A)) → List ℕ → List Value → Option (List ℕ)
@@ -13,9 +14,7 @@ pub lined : (old first second last word : List ℕ) (o : Option (List (List ℕ)
 lined old first second last word None a b c = absurd cc
 lined old first second last word (Some ws) a b c =
     let told : first ++ fields ws ≡ second = cc in
-    let joined : line (word ∷ ws) ≡ (word ++ fields ws) ++ 10 ∷ [] = ap (λ t. t ++ 10 ∷ []) (join_fields word ws) in
-    let begun : (old ++ (word ++ fields ws)) ≡ second = sym (append_assoc old word (fields ws)) ∙ ap (λ t. t ++ fields ws) (sym a) ∙ told in
-    ap (λ t. Some (old ++ t)) (append-nil (line (word ∷ ws)) ∙ joined) ∙ ap Some (sym (append_assoc old (word ++ fields ws) (10 ∷ []))) ∙ ap (λ t. Some (t ++ 10 ∷ [])) begun ∙ ap Some (sym c)
+    rw (c, ← told, a, join_fields) (simp append_assoc)
 
 -- the bytes, and the lines of these chunks behind them, of which the first has the number g
 abbrev pub with_chunks : ℕ → List ℕ → List Value → List Value → Option (List ℕ)
@@ -24,9 +23,7 @@ with_chunks g out before after = option_map (λ ls. out ++ text_of ls) (chunks_r
 -- a token with its key before it
 pub keyed : (r : Result (Unit {0}) (Stop (Unit {0}))) (old mid new key : List ℕ) (o : Option (List ℕ)) → mid ≡ ((old ++ 32 ∷ []) ++ key) ++ 61 ∷ [] → Appends r mid new o → Appends r old new (option_map fields (option_map (map (λ w. key ++ 61 ∷ w)) (one o)))
 keyed (Ok u) old mid new key None a h = absurd cc
-keyed (Ok u) old mid new key (Some w) a h =
-    let begun : (((old ++ 32 ∷ []) ++ key) ++ 61 ∷ []) ++ w ≡ old ++ 32 ∷ (key ++ 61 ∷ w) = append_assoc ((old ++ 32 ∷ []) ++ key) (61 ∷ []) w ∙ append_assoc (old ++ 32 ∷ []) key (61 ∷ w) ∙ append_assoc old (32 ∷ []) (key ++ 61 ∷ w) in
-    ap (λ t. Some (old ++ t)) (append-nil (32 ∷ (key ++ 61 ∷ w))) ∙ ap Some (sym begun ∙ ap (λ t. t ++ w) (sym a)) ∙ h
+keyed (Ok u) old mid new key (Some w) a h = let told = rw a at h in simp (append_assoc, append-nil {A = ℕ}) (simp append_assoc at told)
 keyed (Err Memory) old mid new key o a h = tt
 keyed (Err (Refused u)) old mid new key o a h = ap (λ x. option_map fields (option_map (map (λ w. key ++ 61 ∷ w)) (one x))) h
 
@@ -46,27 +43,17 @@ pub ahead : (r : Result (Unit {0}) (Stop (Unit {0}))) (old mid new : List ℕ) (
 ahead (Ok u) old mid new first None a h = absurd cc
 ahead (Ok u) old mid new first (Some ls) a h =
     let begun : old ++ (line first ++ []) ≡ mid = cc in
-    ap Some (sym (append_assoc old (line first) (text_of ls)) ∙ ap (λ t. (old ++ t) ++ text_of ls) (sym (append-nil (line first))) ∙ ap (λ t. t ++ text_of ls) begun) ∙ h
+    let told = rw (← begun) at h in
+    simp append_assoc (simp append_assoc at told)
 ahead (Err Memory) old mid new first lines a h = tt
 ahead (Err (Refused u)) old mid new first None a h = refl
 ahead (Err (Refused u)) old mid new first (Some ls) a h = absurd cc
-
-abbrev two : ℕ → Option (List (List ℕ)) → Option (List (List ℕ)) → Option (List (List (List ℕ))) → Option (List (List (List ℕ)))
-two g x y rest = one (headed (codes "before") (headed (decimal g) x)) ⊕ one (headed (codes "after") (headed (decimal g) y)) ⊕ rest
-
-no_rest : (g : ℕ) (x y : Option (List (List ℕ))) (rest : Option (List (List (List ℕ)))) → rest ≡ None → two g x y rest ≡ None
-no_rest g None y rest h = refl
-no_rest g (Some x) None rest h = refl
-no_rest g (Some x) (Some y) None h = refl
-no_rest g (Some x) (Some y) (Some ls) h = absurd cc
 
 pub as_many : (g : ℕ) (before after : Items) → items_len before ≢ items_len after → chunks_read g before after ≡ None
 as_many g no_items no_items h = absurd (h refl)
 as_many g no_items (item a after) h = refl
 as_many g (item b before) no_items h = refl
-as_many g (item b before) (item a after) h = no_rest g ((each name).read b) ((each name).read a) _ (as_many (g + 1) before after (λ e. h (ap suc e)))
+as_many g (item b before) (item a after) h = rw (as_many (g + 1) before after (λ e. h (ap suc e)), nothing_behind, nothing_behind) refl
 
 pub chunks_are : (d : Data) (before after : Items) → (get (codes "before") d >>= as_array) ≡ Some before → (get (codes "after") d >>= as_array) ≡ Some after → chunks_in d ≡ headed (codes "custom" ∷ decimal (items_len before) ∷ []) (chunks_read 0 before after)
-chunks_are d before after b a =
-    ap (λ x. x >>= λ before. (get (codes "after") d >>= as_array) >>= λ after. headed (codes "custom" ∷ decimal (items_len before) ∷ []) (chunks_read 0 before after)) b
-    ∙ ap (λ y. y >>= λ after. headed (codes "custom" ∷ decimal (items_len before) ∷ []) (chunks_read 0 before after)) a
+chunks_are d before after b a = rw (b, a) refl

@@ -1,3 +1,4 @@
+pub mod OnLiterals
 pub mod Appended
 pub mod Blank
 pub mod Size
@@ -7,4 +8,5 @@ pub mod Standing
 pub mod Short
 pub mod TopologyShort
 pub mod Printing
+pub mod Plain
 pub mod Built

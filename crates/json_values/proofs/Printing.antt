@@ -1,25 +1,14 @@
 -- Values of JSON that are built, and what a name is as a text.
-use Rattle.std.proofs.Common.{◌≡◌, ◌⊎◌, inl, inr, ℕ, zero, suc, ◌+◌, ◌<◌, ◌&&◌, ◌||◌, ◌==◌, Bool, true, cond, List, [], ◌∷◌, ◌++◌, map, Option, refl, ap, ◌∙◌, arith, IsUtf8, nat_le, Result, Ok, Err}
-use Rattle.std.{specs.{List.{list_all, filter, range_with_len}, Str.IsAscii}, proofs.lemmas.{Bool.{and_parts, or_cases, leb-true, eqb-true}, List.map-append}}
+use Rattle.std.proofs.Common.{◌≡◌, ℕ, zero, suc, ◌+◌, ◌<◌, Bool, true, cond, List, [], ◌∷◌, ◌++◌, map, refl, ap, ◌∙◌, arith, IsUtf8, Result, Ok, Err}
+use Rattle.std.{specs.{List.{list_all, filter, range_with_len}, Str.IsAscii}, proofs.lemmas.{Bool.{and_parts, Decides.nat_tests}, List.map-append}}
 use Rattle.std.{proofs.lemmas.{List.FromFn.map-range_with_len_more, Str.IsUtf8-from_ascii}, specs.Result.{IsOk, MatchResult}}
 use Rattle.topology_text.{specs.Names.{is_name_byte, is_name}, proofs.Printed.passing_more}
-use Rattle.collective_spec.specs.Patterns.{PatternValue}
-use Rattle.topology_text.specs.Value.{NamedTopologyValue}
 use Rattle.serde_json.specs.{Data.Data, View.view, declared.value.Value.Value}
-use Rattle.json_values.specs.{TopologyForm.topology, TopologyJson.topology_json}
 
 -- ---- names
 
 name_byte_small : (b : ℕ) → is_name_byte b ≡ true → b < 128
-name_byte_small b h = go (or_cases _ _ h)
-  where
-    go : (((nat_le 97 b && nat_le b 122) || (nat_le 48 b && nat_le b 57)) ≡ true) ⊎ ((b == 95) ≡ true) → b < 128
-    go (inr e) = omega (arith, eqb-true b 95 e)
-    go (inl e) = later (or_cases _ _ e)
-      where
-        later : ((nat_le 97 b && nat_le b 122) ≡ true) ⊎ ((nat_le 48 b && nat_le b 57) ≡ true) → b < 128
-        later (inl k) = omega (arith, leb-true b 122 (and_parts _ _ k).1)
-        later (inr k) = omega (arith, leb-true b 57 (and_parts _ _ k).1)
+name_byte_small b h = grind (arith, nat_tests)
 
 all_small : (bytes : List ℕ) → list_all is_name_byte bytes ≡ true → IsAscii bytes
 all_small [] h i = omega arith
@@ -46,7 +35,3 @@ passed_more f p n h = ap (map f) (passing_more p n ∙ ap (λ b. filter p (range
 
 pub numbered_more : {A : Type 0} (f : ℕ → A) (n : ℕ) → map f (range_with_len 0 (n + 1)) ≡ map f (range_with_len 0 n) ++ f n ∷ []
 numbered_more f n = map-range_with_len_more f 0 n n (omega arith)
-
--- what is built where there is a pattern, and where there is none
-pub value_with : (t : NamedTopologyValue) (p : Option PatternValue) → p ≡ t.custom → (topology t.names).json (record t { custom = p }) ≡ topology_json t
-value_with t p h = ap (λ c. (topology t.names).json (record t { custom = c })) h

@@ -1,10 +1,11 @@
 -- A value has no more values in it than its text has bytes.
-use Rattle.std.proofs.Common.{◌≡◌, ℕ, zero, suc, ◌+◌, ◌≤◌, Bool, true, false, List, [], ◌∷◌, length, Option, Some, None, option_map, option_and_then, Ordering, Less, Equal, Greater, refl, subst, arith, true≢false, sym, if◌then◌else◌}
+use Rattle.std.proofs.Common.{◌≡◌, ℕ, suc, ◌+◌, ◌≤◌, Bool, true, false, List, [], ◌∷◌, length, Option, Some, None, option_map, option_and_then, Ordering, Less, Equal, Greater, refl, ap, subst, ◌∙◌, arith, length-append, true≢false, sym, append-nil, if◌then◌else◌}
 use Rattle.std.specs.{Prelude.⊤, Ordering.match_ordering, Str.is_utf8}
 use Rattle.json.specs.Token.{Token, begin_object, end_object, begin_array, end_array, key, string, number, boolean, null, bad}
 use Rattle.json.specs.Lex.{Lexeme, token, comma, colon, Class, quote, backslash, operator, space, other, class, Mode, between, in_word, in_string, in_escape, lex_byte, lex, Place, fresh, after_value, after_comma, after_key, begins_colon, may_begin, may_close, if_allowed, place_token, punctuate, tokens}
-use Rattle.json.proofs.Grammar.{after_end_array-shorter, read_key-shorter}
+use Rattle.json.proofs.Unique.Spelling.{value-json_tokens_back}
 use Rattle.json.specs.Json as json
+use Rattle.json.specs.Tree as tree
 use Rattle.serde_json.specs.Data as values
 use Rattle.serde_json.specs.{Data.{Data, Members, put}, Read.{number_of, of_json, of_items, of_members, max_depth, read}}
 use Rattle.json_values.specs.{Json.value_of, Size.{size, items_size, members_size}}
@@ -85,88 +86,7 @@ mutual
 counted : (text : List ℕ) → length (tokens text) ≤ length text
 counted text = omega (arith, punctuated fresh (lex between text), lexemes between text)
 
--- ---- a value has no more values in it than it takes tokens
-
-abbrev mutual
-  weight : json.Json → ℕ
-  weight json.null = 1
-  weight (json.boolean b) = 1
-  weight (json.number s) = 1
-  weight (json.string s) = 1
-  weight (json.array js) = 1 + items_weight js
-  weight (json.object ms) = 1 + members_weight ms
-
-  items_weight : json.Items → ℕ
-  items_weight json.no_items = 0
-  items_weight (json.item j js) = weight j + items_weight js
-
-  members_weight : json.Members → ℕ
-  members_weight json.no_members = 0
-  members_weight (json.member k j ms) = weight j + members_weight ms
-
-abbrev Takes : {A : Type 0} → (A → ℕ) → ℕ → Option (A × List Token) → Type 0
-Takes f n None = ⊤
-Takes f n (Some p) = f p.0 + length p.1 ≤ n
-
-abbrev Within : {A : Type 0} → (A → ℕ) → json.Parse A → Type 0
-Within f p = (ts : List Token) → Takes f (length ts) (p ts)
-
-mapped : {A B : Type 0} (f : A → ℕ) (g : B → ℕ) (n m : ℕ) (h : A → B) → ((a : A) (r : ℕ) → f a + r ≤ n → g (h a) + r ≤ m) → (o : Option (A × List Token)) → Takes f n o → Takes g m (json.parse_map h o)
-mapped f g n m h k None x = tt
-mapped f g n m h k (Some p) x = k p.0 (length p.1) x
-
-and_more : {B : Type 0} (g : B → ℕ) (h : json.Json → B → B) → ((j : json.Json) (b : B) → g (h j b) ≡ weight j + g b) → (more : json.Parse B) → Within g more
-    → (n : ℕ) (o : Option (json.Json × List Token)) → Takes weight n o → Takes g n (option_and_then (λ q. json.parse_map (h q.0) (more q.1)) o)
-and_more g h is more within n None x = tt
-and_more g h is more within n (Some q) x = mapped g g (length q.1) n (h q.0) (λ b r y. omega (arith, is q.0 b)) _ (within q.1)
-
-more_room : {A : Type 0} (f : A → ℕ) (n m : ℕ) (o : Option (A × List Token)) → n ≤ m → Takes f n o → Takes f m o
-more_room f n m None h x = tt
-more_room f n m (Some p) h x = omega arith
-
-module _ (p : json.Parse json.Json) (within : Within weight p) where
-  item_turn : (more : json.Parse json.Items) → Within items_weight more → (ts : List Token) (o : Option (List Token)) → json.after_end_array ts ≡ o → Takes items_weight (length ts) (json.items_step p more ts o)
-  item_turn more again ts (Some r) e = omega (arith, after_end_array-shorter ts r e)
-  item_turn more again ts None e = and_more items_weight json.item (λ j b. refl) more again (length ts) (p ts) (within ts)
-
-  Within-items : (n : ℕ) → Within items_weight (json.items p n)
-  unfolding json.items
-  Within-items zero ts = tt
-  Within-items (suc n) ts = item_turn (json.items p n) (Within-items n) ts (json.after_end_array ts) refl
-
-  member_turn : (more : json.Parse json.Members) → Within members_weight more → (ts : List Token) (o : Option (Option (List ℕ) × List Token)) → json.read_key ts ≡ o
-      → Takes members_weight (length ts) (option_and_then (λ q. json.members_step p more q.0 q.1) o)
-  member_turn more again ts None e = tt
-  member_turn more again ts (Some (None, s)) e = omega (arith, read_key-shorter ts None s e)
-  member_turn more again ts (Some (Some k, s)) e =
-      more_room members_weight (length s) (length ts) _ (omega (arith, read_key-shorter ts (Some k) s e)) (and_more members_weight (json.member k) (λ j b. refl) more again (length s) (p s) (within s))
-
-  Within-members : (n : ℕ) → Within members_weight (json.members p n)
-  unfolding json.members
-  Within-members zero ts = tt
-  Within-members (suc n) ts = member_turn (json.members p n) (Within-members n) ts (json.read_key ts) refl
-
-one_level : (a : json.Parse json.Items) (o : json.Parse json.Members) → Within items_weight a → Within members_weight o → Within weight (json.value_with a o)
-one_level a o p q [] = tt
-one_level a o p q (begin_object ∷ ts) = mapped members_weight weight (length ts) (suc (length ts)) json.object (λ ms r x. omega arith) (o ts) (q ts)
-one_level a o p q (end_object ∷ ts) = tt
-one_level a o p q (begin_array ∷ ts) = mapped items_weight weight (length ts) (suc (length ts)) json.array (λ js r x. omega arith) (a ts) (p ts)
-one_level a o p q (end_array ∷ ts) = tt
-one_level a o p q (key s ∷ ts) = tt
-one_level a o p q (string s ∷ ts) = omega arith
-one_level a o p q (number s ∷ ts) = omega arith
-one_level a o p q (boolean b ∷ ts) = omega arith
-one_level a o p q (null ∷ ts) = omega arith
-one_level a o p q (bad ∷ ts) = tt
-
-Within-value : (depth : ℕ) → Within weight (json.value depth)
-unfolding json.value
-Within-value zero = one_level (λ ts. None) (λ ts. None) (λ ts. tt) (λ ts. tt)
-Within-value (suc d) =
-    one_level (λ ts. json.items (json.value d) (length ts) ts) (λ ts. json.members (json.value d) (length ts) ts)
-    (λ ts. Within-items (json.value d) (Within-value d) (length ts) ts) (λ ts. Within-members (json.value d) (Within-value d) (length ts) ts)
-
--- ---- a member whose key comes again replaces the earlier one
+-- ---- a value has no more values in it than tokens; a member whose key comes again replaces the earlier one
 
 abbrev AtMost : {A : Type 0} → (A → ℕ) → ℕ → Option A → Type 0
 AtMost f n None = ⊤
@@ -195,41 +115,38 @@ some_number None = tt
 some_number (Some n) = omega arith
 
 mutual
-  size_of_json : (j : json.Json) → AtMost size (weight j) (of_json j)
+  size_of_json : (j : json.Json) → AtMost size (length (tree.json_tokens j)) (of_json j)
   size_of_json json.null = omega arith
   size_of_json (json.boolean b) = omega arith
   size_of_json (json.number s) = of_map (λ _. 0) size 0 1 values.number (λ a x. omega arith) (number_of s) (some_number _)
   size_of_json (json.string s) = omega arith
-  size_of_json (json.array js) = of_map items_size size (items_weight js) (1 + items_weight js) values.array (λ a x. omega arith) _ (size_of_items js)
-  size_of_json (json.object ms) = of_map members_size size (members_weight ms) (1 + members_weight ms) values.object (λ a x. omega arith) _ (size_of_members ms values.no_members (members_weight ms) (omega arith))
+  size_of_json (json.array js) = of_map items_size size (length (tree.items_tokens js)) (suc (length (tree.items_tokens js))) values.array (λ a x. omega arith) _ (size_of_items js)
+  size_of_json (json.object ms) = of_map members_size size (length (tree.members_tokens ms)) (suc (length (tree.members_tokens ms))) values.object (λ a x. omega arith) _ (size_of_members ms values.no_members (length (tree.members_tokens ms)) (omega arith))
 
-  size_of_items : (js : json.Items) → AtMost items_size (items_weight js) (of_items js)
+  size_of_items : (js : json.Items) → AtMost items_size (length (tree.items_tokens js)) (of_items js)
   size_of_items json.no_items = omega arith
   size_of_items (json.item j js) =
-      of_then size items_size (weight j) (weight j + items_weight js) _
-      (λ d x. of_map items_size items_size (items_weight js) (weight j + items_weight js) (values.item d) (λ ds y. omega arith) _ (size_of_items js)) _ (size_of_json j)
+      of_then size items_size (length (tree.json_tokens j)) (length (tree.items_tokens (json.item j js))) _
+      (λ d x. of_map items_size items_size (length (tree.items_tokens js)) (length (tree.items_tokens (json.item j js))) (values.item d) (λ ds y. omega (arith, length-append (tree.json_tokens j) (tree.items_tokens js))) _ (size_of_items js)) _ (size_of_json j)
 
-  size_of_members : (ms : json.Members) (found : Members) (n : ℕ) → members_weight ms + members_size found ≤ n → AtMost members_size n (of_members ms found)
+  size_of_members : (ms : json.Members) (found : Members) (n : ℕ) → length (tree.members_tokens ms) + members_size found ≤ n → AtMost members_size n (of_members ms found)
   size_of_members json.no_members found n h = omega arith
   size_of_members (json.member name j ms) found n h =
-      of_then size members_size (weight j) n _ (λ d x. size_of_members ms (put name d found) n (omega (arith, size_put name d found))) _ (size_of_json j)
+      of_then size members_size (length (tree.json_tokens j)) n _ (λ d x. size_of_members ms (put name d found) n (omega (arith, size_put name d found, length-append (tree.json_tokens j) (tree.members_tokens ms)))) _ (size_of_json j)
 
 -- ---- the value that a text is
 
-last_within : (n : ℕ) (o : Option (json.Json × List Token)) → Takes weight n o → AtMost weight n (option_and_then (λ p. json.if_last p.0 p.1) o)
-last_within n None h = tt
-last_within n (Some (j, [])) h = omega arith
-last_within n (Some (j, t ∷ r)) h = tt
-
-of_weight : (n : ℕ) (j : json.Json) → weight j ≤ n → (o : Option Data) → AtMost size (weight j) o → AtMost size n o
-of_weight n j h None x = tt
-of_weight n j h (Some d) x = omega arith
+-- where nothing follows what was read
+last : (ts : List Token) (o : Option (json.Json × List Token)) → json.value max_depth ts ≡ o → AtMost size (length ts) (option_and_then of_json (option_and_then (λ p. json.if_last p.0 p.1) o))
+last ts None is = tt
+last ts (Some (j, t ∷ r)) is = tt
+last ts (Some (j, [])) is =
+    let spelled = value-json_tokens_back max_depth ts [] j is ∙ append-nil (tree.json_tokens j) in
+    subst (λ n. AtMost size n (of_json j)) (sym (ap length spelled)) (size_of_json j)
 
 pub size_of_read : (text : List ℕ) (d : Data) → read text ≡ Some d → size d ≤ length text
 size_of_read text d e =
-    let n = length (tokens text) in
-    let within : AtMost size n (read text) = of_then weight size n n of_json (λ j x. of_weight n j x (of_json j) (size_of_json j)) _ (last_within n _ (Within-value max_depth (tokens text))) in
-    let sized : size d ≤ n = subst (AtMost size n) e within in
+    let sized : size d ≤ length (tokens text) = subst (AtMost size (length (tokens text))) e (last (tokens text) _ refl) in
     omega (arith, counted text)
 
 if_utf8 : (b : Bool) (text : List ℕ) (d : Data) → (if b then read text else None) ≡ Some d → size d ≤ length text

@@ -5,7 +5,7 @@ use Rattle.std.proofs.lemmas.List.Elements.{recursion_from_All, All-get_or}
 use Rattle.schedule.{specs.{Links.{GroupValue, IsBelow}, Placed.{PlacementValue, holds}}, proofs.First.each_weaker}
 use Rattle.collective_spec.specs.Patterns.{PatternValue, IsPattern}
 use Rattle.topology_text.specs.{Names.{is_name, AreNames}, Value.{NamedTopologyValue, IsNamed}}
-use Rattle.topology_text.specs.Spelling.{name_at, link_word, header_words, nodes_words, group_words, holder_words, custom_lines, lines_of, head_words}
+use Rattle.topology_text.specs.Spelling.{name_at, link_word, header_words, nodes_words, group_words, holder_words, custom_lines, lines_of}
 use Rattle.serde_json.specs.{Data.{string, Items}, Events.items_len, View.items_of}
 use Rattle.json_values.specs.{Shape.{◌⊕◌, one, headed}, Forms.{Form, each, name, via}}
 use Rattle.json_values.specs.{TopologyForm.{link, group, custom, chunks_read}, TopologyJson.{topology_json, topology_in}}
@@ -63,24 +63,16 @@ module _ (names : List (List ℕ)) (named : AreNames names) where
   abbrev listed : PlacementValue → ℕ → ℕ → Items
   listed p g n = items_of (map (each (via (name_at names) name)).json (map (held p) (range_with_len g n)))
 
-  abbrev holding : ℕ → Option (List (List ℕ)) → Option (List (List ℕ)) → Option (List (List (List ℕ))) → Option (List (List (List ℕ)))
-  holding g before after rest = one (headed (codes "before") (headed (decimal g) before)) ⊕ one (headed (codes "after") (headed (decimal g) after)) ⊕ rest
-
   chunks_found : (p : PatternValue) → p.before.nodes ≤ length names → p.after.nodes ≤ length names → (g n : ℕ) → chunks_read g (listed p.before g n) (listed p.after g n) ≡ Some (flat_map (lines_of_chunk p) (range_with_len g n))
   chunks_found p before_fits after_fits g zero = refl
-  chunks_found p before_fits after_fits g (suc n) =
-      let rest = chunks_read (g + 1) (listed p.before (g + 1) n) (listed p.after (g + 1) n) in
-      ap₂ (λ x y. holding g x y rest) (holders_found p.before before_fits g) (holders_found p.after after_fits g)
-      ∙ ap (holding g (Some (map (name_at names) (held p.before g))) (Some (map (name_at names) (held p.after g)))) (chunks_found p before_fits after_fits (g + 1) n)
+  chunks_found p before_fits after_fits g (suc n) = rw (holders_found p.before before_fits g, holders_found p.after after_fits g, chunks_found p before_fits after_fits (g + 1) n) refl
 
   counted : (p : PlacementValue) (g n : ℕ) → items_len (listed p g n) ≡ n
   counted p g zero = refl
   counted p g (suc n) = ap suc (counted p (g + 1) n)
 
   custom_found : (p : PatternValue) → p.before.nodes ≤ length names → p.after.nodes ≤ length names → (custom names).read ((custom names).json p) ≡ Some (custom_lines names (Some p))
-  custom_found p before_fits after_fits =
-      ap (headed (codes "custom" ∷ decimal (items_len (listed p.before 0 p.base)) ∷ [])) (chunks_found p before_fits after_fits 0 p.base)
-      ∙ ap (λ n. Some ((codes "custom" ∷ decimal n ∷ []) ∷ flat_map (lines_of_chunk p) (range_with_len 0 p.base))) (counted p.before 0 p.base)
+  custom_found p before_fits after_fits = rw (chunks_found p before_fits after_fits 0 p.base, counted p.before 0 p.base) refl
 
   -- ---- the whole
 
@@ -92,10 +84,8 @@ module _ (names : List (List ℕ)) (named : AreNames names) where
 
   with_custom : (nodes : ℕ) (groups : List GroupValue) (p : Option PatternValue) → All (λ g. All (IsBelow (length names)) g.links) groups → IfSome p (IsPattern nodes) → length names ≡ nodes
       → topology_in (topology_json (record { names = names; topology = record { nodes = nodes; groups = groups }; custom = p })) ≡ Some (header_words p ∷ nodes_words names ∷ map (group_words names) groups ++ custom_lines names p)
-  with_custom nodes groups None below fits many = ap₂ (λ n g. Some (head_words false ∷ []) ⊕ one (headed (codes "nodes") n) ⊕ g ⊕ Some []) names_found (groups_found groups below)
-  with_custom nodes groups (Some p) below fits many =
-      ap₂ (λ n g. Some (head_words true ∷ []) ⊕ one (headed (codes "nodes") n) ⊕ g ⊕ (custom names).read ((custom names).json p)) names_found (groups_found groups below)
-      ∙ ap (λ c. Some (head_words true ∷ []) ⊕ Some (nodes_words names ∷ []) ⊕ Some (map (group_words names) groups) ⊕ c) (custom_found p (omega (arith, fits.before_nodes)) (omega (arith, fits.after_nodes)))
+  with_custom nodes groups None below fits many = rw (names_found, groups_found groups below) refl
+  with_custom nodes groups (Some p) below fits many = rw (names_found, groups_found groups below, custom_found p (omega (arith, fits.before_nodes)) (omega (arith, fits.after_nodes))) refl
 
 pub topology_form : (t : NamedTopologyValue) → IsNamed t → topology_in (topology_json t) ≡ Some (lines_of t)
 topology_form t named =

@@ -14,7 +14,7 @@ no_value bytes h = go (is_utf8 bytes) refl
     go true e = h (IsUtf8-from_is_utf8 bytes e)
     go false e = refl
 
-nothing_behind : {A : Type 0} (o : Option (List A)) → (o ⊕ None) ≡ None
+pub nothing_behind : {A : Type 0} (o : Option (List A)) → (o ⊕ None) ≡ None
 nothing_behind None = refl
 nothing_behind (Some xs) = refl
 
@@ -31,9 +31,9 @@ pair_is (x ∷ y ∷ z ∷ vs) a b h at at_too = absurd (omega arith)
 
 pub no_pair : (vs : List Value) → length vs ≢ 2 → one (option_map (join_with_byte 62) (row_read (name.read ∷ name.read ∷ []) (items_view vs))) ≡ None
 no_pair [] h = refl
-no_pair (x ∷ []) h = rw (nothing_behind (name.read (view x))) refl
+no_pair (x ∷ []) h = rw nothing_behind refl
 no_pair (x ∷ y ∷ []) h = absurd (h refl)
-no_pair (x ∷ y ∷ z ∷ vs) h = rw (nothing_behind (name.read (view y)), nothing_behind (name.read (view x))) refl
+no_pair (x ∷ y ∷ z ∷ vs) h = rw (nothing_behind, nothing_behind) refl
 
 pub none_there : (vs : List Value) → (length vs == 0) ≡ true → row_read {A = List (List ℕ)} [] (items_view vs) ≡ Some []
 none_there [] h = refl

@@ -9,7 +9,7 @@ use Rattle.json_values.specs.declared.token.Token.{Token, TheVariants.{Count, Na
 abbrev pub token_in : Token → Data → Option (List ℕ)
 token_in Count d = option_map decimal (as_number d >>= as_u64)
 token_in Name d = as_str d >>= name_of
-token_in (OneOf words) d = as_str d >>= λ w. if list_any (bytes_eq w) (map (λ x. x.now) words.now) then Some w else None
+token_in (OneOf words) d = as_str d >>= λ w. if list_any (λ x. bytes_eq w x.now) words.now then Some w else None
 
 abbrev pub tokens_in : Token → Data → Option (List (List ℕ))
 tokens_in token d = one (token_in token d)

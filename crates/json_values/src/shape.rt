@@ -47,45 +47,22 @@ pub fn says(value: &Value, key: &str, word: &str) -> bool
     }
 }
 
-/// The place behind this key, where it is the first that is due from a place on.
-fn behind_key(keys: &[(&str, bool)], from: usize, key: &str) -> Option<usize>
-    requires { from ≤ length keys.now }
-    ensures place { IfSome result (λ place. place ≤ length keys.now) }
-    ensures same { (d : Data) (ms : Members) → same_keys (due_keys (drop from keys.now)) (member key.now d ms) ≡ unwrap_or (option_map (λ place. same_keys (due_keys (drop place keys.now)) ms) result) false }
-{
-    for place in from..keys.len() {
-        let (first, due) = keys[place];
-        if due {
-            return if first == key { Some(place + 1) } else { None };
-        }
-    }
-    None
-}
-
-/// Whether no key is due.
-fn none_due(keys: &[(&str, bool)]) -> bool
-    ensures { result ≡ same_keys (due_keys keys.now) no_members }
-{
-    for (_, due) in keys {
-        if *due {
-            return false;
-        }
-    }
-    true
-}
-
 /// Whether the members have exactly those of these keys that are due.
 fn are_due(keys: &[(&str, bool)], members: &Map<String, Value>) -> bool
     ensures { result ≡ same_keys (due_keys keys.now) (members_view members.now.entries) }
 {
-    let mut next = 0;
-    for (key, _) in members.iter() {
-        match behind_key(keys, next, key.as_str()) {
-            Some(place) => next = place,
-            None => return false,
+    let mut left = members.iter();
+    for (key, due) in keys {
+        if *due {
+            let Some((name, _)) = left.next() else {
+                return false;
+            };
+            if name.as_str() != *key {
+                return false;
+            }
         }
     }
-    none_due(&keys[next..])
+    left.next().is_none()
 }
 
 /// Whether the value is an object with exactly those of these keys that are due. The keys are to be

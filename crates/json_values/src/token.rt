@@ -24,14 +24,9 @@ pub enum Token<'a> {
 
 /// Whether the text is one of these words.
 fn is_among(words: &[&str], text: &str) -> bool
-    ensures { result ≡ list_any (bytes_eq text.now) (map (λ word. word.now) words.now) }
+    ensures { result ≡ list_any (λ word. bytes_eq text.now word.now) words.now }
 {
-    for word in words {
-        if text == *word {
-            return true;
-        }
-    }
-    false
+    words.iter().any(|word| text == *word)
 }
 
 /// Appends the text that the value is, where it is one of these words.

@@ -1,15 +1,15 @@
 //! A topology as JSON.
 
-ghost use Rattle.std.specs.Prelude.{◌≡◌, ◌<◌, ◌≤◌, [], ◌∷◌, Ok, codes, map, IfOk};
+ghost use Rattle.std.specs.Prelude.{◌≡◌, ◌<◌, ◌≤◌, Ok, codes, map, if◌then◌else◌, is_some, option_map, unwrap_or, IfOk};
 ghost use Rattle.topology_text.specs.Value.{IsNamed};
-ghost use Rattle.serde_json.specs.{Data.string, View.view};
-ghost use Rattle.json_values.specs.{Json.{printed, array_of, count_of, object_of}, TopologyForm.{link as link_form, group as group_form, custom as custom_form}, TopologyJson.topology_json, inner.Holders.{held as held_by, holders_json, placement_json}};
+ghost use Rattle.serde_json.specs.{Data.{string, no_members, put}, View.{view, members_view}};
+ghost use Rattle.json_values.specs.{Json.{printed, array_of}, TopologyForm.{link as link_form, group as group_form, custom as custom_form}, TopologyJson.topology_json, inner.Holders.{held as held_by, holders_json, placement_json}};
 ghost use Rattle.json_values.specs.Answer.{topology_of_json};
 
 use crate::names::{name_text, node_text};
 use collective_spec::Pattern;
 use schedule::{Group, Placement};
-use serde_json::{Value, json};
+use serde_json::{Map, Value, json, put};
 use std::alloc::{AllocError, Global};
 use topology_text::{Name, NamedTopology};
 
@@ -102,21 +102,26 @@ fn custom_json(alloc: Global, names: &[Name], pattern: &Pattern) -> Result<Value
     json!(in alloc; {"after": after, "before": before})
 }
 
-fn plain_value(alloc: Global, groups: Value, nodes: Value) -> Result<Value, AllocError>
-    ensures { IfOk result (λ v. view v ≡ object_of ((codes "groups", view groups) ∷ (codes "nodes", view nodes) ∷ (codes "version", count_of 1) ∷ [])) }
+/// The member of the pattern, where there is one.
+fn custom_members(alloc: Global, value: &NamedTopology) -> Result<Map<String, Value>, AllocError>
+    ensures { IfOk result (λ m. members_view m.entries ≡ unwrap_or (option_map (λ p. put (codes "custom") ((custom_form value.now.names).json p) no_members) value.now.custom) no_members) }
 {
-    json!(in alloc; {"groups": groups, "nodes": nodes, "version": 1u32})
+    let mut members = Map::new(alloc);
+    if let Some(pattern) = value.custom() {
+        let custom = custom_json(alloc, value.names(), pattern)?;
+        put(&mut members, alloc, "custom", custom)?;
+    }
+    Ok(members)
 }
 
-fn patterned_value(
-    alloc: Global,
-    custom: Value,
-    groups: Value,
-    nodes: Value,
-) -> Result<Value, AllocError>
-    ensures { IfOk result (λ v. view v ≡ object_of ((codes "custom", view custom) ∷ (codes "groups", view groups) ∷ (codes "nodes", view nodes) ∷ (codes "version", count_of 2) ∷ [])) }
+/// The version of a topology's JSON.
+fn version(value: &NamedTopology) -> u32
+    ensures { result ≡ if is_some value.now.custom then 2 else 1 }
 {
-    json!(in alloc; {"custom": custom, "groups": groups, "nodes": nodes, "version": 2u32})
+    match value.custom() {
+        Some(_) => 2,
+        None => 1,
+    }
 }
 
 /// The topology as a value of JSON. An `Err` comes only where memory runs out.
@@ -124,16 +129,13 @@ pub fn topology_value(alloc: Global, value: &NamedTopology) -> Result<Value, All
     ensures json { IfOk result (λ v. view v ≡ topology_json value.now) }
     ensures limits { IsNamed value.now }
 {
-    let names = value.names();
-    let groups = groups_json(alloc, names, value.topology().groups())?;
-    let nodes = names_json(alloc, names)?;
-    match value.custom() {
-        None => plain_value(alloc, groups, nodes),
-        Some(pattern) => {
-            let custom = custom_json(alloc, names, pattern)?;
-            patterned_value(alloc, custom, groups, nodes)
-        }
-    }
+    let groups = groups_json(alloc, value.names(), value.topology().groups())?;
+    let nodes = names_json(alloc, value.names())?;
+    let mut members = custom_members(alloc, value)?;
+    put(&mut members, alloc, "groups", groups)?;
+    put(&mut members, alloc, "nodes", nodes)?;
+    put(&mut members, alloc, "version", Value::from(version(value)))?;
+    Ok(Value::Object(members))
 }
 
 /// The topology as JSON without spaces, the keys of each object ascending, with a line feed behind.

@@ -1,4 +1,5 @@
 //! Small topologies as JSON.
+#![tactic(auto, unfolding(crate::proofs::OnLiterals::topology_json_on_literals))]
 
 ghost use Rattle.std.specs.Prelude.{◌≡◌, ◌∷◌, [], codes, Ok, Err};
 ghost use Rattle.schedule.specs.Rows.{line_of_2};

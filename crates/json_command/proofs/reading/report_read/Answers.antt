@@ -1,8 +1,14 @@
-use Rattle.json_command.proofs.Exchanged.{no_report_json, report_read}
+use Rattle.std.proofs.Common.{ap, refl, ◌∙◌}
+use Rattle.json_values.specs.{declared.fault.JsonCode.TheVariants.OutOfMemory, Answer.json_number}
+use Rattle.json_rules.specs.Answer.{report_of_json}
+use Rattle.command_words.specs.declared.command.JsonWhat.TheVariants as what
+use Rattle.run_rules.{specs.{declared.status.Status.TheVariants.BadJson, Tasks.unjson_asked}, proofs.Answered.written_as}
+use Rattle.json_command.proofs.Exchanged.{refused_unless, report_read_due, report_same}
 use Rattle.json_command.proofs.reading.report_read.Goals as goal
 
 pub returns-in_ok-text-in-Ok : goal.returns-in_ok-text-in-Ok
-returns-in_ok-text-in-Ok c = report_read c.args.bytes.now c.in-Ok.report c.in_ok-text-in-Ok.text.items c.in-Ok.ensures.exact c.in_ok-text-in-Ok.ensures
+returns-in_ok-text-in-Ok c = written_as (unjson_asked what.Report c.args.bytes.now) _ _ (ap report_read_due (report_same c.args.bytes.now ∙ c.in-Ok.ensures.exact)) c.in_ok-text-in-Ok.ensures
 
 pub returns-in-Err : goal.returns-in-Err
-returns-in-Err c = no_report_json c.args.bytes.now c.in-Err.fault.code c.in-Err.fault.place c.bad_json.result c.in-Err.ensures.exact c.bad_json.ensures.code c.bad_json.ensures.says
+returns-in-Err c =
+    refused_unless (unjson_asked what.Report c.args.bytes.now) (report_of_json c.args.bytes.now) OutOfMemory c.in-Err.fault.code c.in-Err.fault.place report_read_due BadJson json_number c.bad_json.result (ap report_read_due (report_same c.args.bytes.now)) refl c.in-Err.ensures.exact c.bad_json.ensures.code c.bad_json.ensures.says
