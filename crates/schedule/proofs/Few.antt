@@ -1,13 +1,8 @@
 -- How many sends a schedule has at most, since each stands in it once.
 use Rattle.std.proofs.Common.{◌≡◌, ℕ, zero, suc, ◌+◌, ◌*◌, ◌<◌, ◌≤◌, ◌^◌, Bool, true, ◌&&◌, ◌||◌, eqb, ltb, List, length, get_or, ◌⊎◌, inl, inr, arith}
 use Rattle.std.{specs.List.{All, AllPairs}, proofs.lemmas.{Bool.{and_parts, or_cases, ltb-true, eqb-true, cases_lt}, List.Elements.All-weaker}}
-use Rattle.schedule.specs.{declared.hop.Hop.Hop, Sends.{ScheduleValue, IsSchedule, IsInRange, hop_before, is_hop_below, link_of}, Tables.IsTabled}
+use Rattle.schedule.specs.{declared.hop.Hop.Hop, Sends.{ScheduleValue, IsSchedule, IsInRange, hop_before, is_hop_below}}
 use Rattle.schedule.proofs.Joining.{IsHopBelow, hop_below}
-
--- each send has its link in a table, and their number fits 32 bits
-pub record IsNarrow (s : ScheduleValue) : Type 0 where
-  pub links : All (λ h. IsTabled (link_of h)) s.sends
-  pub few : length s.sends < 2 ^ 32
 
 -- a number for each send, in their order
 rank : Hop → ℕ
@@ -41,15 +36,11 @@ rank_from sends d below ascending (suc i) inside =
     let before : i ≤ rank (get_or sends i d) = rank_from sends d below ascending i (omega arith) in
     omega (arith, rank_rises (get_or sends i d) (get_or sends (suc i) d) (below i d (omega arith)) (below (suc i) d inside) (ascending i (suc i) d (omega arith) inside))
 
-few_sends : (s : ScheduleValue) → IsSchedule s → All (IsHopBelow 65536 16) s.sends → length s.sends < 2 ^ 32
-few_sends s is below =
+pub few_sends : (s : ScheduleValue) → IsSchedule s → IsInRange 65536 16 s → length s.sends < 2 ^ 32
+few_sends s is range =
     let d : Hop = record { chunk = 0; from = 0; to = 0; step = 0 } in
+    let below : All (IsHopBelow 65536 16) s.sends = All-weaker (λ h. is_hop_below 65536 16 h ≡ true) (IsHopBelow 65536 16) (hop_below 65536 16) s.sends range in
     elim (cases_lt 285212672 (length s.sends)) [
       | inl many ↦ absurd (omega (arith, rank_from s.sends d below is.ascending 285212672 many, rank_small (get_or s.sends 285212672 d) (below 285212672 d many) (omega (arith, is.few, (is.steps 285212672 d many).to))))
       | inr few ↦ omega (arith, few)
     ]
-
-pub narrow : (s : ScheduleValue) → IsSchedule s → IsInRange 65536 16 s → IsNarrow s
-narrow s is range =
-    let below : All (IsHopBelow 65536 16) s.sends = All-weaker (λ h. is_hop_below 65536 16 h ≡ true) (IsHopBelow 65536 16) (hop_below 65536 16) s.sends range in
-    record { links = All-weaker (IsHopBelow 65536 16) (λ h. IsTabled (link_of h)) (λ h b. (b.from, b.to)) s.sends below; few = few_sends s is below }

@@ -28,8 +28,8 @@ step_alone step all sends is k d inside =
     eqb-true _ _ (All-same (λ (h : Hop). eqb h.step step ≡ true) sends _ is (filter_passes (λ h. eqb h.step step) all) k d inside)
 
 -- no send brings nothing
-pub step_of-nil : (before : PlacementValue) (step : ℕ) → IsPlacement before → step_of [] before step ≡ before
-step_of-nil before step is =
+pub step_of_nil : (before : PlacementValue) (step : ℕ) → IsPlacement before → step_of [] before step ≡ before
+step_of_nil before step is =
     placed-alike before.chunks before.nodes (λ pair. holds before pair || false) (holds before) (λ pair c n. or-false (holds before pair)) ∙ sym is
 
 regrouped : (a b p : Bool) → (a || (b || ((p && true) || false))) ≡ (p || (a || b))

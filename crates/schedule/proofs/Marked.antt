@@ -1,5 +1,5 @@
 -- A placement by its table of cells: what it holds, and what a cell that is set adds.
-use Rattle.std.proofs.Common.{◌≡◌, ℕ, ◌+◌, ◌*◌, ◌<◌, Bool, true, false, ◌||◌, List, length, get_or, set, replicate, sym, ap, ◌∙◌, ⊎_elim, arith}
+use Rattle.std.proofs.Common.{◌≡◌, ℕ, ◌+◌, ◌*◌, ◌<◌, Bool, true, false, ◌||◌, List, length, get_or, set, replicate, sym, ap, subst, ◌∙◌, ⊎_elim, arith}
 use Rattle.std.proofs.lemmas.{Bool.{or_left, cases_Bool, and_from, eq-eqb, both_ways}, List.{get_or-set_same, get_or-set_other, get_or-replicate, get_or_read}}
 use Rattle.std.proofs.lemmas.Nat.{mul-add-lt, same_from_place}
 use Rattle.schedule.specs.{Placed.{PlacementValue, same_pair, holds, IsPlacement, empty_placement, with_pair}, Cells.marked}
@@ -8,14 +8,14 @@ use Rattle.schedule.proofs.Placing.{pair_is, placed-alike, placed-none, holds-pl
 abbrev cell : ℕ → List Bool → ℕ × ℕ → Bool
 cell nodes cells pair = get_or cells (pair.0 * nodes + pair.1) false
 
-pub placement-marked : (p : PlacementValue) (chunks nodes : ℕ) (cells : List Bool) → marked chunks nodes cells ≡ p → IsPlacement p
-placement-marked p chunks nodes cells is =
-    let P : PlacementValue → Type 0 = IsPlacement in
-    let shown : P (marked chunks nodes cells) = placement-placed chunks nodes (cell nodes cells) in
-    rw (← is) shown
+pub placement_here : (chunks nodes : ℕ) (cells : List Bool) → IsPlacement (marked chunks nodes cells)
+placement_here chunks nodes cells = placement-placed chunks nodes (cell nodes cells)
 
-pub holds-marked : (chunks nodes : ℕ) (cells : List Bool) (chunk node : ℕ) (answer : Bool) → length cells ≡ chunks * nodes → chunk < chunks → node < nodes → answer ≡ get_or cells (chunk * nodes + node) answer → answer ≡ holds (marked chunks nodes cells) (chunk, node)
-holds-marked chunks nodes cells chunk node answer size c n read =
+pub placement_marked : (p : PlacementValue) (chunks nodes : ℕ) (cells : List Bool) → marked chunks nodes cells ≡ p → IsPlacement p
+placement_marked p chunks nodes cells is = subst IsPlacement is (placement_here chunks nodes cells)
+
+pub holds_marked : (chunks nodes : ℕ) (cells : List Bool) (chunk node : ℕ) (answer : Bool) → length cells ≡ chunks * nodes → chunk < chunks → node < nodes → answer ≡ get_or cells (chunk * nodes + node) answer → answer ≡ holds (marked chunks nodes cells) (chunk, node)
+holds_marked chunks nodes cells chunk node answer size c n read =
     let inside : chunk * nodes + node < length cells = omega (arith, mul-add-lt chunk nodes node chunks c n) in
     get_or_read cells (chunk * nodes + node) answer inside read false
     ∙ sym (holds-placed chunks nodes (cell nodes cells) (chunk, node) c n)
@@ -36,12 +36,12 @@ cell-set nodes cells a pair inside n pn =
     ∙ sym (ap (λ b. b || cell nodes cells pair) other))
     (cases_Bool (same_pair a pair))
 
-pub marked-set : (chunks nodes : ℕ) (cells : List Bool) (chunk node : ℕ) → length cells ≡ chunks * nodes → chunk < chunks → node < nodes → marked chunks nodes (set cells (chunk * nodes + node) true) ≡ with_pair (marked chunks nodes cells) (chunk, node)
-marked-set chunks nodes cells chunk node size c n =
+pub marked_set : (chunks nodes : ℕ) (cells : List Bool) (chunk node : ℕ) → length cells ≡ chunks * nodes → chunk < chunks → node < nodes → marked chunks nodes (set cells (chunk * nodes + node) true) ≡ with_pair (marked chunks nodes cells) (chunk, node)
+marked_set chunks nodes cells chunk node size c n =
     placed-alike chunks nodes _ _ (λ pair pc pn.
     cell-set nodes cells (chunk, node) pair (omega (arith, mul-add-lt chunk nodes node chunks c n)) n pn
     ∙ ap (λ b. same_pair (chunk, node) pair || b) (sym (holds-placed chunks nodes (cell nodes cells) pair pc pn)))
 
-pub marked-empty : (chunks nodes : ℕ) → marked chunks nodes (replicate (chunks * nodes) false) ≡ empty_placement chunks nodes
-marked-empty chunks nodes =
+pub marked_empty : (chunks nodes : ℕ) → marked chunks nodes (replicate (chunks * nodes) false) ≡ empty_placement chunks nodes
+marked_empty chunks nodes =
     placed-none chunks nodes _ (λ pair c n. get_or-replicate (chunks * nodes) (pair.0 * nodes + pair.1) false false (omega (arith, mul-add-lt pair.0 nodes pair.1 chunks c n)))

@@ -12,5 +12,5 @@ groups_back (group ∷ groups) =
     ap (λ ls. record { links = ls; width = group.width } ∷ map reversed_group (map reversed_group groups)) (links_back group.links)
     ∙ ap (λ gs. group ∷ gs) (groups_back groups)
 
-pub reversed-reversed : (t : TopologyValue) → reversed_of (reversed_of t) ≡ t
-reversed-reversed t = ap (λ gs. record { nodes = t.nodes; groups = gs }) (groups_back t.groups)
+pub reversed_twice : (t : TopologyValue) → reversed_of (reversed_of t) ≡ t
+reversed_twice t = ap (λ gs. record { nodes = t.nodes; groups = gs }) (groups_back t.groups)

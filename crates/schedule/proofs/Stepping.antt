@@ -15,8 +15,8 @@ nodes-after pre s zero = refl
 nodes-after pre s (suc n) = nodes-after pre s n
 
 -- so a schedule stays in range
-pub range-after : (pre held : PlacementValue) (s : ScheduleValue) (n : ℕ) → IsInRange pre.chunks pre.nodes s → held ≡ after pre s n → IsInRange held.chunks held.nodes s
-range-after pre held s n range is = rw (is, chunks-after pre s n, nodes-after pre s n) range
+pub range_after : (pre held : PlacementValue) (s : ScheduleValue) (n : ℕ) → IsInRange pre.chunks pre.nodes s → held ≡ after pre s n → IsInRange held.chunks held.nodes s
+range_after pre held s n range is = rw (is, chunks-after pre s n, nodes-after pre s n) range
 
 pub after_more : (pre held next : PlacementValue) (s : ScheduleValue) (n : ℕ) → held ≡ after pre s n → next ≡ step_of s.sends held (n + 1) → next ≡ after pre s (n + 1)
 after_more pre held next s n is moved =
@@ -32,19 +32,13 @@ pub run_last_inside : (pre : PlacementValue) (s : ScheduleValue) (run : List Pla
 run_last_inside pre s run rounds is all =
     omega (arith, ap length is, ap length all, length-map-range_with_len (after pre s) 0 (length s.rounds + 1))
 
-pub run_last : (pre last : PlacementValue) (s : ScheduleValue) (run : List PlacementValue) (rounds : List ℕ) → rounds ≡ s.rounds → run ≡ run_of pre s → last ≡ get_or run (length rounds) last → last ≡ after pre s (length s.rounds)
+-- it is what is held after the last step, and has the size of the first
+pub run_last : (pre last : PlacementValue) (s : ScheduleValue) (run : List PlacementValue) (rounds : List ℕ) → rounds ≡ s.rounds → run ≡ run_of pre s → last ≡ get_or run (length rounds) last
+    → (last ≡ after pre s (length s.rounds)) × (last.chunks ≡ pre.chunks) × (last.nodes ≡ pre.nodes)
 run_last pre last s run rounds is all read =
-    read
-    ∙ (ap (λ r. get_or run (length r) last) is
-    ∙ (ap (λ r. get_or r (length s.rounds) last) all
-    ∙ get_or-map-range_with_len (after pre s) 0 (length s.rounds + 1) (length s.rounds) (length s.rounds) last (omega arith) (omega arith)))
-
--- and its size, that of the first
-pub last_chunks : (pre last : PlacementValue) (s : ScheduleValue) → last ≡ after pre s (length s.rounds) → last.chunks ≡ pre.chunks
-last_chunks pre last s is = ap (λ p. p.chunks) is ∙ chunks-after pre s (length s.rounds)
-
-pub last_nodes : (pre last : PlacementValue) (s : ScheduleValue) → last ≡ after pre s (length s.rounds) → last.nodes ≡ pre.nodes
-last_nodes pre last s is = ap (λ p. p.nodes) is ∙ nodes-after pre s (length s.rounds)
+    let n = length s.rounds in
+    let found : last ≡ after pre s n = read ∙ ap (λ r. get_or run (length r) last) is ∙ ap (λ r. get_or r n last) all ∙ get_or-map-range_with_len (after pre s) 0 (n + 1) n n last (omega arith) (omega arith) in
+    (found, ap (λ p. p.chunks) found ∙ chunks-after pre s n, ap (λ p. p.nodes) found ∙ nodes-after pre s n)
 
 -- a run goes from placement to placement
 pub placement-after : (pre : PlacementValue) (s : ScheduleValue) (n : ℕ) → IsPlacement pre → IsPlacement (after pre s n)

@@ -5,7 +5,7 @@ use Rattle.std.proofs.{lemmas.List.{Elements.{All-from_recursion, recursion_from
 use Rattle.schedule.specs.{declared.hop.Hop.Hop, Links.{GroupValue, TopologyValue, has_link, is_usable, reversed_group, reversed_of, turned}, Placed.same_pair}
 use Rattle.schedule.specs.{Sends.{ScheduleValue, IsSchedule, IsStep, link_of}, Fitting.{Fits, load, rounds_at}}
 use Rattle.schedule.specs.Inverse.{in_order, inverse_hop, inverse_of}
-use Rattle.schedule.proofs.{HopOrder.{each_in_order, in_order_permutes}, Inverting.{inverse_inverse, valid_inverse}, Reversing.reversed-reversed}
+use Rattle.schedule.proofs.{HopOrder.{each_in_order, in_order_permutes}, Inverting.{inverse_inverse, valid_inverse}, Reversing.reversed_twice}
 
 -- ---- links turned round
 
@@ -85,6 +85,6 @@ pub fits_both_ways : (t : TopologyValue) (s : ScheduleValue) → IsSchedule s �
 fits_both_ways t s valid = (
   fits_turned t s valid,
   λ fits.
-      let again : Fits (reversed_of (reversed_of t)) (inverse_of s) = subst (λ u. Fits u (inverse_of s)) (sym (reversed-reversed t)) fits in
+      let again : Fits (reversed_of (reversed_of t)) (inverse_of s) = subst (λ u. Fits u (inverse_of s)) (sym (reversed_twice t)) fits in
       subst (λ z. Fits (reversed_of t) z) (inverse_inverse s valid) (fits_turned (reversed_of t) (inverse_of s) (valid_inverse s valid) again),
 )
