@@ -1,5 +1,5 @@
-use Rattle.std.proofs.Common.{◌∙◌, sym}
-use Rattle.schedule.proofs.Joining.{step_below, step_of_nil, joins_more, idles_more, joins_all}
+use Rattle.std.proofs.Common.{◌∙◌, refl, sym, true, false}
+use Rattle.schedule.proofs.Joining.{step_below, step_of_nil, joins_more, joins_all}
 use Rattle.schedule.proofs.run.joined.Goals as goal
 use Rattle.schedule.proofs.run.joined.Goals.{then-holds, else-holds}
 
@@ -22,8 +22,8 @@ pub loop-hop-preserved : goal.loop-hop-preserved
 loop-hop-preserved c =
     let all = c.args.schedule.now.sends in
     elim c.if-holds.branch [
-      | then-holds w ↦ rw w.joined-is (joins_more all _ c.args.before.now c.loop-hop.joined _ c.args.step c.loop-hop.hop-index _ c.sends_of-hop-items.ensures.sends c.loop-hop-test.true c.loop-hop.invariant (sym c.holds.ensures.held ∙ w.if-holds.true) w.insert.ensures.inserted)
-      | else-holds w ↦ rw w.joined-is (idles_more all _ c.args.before.now c.loop-hop.joined c.args.step c.loop-hop.hop-index _ c.sends_of-hop-items.ensures.sends c.loop-hop-test.true c.loop-hop.invariant (sym c.holds.ensures.held ∙ w.if-holds.false))
+      | then-holds w ↦ rw w.joined-is (joins_more all _ c.args.before.now c.loop-hop.joined _ c.args.step c.loop-hop.hop-index _ true c.sends_of-hop-items.ensures.sends c.loop-hop-test.true c.loop-hop.invariant (sym c.holds.ensures.held ∙ w.if-holds.true) w.insert.ensures.inserted)
+      | else-holds w ↦ rw w.joined-is (joins_more all _ c.args.before.now c.loop-hop.joined _ c.args.step c.loop-hop.hop-index _ false c.sends_of-hop-items.ensures.sends c.loop-hop-test.true c.loop-hop.invariant (sym c.holds.ensures.held ∙ w.if-holds.false) refl)
     ]
 
 pub returns : goal.returns
