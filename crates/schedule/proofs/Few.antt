@@ -1,6 +1,6 @@
 -- How many sends a schedule has at most, since each stands in it once.
 use Rattle.std.proofs.Common.{◌≡◌, ℕ, zero, suc, ◌+◌, ◌*◌, ◌<◌, ◌≤◌, ◌^◌, Bool, true, ◌&&◌, ◌||◌, eqb, ltb, List, length, get_or, ◌⊎◌, inl, inr, arith}
-use Rattle.std.{specs.List.{All, AllPairs}, proofs.lemmas.{Bool.{and_parts, or_cases, ltb-true, eqb-true, cases_lt}, List.Elements.All-weaker}}
+use Rattle.std.{specs.List.{All, AllPairs}, proofs.lemmas.{Bool.{ltb-true, cases_lt}, List.Elements.All-weaker}}
 use Rattle.schedule.specs.{declared.hop.Hop.Hop, Sends.{ScheduleValue, IsSchedule, IsInRange, hop_before, is_hop_below}}
 use Rattle.schedule.proofs.Joining.{IsHopBelow, hop_below}
 
@@ -10,9 +10,7 @@ rank h = h.step * 16777216 + (h.chunk * 256 + (h.from * 16 + h.to))
 
 -- of two in order by a number first, the number is less, or the same and what follows decides
 ahead : (a b : ℕ) (rest : Bool) → (ltb a b || (eqb a b && rest)) ≡ true → (a < b) ⊎ ((a ≡ b) × (rest ≡ true))
-ahead a b rest before =
-    elim (or_cases (ltb a b) (eqb a b && rest) before)
-    [ inl less ↦ inl (ltb-true a b less) | inr same ↦ (let parts = and_parts (eqb a b) rest same in inr (eqb-true a b parts.0, parts.1)) ]
+ahead a b rest before = grind arith
 
 rank_rises : (a b : Hop) → IsHopBelow 65536 16 a → IsHopBelow 65536 16 b → hop_before a b ≡ true → rank a < rank b
 unfolding rank
@@ -32,9 +30,7 @@ rank_small h below step = omega (arith, below.chunk, below.from, below.to)
 -- the rank of a send is at least its place
 rank_from : (sends : List Hop) (d : Hop) → All (IsHopBelow 65536 16) sends → AllPairs (λ a b. hop_before a b ≡ true) sends → (i : ℕ) → i < length sends → i ≤ rank (get_or sends i d)
 rank_from sends d below ascending zero inside = omega arith
-rank_from sends d below ascending (suc i) inside =
-    let before : i ≤ rank (get_or sends i d) = rank_from sends d below ascending i (omega arith) in
-    omega (arith, rank_rises (get_or sends i d) (get_or sends (suc i) d) (below i d (omega arith)) (below (suc i) d inside) (ascending i (suc i) d (omega arith) inside))
+rank_from sends d below ascending (suc i) inside = grind (arith, rank, rank_rises, rank_from sends d below ascending i (omega arith))
 
 pub few_sends : (s : ScheduleValue) → IsSchedule s → IsInRange 65536 16 s → length s.sends < 2 ^ 32
 few_sends s is range =

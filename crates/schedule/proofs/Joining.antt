@@ -1,7 +1,7 @@
 -- A step send by send: what one more of its sends brings.
 use Rattle.std.proofs.Common.{◌≡◌, ℕ, ◌+◌, ◌<◌, ◌≤◌, Bool, true, false, ◌&&◌, ◌||◌, cond, eqb, List, [], ◌∷◌, ◌++◌, length, get_or, take, refl, sym, ap, ◌∙◌, arith}
-use Rattle.std.{specs.List.{list_any, filter}, proofs.lemmas.{Bool.{and_parts, ltb-true, eqb-true, eq-eqb}, List.{take_more, take_all, Folds.list_any-append}}}
-use Rattle.std.proofs.{lemmas.{List.Elements.{All-filter, filter_passes, All-same}, Map.Views.any-filter_same}, Math.Bool.or-false}
+use Rattle.std.{specs.List.{list_any, filter}, proofs.lemmas.{Bool.{and_parts, eq-eqb}, List.{take_more, take_all, Folds.list_any-append}}}
+use Rattle.std.proofs.{lemmas.{List.Elements.{All-filter, filter_passes, All-same}, Map.Views.any-filter_same}}
 use Rattle.schedule.specs.{declared.hop.Hop.Hop, Sends.{ScheduleValue, is_hop_below, IsInRange}, Running.{brings, step_of}}
 use Rattle.schedule.specs.Placed.{PlacementValue, same_pair, holds, IsPlacement, with_pair}
 use Rattle.schedule.proofs.Placing.{placed-alike, holds-placed}
@@ -13,10 +13,7 @@ pub record IsHopBelow (chunks nodes : ℕ) (h : Hop) : Type 0 where
   pub to : h.to < nodes
 
 pub hop_below : (chunks nodes : ℕ) (h : Hop) → is_hop_below chunks nodes h ≡ true → IsHopBelow chunks nodes h
-hop_below chunks nodes h is =
-    let outer = and_parts _ _ is in
-    let inner = and_parts _ _ outer.1 in
-    record { chunk = ltb-true h.chunk chunks outer.0; from = ltb-true h.from nodes inner.0; to = ltb-true h.to nodes inner.1 }
+hop_below chunks nodes h is = grind arith
 
 -- each send of a step is in range, and of that step
 pub step_below : (chunks nodes step : ℕ) (s : ScheduleValue) (sends : List Hop) → IsInRange chunks nodes s → sends ≡ filter (λ h. eqb h.step step) s.sends → (k : ℕ) (d : Hop) → k < length sends → IsHopBelow chunks nodes (get_or sends k d)
@@ -24,13 +21,11 @@ step_below chunks nodes step s sends range is k d inside =
     hop_below chunks nodes (get_or sends k d) (All-same (λ h. is_hop_below chunks nodes h ≡ true) sends _ is (All-filter (λ h. eqb h.step step) (λ h. is_hop_below chunks nodes h ≡ true) s.sends range) k d inside)
 
 pub step_alone : (step : ℕ) (all sends : List Hop) → sends ≡ filter (λ h. eqb h.step step) all → (k : ℕ) (d : Hop) → k < length sends → (get_or sends k d).step ≡ step
-step_alone step all sends is k d inside =
-    eqb-true _ _ (All-same (λ (h : Hop). eqb h.step step ≡ true) sends _ is (filter_passes (λ h. eqb h.step step) all) k d inside)
+step_alone step all sends is k d inside = grind (arith, All-same, filter_passes)
 
 -- no send brings nothing
 pub step_of_nil : (before : PlacementValue) (step : ℕ) → IsPlacement before → step_of [] before step ≡ before
-step_of_nil before step is =
-    placed-alike before.chunks before.nodes (λ pair. holds before pair || false) (holds before) (λ pair c n. or-false (holds before pair)) ∙ sym is
+step_of_nil before step is = grind (arith, placed-alike)
 
 one_more : (a b p held : Bool) → (a || (b || ((p && held) || false))) ≡ cond held (p || (a || b)) (a || b)
 one_more a b p held = grind arith

@@ -15,10 +15,7 @@ pub placement_marked : (p : PlacementValue) (chunks nodes : ℕ) (cells : List B
 placement_marked p chunks nodes cells is = subst IsPlacement is (placement_here chunks nodes cells)
 
 pub holds_marked : (chunks nodes : ℕ) (cells : List Bool) (chunk node : ℕ) (answer : Bool) → length cells ≡ chunks * nodes → chunk < chunks → node < nodes → answer ≡ get_or cells (chunk * nodes + node) answer → answer ≡ holds (marked chunks nodes cells) (chunk, node)
-holds_marked chunks nodes cells chunk node answer size c n read =
-    let inside : chunk * nodes + node < length cells = omega (arith, mul-add-lt chunk nodes node chunks c n) in
-    get_or_read cells (chunk * nodes + node) answer inside read false
-    ∙ sym (holds-placed chunks nodes (cell nodes cells) (chunk, node) c n)
+holds_marked chunks nodes cells chunk node answer size c n read = grind (arith, mul-add-lt, get_or_read, holds-placed)
 
 cell-set : (nodes : ℕ) (cells : List Bool) (a pair : ℕ × ℕ) → a.0 * nodes + a.1 < length cells → a.1 < nodes → pair.1 < nodes → cell nodes (set cells (a.0 * nodes + a.1) true) pair ≡ (same_pair a pair || cell nodes cells pair)
 cell-set nodes cells a pair inside n pn =

@@ -16,11 +16,7 @@ tied : (a b : ℕ) (there back : Bool) → (ltb a b || (eqb a b && there)) ≡ t
 tied a b there back first second = grind (arith, nat_tests)
 
 pub sends_one_way : OneWay hop_before
-sends_one_way a b there back =
-    let chunks = tied a.step b.step _ _ there back in
-    let froms = tied a.chunk b.chunk _ _ chunks.0 chunks.1 in
-    let tos = tied a.from b.from _ _ froms.0 froms.1 in
-    omega (arith, ltb-true a.to b.to tos.0, ltb-true b.to a.to tos.1)
+sends_one_way a b there back = grind (arith, nat_tests, tied)
 
 -- where no element fails a test, each passes it
 all_pass : {X : Type 0} (test : X → Bool) (xs : List X) → find (λ x. not (test x)) xs ≡ None → All (λ x. test x ≡ true) xs
@@ -93,28 +89,16 @@ is_within t s within =
 
 -- which part of the three comes out
 judged_solves : (t : TopologyValue) (s : ScheduleValue) (h : Option Hop) (turn pair : Option (ℕ × ℕ)) → judged t s h turn pair ≡ verdict.Solves → (h ≡ None) × (turn ≡ None) × (pair ≡ None)
-judged_solves t s (Some h) turn pair is = absurd cc
-judged_solves t s None (Some turn) pair is = absurd cc
-judged_solves t s None None (Some pair) is = absurd cc
-judged_solves t s None None None is = (refl, refl, refl)
+judged_solves t s h turn pair is = grind arith
 
 judged_no_link : (t : TopologyValue) (s : ScheduleValue) (h : Option Hop) (turn pair : Option (ℕ × ℕ)) (hop : Hop) → judged t s h turn pair ≡ verdict.NoLink hop → h ≡ Some hop
-judged_no_link t s (Some h) turn pair hop is = cc
-judged_no_link t s None (Some turn) pair hop is = absurd cc
-judged_no_link t s None None (Some pair) hop is = absurd cc
-judged_no_link t s None None None hop is = absurd cc
+judged_no_link t s h turn pair hop is = grind arith
 
 judged_overfull : (t : TopologyValue) (s : ScheduleValue) (h : Option Hop) (turn pair : Option (ℕ × ℕ)) (step group count : ℕ) → judged t s h turn pair ≡ verdict.Overfull step group count → (h ≡ None) × (turn ≡ Some (step, group)) × (count ≡ load (group_at t group) step s.sends)
-judged_overfull t s (Some h) turn pair step group count is = absurd cc
-judged_overfull t s None (Some (i, g)) pair step group count is = (refl, cc, cc)
-judged_overfull t s None None (Some pair) step group count is = absurd cc
-judged_overfull t s None None None step group count is = absurd cc
+judged_overfull t s h turn pair step group count is = grind arith
 
 judged_lacking : (t : TopologyValue) (s : ScheduleValue) (h : Option Hop) (turn pair : Option (ℕ × ℕ)) (chunk node : ℕ) → judged t s h turn pair ≡ verdict.Lacking chunk node → (h ≡ None) × (turn ≡ None) × (pair ≡ Some (chunk, node))
-judged_lacking t s (Some h) turn pair chunk node is = absurd cc
-judged_lacking t s None (Some turn) pair chunk node is = absurd cc
-judged_lacking t s None None (Some (c, n)) chunk node is = (refl, refl, cc)
-judged_lacking t s None None None chunk node is = absurd cc
+judged_lacking t s h turn pair chunk node is = grind arith
 
 fits_is : (t : TopologyValue) (s : ScheduleValue) → first_unlinked t s ≡ None → first_overfull t s ≡ None → Fits t s
 fits_is t s none within = record { usable = all_pass (linked t) s.sends none; within = within_is t s within }
