@@ -1,5 +1,5 @@
-ghost use Rattle.std.specs.Prelude.{◌≡◌, ◌<◌, IfOk};
-ghost use Rattle.schedule.specs.Placed.{PlacementValue, IsPlacement, empty_placement, holds, with_pair};
+ghost use Rattle.std.specs.Prelude.{◌≡◌, ◌*◌, ◌<◌, IfOk, length};
+ghost use Rattle.schedule.specs.{Cells.marked, Placed.{PlacementValue, IsPlacement, empty_placement, holds, with_pair}};
 
 use crate::OutOfMemory;
 use std::alloc::Global;
@@ -36,6 +36,18 @@ impl Placement {
             nodes,
             cells,
         })
+    }
+
+    /// The placement of the pairs whose cell is true, where the cells come by chunk and then by node.
+    pub fn of_cells(chunks: u16, nodes: u8, cells: Vec<bool>) -> Placement
+        requires { length cells.items ≡ chunks * nodes }
+        ensures { result ≡ marked chunks nodes cells.items }
+    {
+        Placement {
+            chunks,
+            nodes,
+            cells,
+        }
     }
 
     /// Adds a pair, which may be there already.
