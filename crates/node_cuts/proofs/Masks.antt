@@ -1,6 +1,6 @@
 -- A set of nodes as bits.
 use Rattle.std.proofs.Common.{◌≡◌, ℕ, zero, suc, ◌+◌, ◌-◌, ◌*◌, ◌/◌, ◌%◌, ◌^◌, ◌<◌, ◌≤◌, Bool, true, false, cond, ◌&&◌, [], ◌∷◌, ◌++◌, map-id, ap, sym, ◌∙◌, ⊎_elim, arith, ◌==◌, nat_lt}
-use Rattle.std.{proofs.Math.Nat.{mul-one, add-mul-div_left, add-mul-mod_self_left, div-eq_of_lt, pow-le-pow_right}, specs.List.{range_with_len, sum_by}}
+use Rattle.std.{proofs.Math.Nat.{add-mul-div_left, add-mul-mod_self_left, div-eq_of_lt, pow-le-pow_right}, specs.List.{range_with_len, sum_by}}
 use Rattle.std.proofs.lemmas.{Bool.{cases_eq, cases_lt, cond_both, lt-ltb, le-ltb}, Nat.{pow-add, pow_pos}, List.FromFn.map-range_with_len_more}
 use Rattle.std.proofs.lemmas.List.Sums.{sum_by_push}
 use Rattle.node_cuts.specs.Sides.{NodeSet, has_bit, mask_of}
@@ -45,10 +45,7 @@ bit_below n m k below =
     ap (λ v. (m + v) / 2 ^ n % 2) split ∙ ap (λ v. v % 2) (add-mul-div_left m (2 * 2 ^ d) (pow_pos n)) ∙ add-mul-mod_self_left (m / 2 ^ n) 2 (2 ^ d)
 
 bit_here : (m k : ℕ) → m < 2 ^ k → (m + 2 ^ k) / 2 ^ k % 2 ≡ 1
-bit_here m k small =
-    let one : 2 ^ k ≡ 2 ^ k * 1 = sym (mul-one (2 ^ k)) in
-    let whole : (m + 2 ^ k) / 2 ^ k ≡ m / 2 ^ k + 1 = ap (λ v. (m + v) / 2 ^ k) one ∙ add-mul-div_left m 1 (pow_pos k) in
-    ap (λ v. v % 2) (whole ∙ ap (λ v. v + 1) (div-eq_of_lt small))
+bit_here m k small = grind (arith, pow_pos)
 
 pub bit_past : (n m : ℕ) → m < 2 ^ n → m / 2 ^ n % 2 ≡ 0
 bit_past n m small = ap (λ v. v % 2) (div-eq_of_lt small)

@@ -38,9 +38,7 @@ measure_told sets t pre post u holders known measure counted same is =
 
 pub fraction_told : (sets : Sets) (t : TopologyValue) (spec : Spec) (u : NodeSet) (nodes least : ℕ) (instance : Instance) (measure : Measure) (fraction : Floor) → nodes ≡ t.nodes → least ≡ least_count (kind_in spec) t.nodes
     → instance ≡ spec_instance spec t.nodes (least_count (kind_in spec) t.nodes) → measure ≡ measure_of sets t instance.pre instance.post u → fraction ≡ record { above = measure.need; below = measure.width * least; nodes = mask_of nodes u } → fraction ≡ fraction_of sets t spec u
-fraction_told sets t spec u nodes least instance measure fraction nodes_is least_is instance_is measure_is is =
-    let told = measure_is ∙ ap (λ (i : Instance). measure_of sets t i.pre i.post u) instance_is in
-    is ∙ λ i. record { above = (told i).need; below = (told i).width * least_is i; nodes = mask_of (nodes_is i) u }
+fraction_told sets t spec u nodes least instance measure fraction nodes_is least_is instance_is measure_is is = grind arith
 
 -- ---- a table
 
