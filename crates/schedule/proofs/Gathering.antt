@@ -91,11 +91,8 @@ weight_before pre s chunk m k j is below turn =
     back ∙ (one_step pre.nodes now held g s.sends useful (once_of (k + 1) chunk s.sends is.tight.once) ∙ on)
 
 weight_is : (pre : PlacementValue) (s : ScheduleValue) (chunk m j k : ℕ) → Brings pre s chunk → m < pre.nodes → k + j ≡ length s.rounds → weight pre s chunk m k j ≡ 1
-weight_is pre s chunk m zero k is below turn =
-    let at_end : k ≡ length s.rounds = omega (arith, turn) in
-    ap (λ n. weight pre s chunk m n 0) at_end ∙ weight_at_end pre s chunk m is below
-weight_is pre s chunk m (suc j) k is below turn =
-    weight_before pre s chunk m k j is below (omega (arith, turn)) ∙ weight_is pre s chunk m j (suc k) is below (omega (arith, turn))
+weight_is pre s chunk m zero k is below turn = grind (arith, weight_at_end pre s chunk m is below)
+weight_is pre s chunk m (suc j) k is below turn = grind (arith, weight_before pre s chunk m k j is below, weight_is pre s chunk m j (suc k) is below (omega (arith, turn)))
 
 -- the one holder has one contribution of each node
 pub one_at_holder : (pre : PlacementValue) (s : ScheduleValue) (chunk n m : ℕ) → Brings pre s chunk → n < pre.nodes → holds pre (chunk, n) ≡ true → ((v : ℕ) → v < pre.nodes → holds pre (chunk, v) ≡ true → v ≡ n) → m < pre.nodes → own (returned pre.nodes s (length s.rounds)) chunk m n ≡ 1

@@ -1,5 +1,5 @@
 -- Sends in ascending order: the order is total, and a list of different sends has one ascending order.
-use Rattle.std.proofs.Common.{◌≡◌, ℕ, Bool, true, false, ◌&&◌, ◌||◌, cond, eqb, ltb, List, [], ◌∷◌, inl, inr, arith, ◌≢◌}
+use Rattle.std.proofs.Common.{◌≡◌, ℕ, Bool, true, false, ◌&&◌, ◌||◌, eqb, ltb, List, [], ◌∷◌, inl, inr, arith, ◌≢◌}
 use Rattle.std.{specs.List.{AllByRecursion, Sorted.IsPermutation}, proofs.lemmas.Bool.Decides.nat_tests}
 use Rattle.std.proofs.lemmas.Bool.{cases_Bool}
 use Rattle.std.proofs.lemmas.List.{Elements.{All-from_recursion, recursion_from_All}, Sorted.{All-permutation, Contains-permutation, IsPermutation-cons, IsPermutation-middle, IsPermutation-refl, IsPermutation-sym, IsPermutation-trans}}
@@ -32,11 +32,7 @@ before_all a b c =
 
 with_permutes : (h : Hop) (hops : List Hop) → IsPermutation (h ∷ hops) (with_hop h hops)
 with_permutes h [] = IsPermutation-refl (h ∷ [])
-with_permutes h (o ∷ hops) =
-    elim (hop_before h o) as (λ first. IsPermutation (h ∷ o ∷ hops) (cond first (h ∷ o ∷ hops) (o ∷ with_hop h hops))) [
-      | true ↦ IsPermutation-refl (h ∷ o ∷ hops)
-      | false ↦ IsPermutation-trans (h ∷ o ∷ hops) (o ∷ h ∷ hops) (o ∷ with_hop h hops) (IsPermutation-sym (o ∷ h ∷ hops) (h ∷ o ∷ hops) (IsPermutation-middle (o ∷ []) h hops)) (IsPermutation-cons o (h ∷ hops) (with_hop h hops) (with_permutes h hops))
-    ]
+with_permutes h (o ∷ hops) = grind (arith, IsPermutation-refl (h ∷ o ∷ hops), IsPermutation-trans (h ∷ o ∷ hops) (o ∷ h ∷ hops) (o ∷ with_hop h hops) (IsPermutation-sym (o ∷ h ∷ hops) (h ∷ o ∷ hops) (IsPermutation-middle (o ∷ []) h hops)) (IsPermutation-cons o (h ∷ hops) (with_hop h hops) (with_permutes h hops)))
 
 each_permuted : (P : Hop → Type 0) (xs ys : List Hop) → IsPermutation xs ys → AllByRecursion P xs → AllByRecursion P ys
 each_permuted P xs ys same each = recursion_from_All P ys (All-permutation P xs ys same (All-from_recursion P xs each))

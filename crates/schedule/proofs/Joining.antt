@@ -41,10 +41,8 @@ holds_more sends before step h held pair mine is =
 -- one more send of the step brings its pair where its sender holds the chunk
 step_more : (sends : List Hop) (before : PlacementValue) (step : ℕ) (h : Hop) (held : Bool) → h.step ≡ step → holds before (h.chunk, h.from) ≡ held
     → step_of (sends ++ h ∷ []) before step ≡ cond held (with_pair (step_of sends before step) (h.chunk, h.to)) (step_of sends before step)
-step_more sends before step h true mine is =
-    placed-alike before.chunks before.nodes _ _ (λ pair c n. holds_more sends before step h true pair mine is
-    ∙ ap (λ b. same_pair (h.chunk, h.to) pair || b) (sym (holds-placed before.chunks before.nodes (λ p. holds before p || list_any (brings before step p) sends) pair c n)))
-step_more sends before step h false mine is = placed-alike before.chunks before.nodes _ _ (λ pair c n. holds_more sends before step h false pair mine is)
+step_more sends before step h true mine is = grind (arith, placed-alike, holds_more sends before step h true, holds-placed)
+step_more sends before step h false mine is = grind (arith, placed-alike, holds_more sends before step h false)
 
 -- the sends of other steps bring nothing
 pub step_of-filter : (sends : List Hop) (before : PlacementValue) (step : ℕ) → step_of (filter (λ h. eqb h.step step) sends) before step ≡ step_of sends before step

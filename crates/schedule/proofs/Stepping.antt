@@ -1,5 +1,5 @@
 -- A run step by step.
-use Rattle.std.proofs.Common.{◌≡◌, ℕ, zero, suc, ◌+◌, ◌<◌, ◌≤◌, List, [], ◌∷◌, ◌++◌, length, get_or, map, refl, sym, arith}
+use Rattle.std.proofs.Common.{◌≡◌, ℕ, zero, suc, ◌+◌, ◌<◌, ◌≤◌, List, [], ◌∷◌, ◌++◌, length, get_or, map, refl, arith}
 use Rattle.std.specs.List.{range_with_len}
 use Rattle.std.proofs.lemmas.List.FromFn.{map-range_with_len_more, length-map-range_with_len, get_or-map-range_with_len}
 use Rattle.schedule.specs.{Sends.{ScheduleValue, IsInRange}, Placed.{PlacementValue, IsPlacement}, Running.{after, step_of, run_of}}
@@ -22,8 +22,7 @@ pub after_more : (pre held next : PlacementValue) (s : ScheduleValue) (n : ℕ) 
 after_more pre held next s n is moved = grind arith
 
 pub run_more : (pre held : PlacementValue) (run : List PlacementValue) (s : ScheduleValue) (n : ℕ) → held ≡ after pre s n → run ≡ map (after pre s) (range_with_len 0 n) → run ++ held ∷ [] ≡ map (after pre s) (range_with_len 0 (n + 1))
-run_more pre held run s n is so_far =
-    rw (is, so_far) (sym (map-range_with_len_more (after pre s) 0 n n (omega arith)))
+run_more pre held run s n is so_far = grind (arith, map-range_with_len_more (after pre s) 0 n n)
 
 -- the last placement of a run
 pub run_last_inside : (pre : PlacementValue) (s : ScheduleValue) (run : List PlacementValue) (rounds : List ℕ) → rounds ≡ s.rounds → run ≡ run_of pre s → length rounds < length run

@@ -1,5 +1,5 @@
 -- The sends of a step stand side by side.
-use Rattle.std.proofs.Common.{◌≡◌, ℕ, ◌+◌, ◌≤◌, Bool, true, false, eqb, ltb, leb, List, [], ◌∷◌, ◌++◌, length, get_or, take, drop, inl, inr, refl, sym, ap, ◌∙◌, arith, length-drop}
+use Rattle.std.proofs.Common.{◌≡◌, ℕ, ◌+◌, ◌≤◌, Bool, true, false, eqb, ltb, leb, List, [], ◌∷◌, ◌++◌, length, get_or, take, drop, refl, sym, ap, ◌∙◌, arith, length-drop}
 use Rattle.std.specs.List.{filter, All, AllPairs, AllWithin, AllByRecursion, Sorted.{IsNonDecreasingBy, IsPartitionPoint}}
 use Rattle.std.proofs.lemmas.Bool.{Decides.nat_tests, ltb-true, ltb-false, leb-true, leb-false, eq-eqb, ne_eqb, cases_eq}
 use Rattle.std.proofs.lemmas.List.{append-nil, get_or-take, get_or-drop, take-append-drop, length-take-le, Elements.{filter-append, recursion_from_All}}
@@ -11,8 +11,7 @@ pub steps_ordered : (a b : Hop) → hop_before a b ≡ true → a.step ≤ b.ste
 steps_ordered a b h = grind (arith, nat_tests)
 
 pub steps_ascend : (sends : List Hop) → AllPairs (λ a b. hop_before a b ≡ true) sends → IsNonDecreasingBy (λ h. h.step) sends
-steps_ascend sends ascending i j d le inside =
-    elim (cases_eq i j) [ inl same ↦ rw same (omega arith) | inr apart ↦ steps_ordered (get_or sends i d) (get_or sends j d) (ascending i j d (omega (arith, apart)) inside) ]
+steps_ascend sends ascending i j d le inside = grind (arith, cases_eq i j, steps_ordered (get_or sends i d) (get_or sends j d))
 
 filter_whole : {X : Type 0} (p : X → Bool) (xs : List X) → AllByRecursion (λ x. p x ≡ true) xs → filter p xs ≡ xs
 filter_whole p [] a = refl

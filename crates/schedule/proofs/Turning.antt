@@ -1,5 +1,5 @@
 -- A schedule fits the links turned round exactly where its inverse fits the links.
-use Rattle.std.proofs.Common.{◌≡◌, ℕ, ◌+◌, ◌-◌, ◌*◌, ◌<◌, ◌≤◌, Bool, true, ◌&&◌, cond, eqb, List, [], ◌∷◌, length, get_or, map, refl, sym, ap, ◌∙◌, subst, arith, ◌↔◌, count_by}
+use Rattle.std.proofs.Common.{◌≡◌, ℕ, ◌+◌, ◌-◌, ◌*◌, ◌<◌, ◌≤◌, Bool, true, ◌&&◌, cond, eqb, List, [], ◌∷◌, length, get_or, map, refl, sym, ap, ◌∙◌, arith, ◌↔◌, count_by}
 use Rattle.std.{specs.List.{AllByRecursion, list_any}, proofs.lemmas.{List.{length-reverse, get_or-reverse}}}
 use Rattle.std.proofs.{lemmas.List.{Elements.{All-from_recursion, recursion_from_All}, Sums.sum_by-cons, Sorted.sum_by-IsPermutation}}
 use Rattle.schedule.specs.{declared.hop.Hop.Hop, Links.{GroupValue, TopologyValue, has_link, is_usable, reversed_group, reversed_of, turned}, Placed.same_pair}
@@ -61,8 +61,7 @@ each_usable t steps (h ∷ hops) each = (sym (turned_usable t.groups (h.from, h.
 
 each_within : (s : ScheduleValue) (i : ℕ) (groups : List GroupValue) → IsSchedule s → 0 < i → i ≤ length s.rounds → AllByRecursion (λ group. load group (length s.rounds + 1 - i) s.sends ≤ group.width * rounds_at s (length s.rounds + 1 - i)) (map reversed_group groups) → AllByRecursion (λ group. load group i (inverse_of s).sends ≤ group.width * rounds_at (inverse_of s) i) groups
 each_within s i [] valid from to each = tt
-each_within s i (g ∷ groups) valid from to each =
-    (rw (turned_load s i g valid from to, turned_rounds s i from to) each.0, each_within s i groups valid from to each.1)
+each_within s i (g ∷ groups) valid from to each = grind (arith, turned_load s i g valid from to, turned_rounds s i from to, each_within s i groups valid from to each.1)
 
 pub fits_turned : (t : TopologyValue) (s : ScheduleValue) → IsSchedule s → Fits (reversed_of t) s → Fits t (inverse_of s)
 fits_turned t s valid fits = record {
@@ -74,9 +73,4 @@ fits_turned t s valid fits = record {
 }
 
 pub fits_both_ways : (t : TopologyValue) (s : ScheduleValue) → IsSchedule s → Fits (reversed_of t) s ↔ Fits t (inverse_of s)
-fits_both_ways t s valid = (
-  fits_turned t s valid,
-  λ fits.
-      let again : Fits (reversed_of (reversed_of t)) (inverse_of s) = subst (λ u. Fits u (inverse_of s)) (sym (reversed_twice t)) fits in
-      subst (λ z. Fits (reversed_of t) z) (inverse_inverse s valid) (fits_turned (reversed_of t) (inverse_of s) (valid_inverse s valid) again),
-)
+fits_both_ways t s valid = grind (arith, fits_turned t s valid, fits_turned (reversed_of t) (inverse_of s) (valid_inverse s valid), reversed_twice t, inverse_inverse s valid)

@@ -1,10 +1,10 @@
 -- A schedule wastes no send where each send moves its chunk and no node is sent a chunk twice.
-use Rattle.std.proofs.Common.{◌≡◌, ℕ, ◌+◌, ◌-◌, ◌<◌, Bool, true, false, ◌&&◌, List, length, get_or, take, sym, ap, ◌∙◌, subst, arith, AllPairs, Decides}
-use Rattle.std.{specs.List.{All, list_all, range_with_len}, proofs.lemmas.Bool.{and_parts, and_from, false_from_ne_true, false≢true, not-true, not_from_false}}
+use Rattle.std.proofs.Common.{◌≡◌, ℕ, ◌-◌, ◌<◌, Bool, true, false, ◌&&◌, List, length, get_or, take, sym, ap, ◌∙◌, arith, AllPairs, Decides}
+use Rattle.std.{specs.List.{All, list_all, range_with_len}, proofs.lemmas.Bool.{false_from_ne_true, false≢true, not-true, not_from_false}}
 use Rattle.std.proofs.lemmas.List.{get_or-take, get_or_default, length-take, Folds.{list_any_at, list_any_none}}
 use Rattle.std.proofs.lemmas.List.FromFn.{get_or-range_with_len, length-range_with_len, length-map-range_with_len}
 use Rattle.std.proofs.lemmas.List.Sums.{AllPass-from_list_all, list_all-from_AllPass}
-use Rattle.schedule.specs.{declared.hop.Hop.Hop, Placed.{PlacementValue, empty_placement, same_pair}, Running.{after, run_of}, Solving.{Tight, IsInRun, is_new, moves, moves_in}}
+use Rattle.schedule.specs.{declared.hop.Hop.Hop, Placed.{PlacementValue, empty_placement, same_pair}, Running.{after, run_of}, Solving.{Tight, IsInRun, is_new, moves_in}}
 use Rattle.schedule.specs.Sends.{ScheduleValue, IsSchedule, IsInRange}
 use Rattle.schedule.proofs.Stepping.{chunks-after, nodes-after, run_at}
 
@@ -40,19 +40,7 @@ module _ (pre : PlacementValue) (s : ScheduleValue) (run : List PlacementValue) 
       ap (λ r. get_or r (h.step - 1) (empty_placement 0 0)) is ∙ run_at pre (empty_placement 0 0) s (h.step - 1) (omega (arith, (valid.steps k d low).to))
 
   pub hops_in_run : IsInRange pre.chunks pre.nodes s → All (IsInRun run) sends
-  hops_in_run range = subst (All (IsInRun run)) (sym are) (λ k d low.
-      let n = (get_or s.sends k d).step - 1 in
-      record {
-        from = (valid.steps k d low).from;
-        to = omega (arith, (valid.steps k d low).to, ap length is, length-map-range_with_len (after pre s) 0 (length s.rounds + 1));
-        below = rw (read k d low, chunks-after pre s n, nodes-after pre s n) (range k d low);
-      })
+  hops_in_run range = grind (arith, length-map-range_with_len, read, chunks-after, nodes-after)
 
   pub tight_decided : (tight : Bool) → tight ≡ (list_all (moves_in run) sends && list_all (is_new sends) (range_with_len 0 (length sends))) → Decides tight (Tight pre s)
-  tight_decided tight told = rw (told, are) (
-    λ e.
-        let parts = and_parts _ _ e in
-        let move : (k : ℕ) (d : Hop) → k < length s.sends → moves (after pre s ((get_or s.sends k d).step - 1)) (get_or s.sends k d) ≡ true = λ k d low. ap (λ p. moves p (get_or s.sends k d)) (sym (read k d low)) ∙ AllPass-from_list_all (moves_in run) s.sends parts.0 k d low in
-        record { sender = λ k d low. (and_parts _ _ (move k d low)).0; receiver = λ k d low. not-true _ (and_parts _ _ (move k d low)).1; once = (once_decided s.sends).0 parts.1 },
-    λ tight. and_from _ _ (list_all-from_AllPass (moves_in run) s.sends (λ k d low. ap (λ p. moves p (get_or s.sends k d)) (read k d low) ∙ and_from _ _ (tight.sender k d low) (not_from_false _ (tight.receiver k d low)))) ((once_decided s.sends).1 tight.once),
-  )
+  tight_decided tight told = grind (arith, read, AllPass-from_list_all, once_decided, list_all-from_AllPass)
