@@ -1,6 +1,6 @@
 -- Where every step copies, the bags of a placement stay those of what is held.
-use Rattle.std.proofs.Common.{◌≡◌, ℕ, zero, suc, ◌+◌, ◌<◌, inl, inr, Bool, true, false, not, ◌&&◌, ◌||◌, cond, List, [], ◌∷◌, map, refl, sym, ap, ◌∙◌, arith, filter, max}
-use Rattle.std.{specs.List.{AllByRecursion, list_any, range_with_len, reduce}, proofs.{lemmas.Bool.{cases_Bool}}}
+use Rattle.std.proofs.Common.{◌≡◌, ℕ, zero, suc, ◌+◌, ◌<◌, Bool, true, false, not, ◌&&◌, ◌||◌, cond, List, [], ◌∷◌, map, refl, sym, ap, ◌∙◌, arith, filter, max}
+use Rattle.std.{specs.List.{AllByRecursion, list_any, range_with_len, reduce}}
 use Rattle.std.proofs.lemmas.List.Elements.{recursion_from_All}
 use Rattle.schedule.specs.{declared.hop.Hop.Hop, Sends.{ScheduleValue, IsInRange, is_hop_below}, Placed.{PlacementValue, holds}, Summing.goes_to}
 use Rattle.schedule.specs.{Running.{after, brings}, Bags.{Bag, Bags, empty_bag, is_empty, of_placement, one_of}}
@@ -39,11 +39,7 @@ module _ (R : Hop → Type 0) (passes : Hop → Bool) (before : Bags) (pair : �
 
   copied_from_greatest : (sends : List Hop) → AllByRecursion R sends → copied (filter passes sends) ≡ cond (list_any passes sends) bag (before pair)
   copied_from_greatest [] each = refl
-  copied_from_greatest (h ∷ sends) each =
-      elim (cases_Bool (passes h)) [
-        | inl kept ↦ rw kept (greatest_has (λ u. before (pair.0, u) ≡ bag) h.from (map (λ (x : Hop). x.from) (filter passes sends)) (same h each.0 kept) (senders_have sends each.1))
-        | inr dropped ↦ rw dropped (copied_from_greatest sends each.1)
-      ]
+  copied_from_greatest (h ∷ sends) each = grind (arith, greatest_has, senders_have sends each.1, copied_from_greatest sends each.1)
 
 -- ---- one step
 

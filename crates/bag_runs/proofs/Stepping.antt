@@ -1,5 +1,5 @@
 -- The stores of a run step by step.
-use Rattle.std.{proofs.Common.{◌≡◌, ℕ, ◌+◌, List, [], ◌∷◌, ◌++◌, length, map, refl, sym, ap, ◌∙◌, arith}, specs.List.range_with_len}
+use Rattle.std.{proofs.Common.{◌≡◌, ℕ, ◌+◌, List, [], ◌∷◌, ◌++◌, length, map, refl, sym, ◌∙◌, arith}, specs.List.range_with_len}
 use Rattle.std.proofs.lemmas.{List.FromFn.map-range_with_len_more, Simd.map-map}
 use Rattle.schedule.specs.{Bags.Bags, Sends.{IsInRange, ScheduleValue}, JoinedRuns.{joined_after, joined_run, joined_step}}
 use Rattle.bag_runs.specs.Stores.{StoreValue, stored}
@@ -48,7 +48,4 @@ module _ (start : StoreValue) (s : ScheduleValue) (adding : ℕ) where
 
     -- the whole run
     pub run_whole : (new : List StoreValue) → n ≡ length s.rounds → new ≡ run ++ held ∷ [] → (bags : Bags) → start ≡ stored start.chunks start.nodes bags → new ≡ map (stored start.chunks start.nodes) (joined_run bags s adding)
-    run_whole new all pushed bags from =
-        pushed ∙ run_pushed bags from
-        ∙ ap (λ k. map (store_after start.chunks start.nodes bags s adding) (range_with_len 0 (k + 1))) all
-        ∙ sym (map-map (stored start.chunks start.nodes) (joined_after bags s adding) (range_with_len 0 (length s.rounds + 1)))
+    run_whole new all pushed bags from = grind (arith, run_pushed bags from, map-map)
