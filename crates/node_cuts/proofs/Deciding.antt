@@ -52,9 +52,7 @@ of_best c r fs (Some b) some each is =
     (λ above. ap (list_any (is_above c r)) is.whole ∙ any_middle (is_above c r) is.before b is.after above)
 
 greatest_decides : (c r : ℕ) (fs : List Floor) → 0 < c → AllByRecursion Positive fs → list_any (is_above c r) fs ≡ is_above c r (first_greatest fs)
-greatest_decides c r fs some each =
-    let best = best_from [] fs None tt each refl in
-    of_best c r fs best.0 some each best.1 ∙ ap (is_above c r) (best_is fs best.0 best.1)
+greatest_decides c r fs some each = grind (arith, best_from [] fs None tt each refl, of_best c r fs, best_is fs)
 
 -- ---- the sets
 

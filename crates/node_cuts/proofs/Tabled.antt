@@ -108,8 +108,7 @@ module _ (sets : Sets) (t : TopologyValue) (spec : Spec) (c r : ℕ) (some : 0 <
   pub first_in : (v : TableValue) → IsTableOf sets t spec v → (place : ℕ) → place < length v.measures
       → ((k : ℕ) → k < place → is_over (c / v.least) r (get_or v.measures k no_measure) ≡ false) → is_over (c / v.least) r (get_or v.measures place no_measure) ≡ true
       → Some (cut_at v place (c / v.least)) ≡ first_cut_of sets t asked.pre asked.post r
-  first_in v is = subst (λ (w : TableValue). (place : ℕ) → place < length w.measures → ((k : ℕ) → k < place → is_over (c / w.least) r (get_or w.measures k no_measure) ≡ false)
-      → is_over (c / w.least) r (get_or w.measures place no_measure) ≡ true → Some (cut_at w place (c / w.least)) ≡ first_cut_of sets t asked.pre asked.post r) (sym is) first_of
+  first_in v is = grind (arith, first_of)
 
   pub none_in : (v : TableValue) → IsTableOf sets t spec v → ((k : ℕ) → k < length v.measures → is_over (c / v.least) r (get_or v.measures k no_measure) ≡ false) → None ≡ first_cut_of sets t asked.pre asked.post r
   none_in v is = subst (λ (w : TableValue). ((k : ℕ) → k < length w.measures → is_over (c / w.least) r (get_or w.measures k no_measure) ≡ false) → None ≡ first_cut_of sets t asked.pre asked.post r) (sym is) none_of
