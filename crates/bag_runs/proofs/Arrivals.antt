@@ -1,6 +1,6 @@
 -- What the sends of one step bring to a chunk of a node, and in which order.
-use Rattle.std.proofs.Common.{◌≡◌, ℕ, ◌≤◌, Bool, true, false, ◌&&◌, cond, max, List, [], ◌∷◌, map, inl, inr, refl, sym, ap, ◌∙◌, arith, filter, fold, not, nat_le}
-use Rattle.std.{specs.List.{AllByRecursion, reduce}, proofs.lemmas.Bool.{Decides.nat_tests, and_parts, cases_Bool, eqb-true}}
+use Rattle.std.proofs.Common.{◌≡◌, ℕ, ◌≤◌, Bool, true, false, ◌&&◌, cond, max, List, [], ◌∷◌, map, refl, ap, ◌∙◌, arith, filter, fold, not, nat_le}
+use Rattle.std.{specs.List.{AllByRecursion, reduce}, proofs.lemmas.Bool.{Decides.nat_tests, and_parts, eqb-true}}
 use Rattle.schedule.specs.{declared.hop.Hop.Hop, Sends.hop_before, Bags.{Bag, Bags, held_at_2, is_empty}, Summing.{goes_to, summed_step}}
 use Rattle.schedule.specs.JoinedRuns.{copied_step, joined_step, replaced}
 use Rattle.schedule.proofs.First.{InOrder, InOrder-filter, each_filter, each_passes}
@@ -10,9 +10,7 @@ use Rattle.bag_runs.{specs.Stores.{received, mode_at}, proofs.Merging.{Rises, ad
 -- two tests, one after the other
 pub filter_both : {X : Type 0} (p q r : X → Bool) → ((x : X) → (p x && q x) ≡ r x) → (xs : List X) → filter q (filter p xs) ≡ filter r xs
 filter_both p q r both [] = refl
-filter_both p q r both (x ∷ xs) =
-    rw (← both x) (elim (p x) as (λ first. filter q (cond first (x ∷ filter p xs) (filter p xs)) ≡ cond (first && q x) (x ∷ filter r xs) (filter r xs))
-    [ true ↦ ap (λ ys. cond (q x) (x ∷ ys) ys) (filter_both p q r both xs) | false ↦ filter_both p q r both xs ])
+filter_both p q r both (x ∷ xs) = grind (arith, filter_both p q r both xs)
 
 -- folds that take each element alike
 pub fold_alike : {X : Type 0} (P : X → Type 0) (f g : Bag → X → Bag) → ((bag : Bag) (x : X) → P x → f bag x ≡ g bag x) → (xs : List X) → AllByRecursion P xs → (bag : Bag) → fold f bag xs ≡ fold g bag xs
@@ -29,10 +27,7 @@ module _ (step chunk node : ℕ) where
 
   later_from : (h : Hop) → goes_to step (chunk, node) h ≡ true → (hops : List Hop) → AllByRecursion (λ o. goes_to step (chunk, node) o ≡ true) hops → AllByRecursion (λ o. hop_before h o ≡ true) hops → AllByRecursion (λ y. h.from ≤ y) (map (λ o. o.from) hops)
   later_from h is [] each order = tt
-  later_from h is (o ∷ hops) each order =
-      let own = goes_parts h is in
-      let other = goes_parts o each.0 in
-      (before_from h o (own.0 ∙ sym other.0) (own.1 ∙ sym other.1) order.0, later_from h is hops each.1 order.1)
+  later_from h is (o ∷ hops) each order = grind (arith, goes_parts, before_from, later_from h is hops each.1 order.1)
 
   rises_from : (hops : List Hop) → AllByRecursion (λ h. goes_to step (chunk, node) h ≡ true) hops → InOrder hop_before hops → Rises (map (λ h. h.from) hops)
   rises_from [] each order = tt
@@ -44,14 +39,10 @@ module _ (step chunk node : ℕ) where
 
     same_copies : (hops : List Hop) → AllByRecursion (λ h. goes_to step (chunk, node) h ≡ true) hops → (own : Bag)
         → fold (λ bag h. received mode.Copy bag (held_at_2 (bags (h.chunk, h.from)))) own hops ≡ fold (λ bag h. copied bag (held_at_2 (bags (chunk, h.from)))) own hops
-    same_copies hops each own =
-        fold_alike (λ h. goes_to step (chunk, node) h ≡ true) (λ bag h. received mode.Copy bag (held_at_2 (bags (h.chunk, h.from)))) (λ bag h. copied bag (held_at_2 (bags (chunk, h.from))))
-        (λ bag h goes. ap (λ c. copied bag (held_at_2 (bags (c, h.from)))) (goes_parts h goes).1) hops each own
+    same_copies hops each own = grind (arith, fold_alike, goes_parts)
 
     full_here : (h : Hop) → (goes_to step (chunk, node) h && full h) ≡ (goes_to step (chunk, node) h && not (is_empty (bags (h.chunk, h.from))))
-    full_here h =
-        elim (cases_Bool (goes_to step (chunk, node) h))
-        [ inl is ↦ ap (λ c. goes_to step (chunk, node) h && not (is_empty (bags (c, h.from)))) (sym (goes_parts h is).1) | inr is ↦ rw is refl ]
+    full_here h = grind (arith, goes_parts)
 
     -- takes of what goes to a chunk of a node in a step, in the order of the sends, leave the bag of the joined run after the step
     pub merges : (sends : List Hop) (adding : ℕ) → InOrder hop_before sends

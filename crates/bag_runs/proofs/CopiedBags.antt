@@ -1,8 +1,8 @@
 -- Where every step copies, the bags of a placement stay those of what is held.
-use Rattle.std.proofs.Common.{◌≡◌, ℕ, zero, suc, ◌+◌, ◌<◌, inl, inr, Bool, true, false, not, ◌&&◌, ◌||◌, cond, eqb, List, [], ◌∷◌, map, refl, sym, ap, ◌∙◌, arith, filter, max}
-use Rattle.std.{specs.List.{AllByRecursion, list_any, range_with_len, reduce}, proofs.{lemmas.Bool.{and_parts, eqb-true, cases_Bool}, Math.Bool.and_assoc}}
+use Rattle.std.proofs.Common.{◌≡◌, ℕ, zero, suc, ◌+◌, ◌<◌, Bool, true, false, not, ◌&&◌, ◌||◌, cond, List, [], ◌∷◌, map, refl, sym, ap, ◌∙◌, arith, filter, max}
+use Rattle.std.{specs.List.{AllByRecursion, list_any, range_with_len, reduce}}
 use Rattle.std.proofs.lemmas.List.Elements.{recursion_from_All}
-use Rattle.schedule.specs.{declared.hop.Hop.Hop, Sends.{ScheduleValue, IsInRange, is_hop_below}, Placed.{PlacementValue, holds, same_pair}, Summing.goes_to}
+use Rattle.schedule.specs.{declared.hop.Hop.Hop, Sends.{ScheduleValue, IsInRange, is_hop_below}, Placed.{PlacementValue, holds}, Summing.goes_to}
 use Rattle.schedule.specs.{Running.{after, brings}, Bags.{Bag, Bags, empty_bag, is_empty, of_placement, one_of}}
 use Rattle.schedule.specs.JoinedRuns.{copied_step, joined_after, replaced}
 use Rattle.schedule.proofs.{First.each_weaker, Joining.{IsHopBelow, hop_below}, Placing.{filter_alike, holds-placed}, Stepping.{chunks-after, nodes-after}}
@@ -32,20 +32,14 @@ filled_where_held held pair some = filled_or_not held.nodes some (holds held pai
 module _ (R : Hop → Type 0) (passes : Hop → Bool) (before : Bags) (pair : ℕ × ℕ) (bag : Bag) (same : (h : Hop) → R h → passes h ≡ true → before (pair.0, h.from) ≡ bag) where
   senders_have : (sends : List Hop) → AllByRecursion R sends → AllByRecursion (λ u. before (pair.0, u) ≡ bag) (map (λ (h : Hop). h.from) (filter passes sends))
   senders_have [] each = tt
-  senders_have (h ∷ sends) each =
-      let rest = senders_have sends each.1 in
-      elim (cases_Bool (passes h)) [ inl kept ↦ rw kept (same h each.0 kept, rest) | inr dropped ↦ rw dropped rest ]
+  senders_have (h ∷ sends) each = grind (arith, senders_have sends each.1)
 
   abbrev copied : List Hop → Bag
   copied hops = replaced before pair (reduce max (map (λ (x : Hop). x.from) hops))
 
   copied_from_greatest : (sends : List Hop) → AllByRecursion R sends → copied (filter passes sends) ≡ cond (list_any passes sends) bag (before pair)
   copied_from_greatest [] each = refl
-  copied_from_greatest (h ∷ sends) each =
-      elim (cases_Bool (passes h)) [
-        | inl kept ↦ rw kept (greatest_has (λ u. before (pair.0, u) ≡ bag) h.from (map (λ (x : Hop). x.from) (filter passes sends)) (same h each.0 kept) (senders_have sends each.1))
-        | inr dropped ↦ rw dropped (copied_from_greatest sends each.1)
-      ]
+  copied_from_greatest (h ∷ sends) each = grind (arith, greatest_has, senders_have sends each.1, copied_from_greatest sends each.1)
 
 -- ---- one step
 
@@ -62,19 +56,11 @@ module _ (held : PlacementValue) (bags : Bags) (step : ℕ) (pair : ℕ × ℕ) 
 
   -- a send has a bag that is not empty exactly where it brings the pair
   filled_where_brought : (h : Hop) → IsHopBelow held.chunks held.nodes h → is_filled h ≡ brings held step pair h
-  filled_where_brought h below =
-      ap (λ bag. goes_to step pair h && not (is_empty bag)) (follows (h.chunk, h.from) below.chunk below.from)
-      ∙ (ap (λ b. goes_to step pair h && b) (filled_where_held held (h.chunk, h.from) some)
-      ∙ and_assoc (eqb h.step step) (same_pair (h.chunk, h.to) pair) (holds held (h.chunk, h.from)))
+  filled_where_brought h below = grind (arith, filled_where_held)
 
   -- and then it is one contribution of node 0
   brings_one : (h : Hop) → IsHopBelow held.chunks held.nodes h → brings held step pair h ≡ true → bags (pair.0, h.from) ≡ one_of held.nodes 0
-  brings_one h below brought =
-      let ends = and_parts (same_pair (h.chunk, h.to) pair) (holds held (h.chunk, h.from)) (and_parts (eqb h.step step) _ brought).1 in
-      let of_chunk : h.chunk ≡ pair.0 = eqb-true h.chunk pair.0 (and_parts (eqb h.chunk pair.0) (eqb h.to pair.1) ends.0).0 in
-      ap (λ c. bags (c, h.from)) (sym of_chunk)
-      ∙ (follows (h.chunk, h.from) below.chunk below.from
-      ∙ ap (λ b. cond b (one_of held.nodes 0) (empty_bag held.nodes)) ends.1)
+  brings_one h below brought = grind arith
 
   copied_where_brought : (sends : List Hop) → AllByRecursion (IsHopBelow held.chunks held.nodes) sends → copied_step sends bags step pair ≡ cond (list_any (brings held step pair) sends) (one_of held.nodes 0) (bags pair)
   copied_where_brought sends each =
@@ -110,6 +96,4 @@ bags_of_held pre s (suc n) pair some in_range c v =
 -- so a bag is not empty exactly where the chunk is held
 pub filled_after : (pre : PlacementValue) (s : ScheduleValue) (n : ℕ) (pair : ℕ × ℕ) → 0 < pre.nodes → IsInRange pre.chunks pre.nodes s → pair.0 < pre.chunks → pair.1 < pre.nodes
     → not (is_empty (joined_after (of_placement pre) s 0 n pair)) ≡ holds (after pre s n) pair
-filled_after pre s n pair some in_range c v =
-    let nodes : (after pre s n).nodes ≡ pre.nodes = nodes-after pre s n in
-    ap (λ bag. not (is_empty bag)) (bags_of_held pre s n pair some in_range c v) ∙ filled_where_held (after pre s n) pair (omega (arith, some, nodes))
+filled_after pre s n pair some in_range c v = grind (arith, nodes-after, bags_of_held, filled_where_held)

@@ -1,6 +1,6 @@
 -- Steps of joined runs: one that adds, one that copies, and what the greatest of its senders has.
-use Rattle.std.proofs.Common.{◌≡◌, ℕ, zero, suc, ◌+◌, ◌<◌, ◌≤◌, ◌⊎◌, inl, inr, cond, List, [], ◌∷◌, refl, sym, ap, ◌∙◌, subst, arith, fold, max}
-use Rattle.std.{specs.List.{AllByRecursion, reduce}, proofs.lemmas.Bool.{le-leb, lt-leb}}
+use Rattle.std.proofs.Common.{◌≡◌, ℕ, zero, suc, ◌+◌, ◌<◌, ◌≤◌, ◌⊎◌, List, [], ◌∷◌, refl, arith, fold, max}
+use Rattle.std.{specs.List.{AllByRecursion, reduce}}
 use Rattle.schedule.specs.{Sends.ScheduleValue, Bags.{Bag, Bags}, Summing.summed_step, JoinedRuns.{copied_step, joined_after, replaced}}
 use Rattle.bag_runs.specs.Throughout.{AddsThroughout}
 
@@ -8,21 +8,16 @@ use Rattle.bag_runs.specs.Throughout.{AddsThroughout}
 
 -- one of the first so many steps adds
 pub step_adds : (start : Bags) (s : ScheduleValue) (adding n : ℕ) → n + 1 ≤ adding → joined_after start s adding (suc n) ≡ summed_step s.sends (joined_after start s adding n) (n + 1)
-step_adds start s adding n small =
-    let before : Bags = joined_after start s adding n in
-    ap (λ b. cond {A = Bags} b (summed_step s.sends before (n + 1)) (copied_step s.sends before (n + 1))) (le-leb (n + 1) adding small)
+step_adds start s adding n small = grind arith
 
 -- and a later one copies
 pub step_copies : (start : Bags) (s : ScheduleValue) (adding n : ℕ) → adding < n + 1 → joined_after start s adding (suc n) ≡ copied_step s.sends (joined_after start s adding n) (n + 1)
-step_copies start s adding n past =
-    let before : Bags = joined_after start s adding n in
-    ap (λ b. cond {A = Bags} b (summed_step s.sends before (n + 1)) (copied_step s.sends before (n + 1))) (lt-leb (n + 1) adding past)
+step_copies start s adding n past = grind arith
 
 -- as far as steps add, the bags are those of the sum
 pub adding_throughout : AddsThroughout
 adding_throughout start s adding zero small = refl
-adding_throughout start s adding (suc n) small =
-    step_adds start s adding n (omega (arith, small)) ∙ ap (λ bags. summed_step s.sends bags (n + 1)) (adding_throughout start s adding n (omega (arith, small)))
+adding_throughout start s adding (suc n) small = grind (arith, step_adds, adding_throughout start s adding n (omega (arith, small)))
 
 -- ---- the greatest sender
 
@@ -32,8 +27,7 @@ one_of_two a b = grind arith
 -- what holds of each number holds of the greatest
 pub greatest_has : (P : ℕ → Type 0) (x : ℕ) (xs : List ℕ) → P x → AllByRecursion P xs → P (fold max x xs)
 greatest_has P x [] it each = it
-greatest_has P x (y ∷ xs) it each =
-    greatest_has P (max x y) xs (elim (one_of_two x y) [ inl left ↦ subst P (sym left) it | inr right ↦ subst P (sym right) each.0 ]) each.1
+greatest_has P x (y ∷ xs) it each = grind (arith, one_of_two, greatest_has P (max x y) xs)
 
 -- where each sender has the same bag, and the pair has it where there is none, that bag comes to the pair
 pub replaced_has : (before : Bags) (pair : ℕ × ℕ) (bag : Bag) (senders : List ℕ) → AllByRecursion (λ u. before (pair.0, u) ≡ bag) senders → (senders ≡ [] → before pair ≡ bag)

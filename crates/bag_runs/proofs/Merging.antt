@@ -1,5 +1,5 @@
 -- Takes of one step, one after the other, on bags with counts held at 2: what they add, and what they copy.
-use Rattle.std.proofs.Common.{◌≡◌, ℕ, zero, suc, ◌+◌, ◌≤◌, Bool, true, false, ◌&&◌, cond, eqb, min, max, List, [], ◌∷◌, map, refl, sym, ap, ◌∙◌, arith, filter, fold, not}
+use Rattle.std.proofs.Common.{◌≡◌, ℕ, zero, suc, ◌+◌, ◌≤◌, Bool, ◌&&◌, cond, eqb, min, max, List, [], ◌∷◌, map, refl, sym, ap, ◌∙◌, arith, filter, fold, not}
 use Rattle.std.specs.List.{AllByRecursion, reduce}
 use Rattle.schedule.specs.{declared.hop.Hop.Hop, Bags.{Bag, Bags, added, held_at_2, is_empty}, JoinedRuns.replaced}
 
@@ -27,9 +27,7 @@ held_empty (x ∷ a) = ap (λ t. t && is_empty (held_at_2 a)) (min_none x) ∙ a
 pub adds_held : (bags : Bags) (hops : List Hop) (own : Bag)
     → fold (λ bag h. held_at_2 (added bag (held_at_2 (bags (h.chunk, h.from))))) (held_at_2 own) hops ≡ held_at_2 (fold added own (map (λ h. bags (h.chunk, h.from)) hops))
 adds_held bags [] own = refl
-adds_held bags (h ∷ hops) own =
-    ap (λ bag. fold (λ bag h. held_at_2 (added bag (held_at_2 (bags (h.chunk, h.from))))) bag hops) (held_added own (bags (h.chunk, h.from)))
-    ∙ adds_held bags hops (added own (bags (h.chunk, h.from)))
+adds_held bags (h ∷ hops) own = grind (arith, held_added, adds_held bags hops)
 
 -- ---- copying
 
@@ -48,16 +46,7 @@ is_full bags h = not (is_empty (bags h.from))
 copies_last : (bags : ℕ → Bag) (hops : List Hop) (own : Bag)
     → fold (λ bag h. copied bag (held_at_2 (bags h.from))) own hops ≡ last_of (λ from. held_at_2 (bags from)) own (map (λ h. h.from) (filter (is_full bags) hops))
 copies_last bags [] own = refl
-copies_last bags (h ∷ hops) own =
-    ap (λ t. fold (λ bag h. copied bag (held_at_2 (bags h.from))) (cond t own (held_at_2 (bags h.from))) hops) (held_empty (bags h.from))
-    ∙ go (is_empty (bags h.from)) (λ bag. copies_last bags hops bag)
-  where
-    go : (none : Bool)
-        → ((bag : Bag) → fold (λ bag h. copied bag (held_at_2 (bags h.from))) bag hops ≡ last_of (λ from. held_at_2 (bags from)) bag (map (λ h. h.from) (filter (is_full bags) hops)))
-        → fold (λ bag h. copied bag (held_at_2 (bags h.from))) (cond none own (held_at_2 (bags h.from))) hops
-        ≡ last_of (λ from. held_at_2 (bags from)) own (map (λ h. h.from) (cond (not none) (h ∷ filter (is_full bags) hops) (filter (is_full bags) hops)))
-    go true later = later own
-    go false later = later (held_at_2 (bags h.from))
+copies_last bags (h ∷ hops) own = grind (arith, held_empty, copies_last bags hops)
 
 -- each is at most those after it
 abbrev pub Rises : List ℕ → Type 0

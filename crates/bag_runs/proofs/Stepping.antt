@@ -1,5 +1,5 @@
 -- The stores of a run step by step.
-use Rattle.std.{proofs.Common.{◌≡◌, ℕ, suc, ◌+◌, List, [], ◌∷◌, ◌++◌, length, map, refl, sym, ap, ◌∙◌, arith}, specs.List.range_with_len}
+use Rattle.std.{proofs.Common.{◌≡◌, ℕ, ◌+◌, List, [], ◌∷◌, ◌++◌, length, map, refl, sym, ◌∙◌, arith}, specs.List.range_with_len}
 use Rattle.std.proofs.lemmas.{List.FromFn.map-range_with_len_more, Simd.map-map}
 use Rattle.schedule.specs.{Bags.Bags, Sends.{IsInRange, ScheduleValue}, JoinedRuns.{joined_after, joined_run, joined_step}}
 use Rattle.bag_runs.specs.Stores.{StoreValue, stored}
@@ -25,11 +25,7 @@ IsNext s adding step before after = (bags : Bags) → before ≡ stored before.c
 
 module _ (start : StoreValue) (s : ScheduleValue) (adding : ℕ) where
   pub after_none : (held : StoreValue) → held ≡ start → IsAfter start s adding held 0
-  after_none held is = record {
-    chunks = ap (λ x. x.chunks) is;
-    nodes = ap (λ x. x.nodes) is;
-    held_is = λ bags from. is ∙ from;
-  }
+  after_none held is = grind arith
 
   pub come_none : (held : StoreValue) → held ≡ start → HasCome start s adding held [] 0
   come_none held is = record { after = after_none held is; run_is = λ bags from. refl }
@@ -39,14 +35,7 @@ module _ (start : StoreValue) (s : ScheduleValue) (adding : ℕ) where
     range_kept range = rw (after.chunks, after.nodes) range
 
     pub after_more : IsNext s adding (n + 1) held next → next.chunks ≡ held.chunks → next.nodes ≡ held.nodes → IsAfter start s adding next (n + 1)
-    after_more is_next chunks nodes = record { chunks = chunks ∙ after.chunks; nodes = nodes ∙ after.nodes; held_is = next_is }
-      where
-        next_is : (bags : Bags) → start ≡ stored start.chunks start.nodes bags → next ≡ store_after start.chunks start.nodes bags s adding (n + 1)
-        next_is bags from =
-            let before : Bags = joined_after bags s adding n in
-            let one : n + 1 ≡ suc n = omega arith in
-            let own : held ≡ stored held.chunks held.nodes before = after.held_is bags from ∙ sym (λ i. stored (after.chunks i) (after.nodes i) before) in
-            is_next before own ∙ (λ i. stored (after.chunks i) (after.nodes i) (joined_step s.sends adding before (n + 1))) ∙ sym (ap (store_after start.chunks start.nodes bags s adding) one)
+    after_more is_next chunks nodes = grind arith
 
   module _ (held : StoreValue) (run : List StoreValue) (n : ℕ) (come : HasCome start s adding held run n) where
     pub run_pushed : (bags : Bags) → start ≡ stored start.chunks start.nodes bags → run ++ held ∷ [] ≡ map (store_after start.chunks start.nodes bags s adding) (range_with_len 0 (n + 1))
@@ -55,14 +44,8 @@ module _ (start : StoreValue) (s : ScheduleValue) (adding : ℕ) where
         ∙ sym (map-range_with_len_more (store_after start.chunks start.nodes bags s adding) 0 n n (omega arith))
 
     pub come_more : (next : StoreValue) (new : List StoreValue) → IsNext s adding (n + 1) held next → next.chunks ≡ held.chunks → next.nodes ≡ held.nodes → new ≡ run ++ held ∷ [] → HasCome start s adding next new (n + 1)
-    come_more next new is_next chunks nodes pushed = record {
-      after = after_more held next n come.after is_next chunks nodes;
-      run_is = λ bags from. pushed ∙ run_pushed bags from;
-    }
+    come_more next new is_next chunks nodes pushed = grind (arith, after_more, run_pushed)
 
     -- the whole run
     pub run_whole : (new : List StoreValue) → n ≡ length s.rounds → new ≡ run ++ held ∷ [] → (bags : Bags) → start ≡ stored start.chunks start.nodes bags → new ≡ map (stored start.chunks start.nodes) (joined_run bags s adding)
-    run_whole new all pushed bags from =
-        pushed ∙ run_pushed bags from
-        ∙ ap (λ k. map (store_after start.chunks start.nodes bags s adding) (range_with_len 0 (k + 1))) all
-        ∙ sym (map-map (stored start.chunks start.nodes) (joined_after bags s adding) (range_with_len 0 (length s.rounds + 1)))
+    run_whole new all pushed bags from = grind (arith, run_pushed bags from, map-map)

@@ -1,5 +1,5 @@
 -- Stores as lists of bags, a row of nodes for each chunk.
-use Rattle.std.proofs.Common.{◌≡◌, ℕ, zero, suc, ◌+◌, ◌*◌, ◌<◌, ◌≤◌, cond, eqb, min, List, [], ◌∷◌, ◌++◌, length, map, get_or, set, refl, sym, ap, ◌∙◌, arith}
+use Rattle.std.proofs.Common.{◌≡◌, ℕ, zero, suc, ◌+◌, ◌*◌, ◌<◌, ◌≤◌, cond, eqb, List, [], ◌∷◌, ◌++◌, length, map, get_or, set, refl, sym, ap, ◌∙◌, arith}
 use Rattle.std.{specs.List.{AllByRecursion, flat_map, range_with_len}, proofs.lemmas.{Grind.flat_map-append, List.Elements.All-from_recursion, Nat.mul-add-lt, Simd.map-map}}
 use Rattle.std.proofs.lemmas.List.{append-nil, append_assoc, get_or-map, length-map, length-set, map-append, map-id, map-set, FromFn.map-range_with_len_more}
 use Rattle.schedule.{specs.{Placed.all_pairs, Bags.{Bag, empty_bag, held_at_2, one_of}}, proofs.First.each_append}
@@ -10,9 +10,7 @@ use Rattle.bag_runs.proofs.{Tables.{same_table, table_length}, Counting.few}
 
 held_small : (f : ℕ → ℕ) → ((k : ℕ) → f k ≤ 2) → (ks : List ℕ) → held_at_2 (map f ks) ≡ map f ks
 held_small f small [] = refl
-held_small f small (k ∷ ks) =
-    let here : min (f k) 2 ≡ f k = omega (arith, small k) in
-    ap (λ x. x ∷ held_at_2 (map f ks)) here ∙ ap (λ xs. f k ∷ xs) (held_small f small ks)
+held_small f small (k ∷ ks) = grind (arith, held_small f small ks)
 
 pub held_counted : (nodes : ℕ) (counts : List ℕ) → IsHeld counts → held_at_2 (counted nodes counts) ≡ counted nodes counts
 held_counted nodes counts held = held_small (λ k. get_or counts k 0) held (range_with_len 0 nodes)
@@ -63,9 +61,7 @@ row_pushed f nodes chunk old new so_far more =
 -- one bag more of a row
 pub bag_pushed : (f : ℕ → Bag) (nodes node : ℕ) (old now new : List (List ℕ)) (counts : List ℕ) → map (counted nodes) now ≡ map (counted nodes) old ++ map f (range_with_len 0 node)
     → new ≡ now ++ counts ∷ [] → counted nodes counts ≡ f node → map (counted nodes) new ≡ map (counted nodes) old ++ map f (range_with_len 0 (node + 1))
-bag_pushed f nodes node old now new counts so_far more is =
-    ap (map (counted nodes)) more ∙ map-append (counted nodes) now (counts ∷ []) ∙ ap (λ bs. bs ++ counted nodes counts ∷ []) so_far ∙ ap (λ b. (map (counted nodes) old ++ map f (range_with_len 0 node)) ++ b ∷ []) is
-    ∙ append_assoc (map (counted nodes) old) (map f (range_with_len 0 node)) (f node ∷ []) ∙ ap (λ bs. map (counted nodes) old ++ bs) (sym (map-range_with_len_more f 0 node node (omega arith)))
+bag_pushed f nodes node old now new counts so_far more is = grind (arith, map-append, append_assoc, map-range_with_len_more)
 
 pub held_pushed : (now new : List (List ℕ)) (counts : List ℕ) → AllByRecursion IsHeld now → new ≡ now ++ counts ∷ [] → IsHeld counts → AllByRecursion IsHeld new
 held_pushed now new counts so_far more held = rw more (each_append IsHeld now (counts ∷ []) so_far (held, tt))
@@ -90,12 +86,4 @@ module _ (chunks nodes : ℕ) (bags : List (List ℕ)) (chunk node : ℕ) (new :
       → counted nodes new ≡ received mode (counted nodes own) (counted nodes arrived)
       → value chunks nodes (set bags (chunk * nodes + node) new)
       ≡ with_bag (value chunks nodes bags) chunk node (received mode (bag_in (value chunks nodes bags) chunk node) (counted nodes arrived))
-  received_here mode own arrived filled low inside is arrives =
-      let place : ℕ = chunk * nodes + node in
-      let within : place < length bags = omega (arith, filled.size, mul-add-lt chunk nodes node chunks low inside) in
-      let before : counted nodes own ≡ get_or (map (counted nodes) bags) place [] = ap (counted nodes) is ∙ sym (get_or-map (counted nodes) bags place own [] within) in
-      ap make (map-set (counted nodes) bags place new)
-      ∙ ap (λ bag. make (set (map (counted nodes) bags) place bag)) (arrives ∙ ap (λ b. received mode b (counted nodes arrived)) before)
-    where
-      make : List Bag → StoreValue
-      make cells = record { chunks = chunks; nodes = nodes; bags = cells }
+  received_here mode own arrived filled low inside is arrives = grind (arith, get_or-map, map-set)

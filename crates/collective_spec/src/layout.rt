@@ -1,6 +1,5 @@
-ghost use Rattle.std.specs.Prelude.{◌≡◌, ◌<◌, ◌≤◌, IfOk};
-ghost use Rattle.collective_spec.specs.Layouts.{stands, laid_out, with_row};
-ghost use Rattle.schedule.specs.Placed.{IsPlacement};
+ghost use Rattle.std.specs.{Prelude.{◌≡◌, ◌≤◌, ◌/◌, ◌%◌, IfOk, map}, List.range_with_len};
+ghost use Rattle.collective_spec.specs.Layouts.{stands, laid_out};
 
 use crate::OutOfMemory;
 use schedule::Placement;
@@ -20,45 +19,48 @@ pub enum Layout {
 }
 
 impl Layout {
-    /// Whether the chunk stands at the node, of so many nodes.
-    fn has(self, nodes: u8, chunk: u16, node: u8) -> bool
+    /// Whether a chunk stands at a node, where the places of the chunks at so many nodes are
+    /// numbered by chunk and then by node.
+    fn has(self, nodes: usize, place: usize) -> bool
         requires { 1 ≤ nodes }
-        ensures { result ≡ stands self nodes (chunk, node) }
+        ensures { result ≡ stands self nodes (place / nodes, place % nodes) }
     {
+        let (chunk, node) = (place / nodes, place % nodes);
         match self {
             Layout::All => true,
-            Layout::Root(root) => node == root,
-            Layout::Scattered => u16::from(node) == chunk % u16::from(nodes),
-            Layout::Transpose => u16::from(node) == chunk / u16::from(nodes) % u16::from(nodes),
-        }
-    }
-
-    /// Adds the pairs of one chunk.
-    #[tactic(auto, using(crate::proofs::Laying::chunk_rules))]
-    fn place_chunk(self, placement: &mut Placement, chunk: u16)
-        requires chunk { chunk < placement.old.chunks }
-        requires nodes { 1 ≤ placement.old.nodes }
-        requires limits { IsPlacement placement.old }
-        ensures placed { placement.new ≡ with_row (stands self placement.old.nodes) placement.old chunk }
-    {
-        let nodes = placement.nodes();
-        for node in 0..nodes {
-            if self.has(nodes, chunk, node) {
-                placement.insert(chunk, node);
-            }
+            Layout::Root(root) => node == usize::from(root),
+            Layout::Scattered => node == chunk % nodes,
+            Layout::Transpose => node == chunk / nodes % nodes,
         }
     }
 
     /// The placement of all pairs of the layout.
-    #[tactic(auto, using(crate::proofs::Laying::layout_rules))]
+    #[tactic(auto, using(crate::proofs::Laying::placed_by_cells))]
     pub fn placement(self, alloc: Global, chunks: u16, nodes: u8) -> Result<Placement, OutOfMemory>
         requires { 1 ≤ nodes }
         ensures { IfOk result (λ p. p ≡ laid_out self chunks nodes) }
     {
-        let mut placement = Placement::empty(alloc, chunks, nodes)?;
-        for chunk in 0..chunks {
-            self.place_chunk(&mut placement, chunk);
-        }
-        Ok(placement)
+        let cells = cells(
+            alloc,
+            self,
+            chunks as usize * nodes as usize,
+            nodes as usize,
+        )?;
+        Ok(Placement::of_cells(chunks, nodes, cells))
     }
+}
+
+/// Of the first places, whether a chunk stands there.
+fn cells(
+    alloc: Global,
+    layout: Layout,
+    count: usize,
+    nodes: usize,
+) -> Result<Vec<bool>, OutOfMemory>
+    requires { 1 ≤ nodes }
+    ensures { IfOk result (λ cells. cells.items ≡ map (λ place. stands layout nodes (place / nodes, place % nodes)) (range_with_len 0 count)) }
+{
+    (0..count)
+        .map(|place| layout.has(nodes, place))
+        .collect(alloc)
 }

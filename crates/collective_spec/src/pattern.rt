@@ -1,6 +1,5 @@
-ghost use Rattle.std.specs.Prelude.{◌≡◌, ◌<◌, ◌≤◌, ◌*◌, ◌%◌, IfOk};
-ghost use Rattle.schedule.specs.Placed.{IsPlacement, holds};
-ghost use Rattle.collective_spec.specs.{Layouts.with_row, Patterns.{IsPattern, in_copies, copied}};
+ghost use Rattle.std.specs.{Prelude.{◌≡◌, ◌≤◌, ◌*◌, ◌/◌, ◌%◌, IfOk, map}, List.range_with_len};
+ghost use Rattle.collective_spec.specs.Patterns.{IsPattern, in_copies, copied};
 
 use crate::OutOfMemory;
 use schedule::Placement;
@@ -65,36 +64,39 @@ impl Pattern {
     }
 }
 
-/// Whether the chunk of some copy stands at the node, where each copy has `base` chunks.
-fn in_copies(placement: &Placement, base: u8, chunk: u16, node: u8) -> bool
+/// Whether a chunk of the copies stands at a node, where each copy has `base` chunks, and the places
+/// are numbered by chunk and then by node.
+fn in_copies(placement: &Placement, base: u8, place: usize) -> bool
     requires base { 1 ≤ base }
     requires chunks { placement.now.chunks ≡ base }
-    requires node { node < placement.now.nodes }
-    ensures held { result ≡ in_copies base placement.now (chunk, node) }
+    requires nodes { 1 ≤ placement.now.nodes }
+    ensures { result ≡ in_copies base placement.now (place / placement.now.nodes, place % placement.now.nodes) }
 {
-    placement.holds(chunk % u16::from(base), node)
+    let nodes = usize::from(placement.nodes());
+    let chunk = place / nodes % usize::from(base);
+    placement.holds(chunk as u16, (place % nodes) as u8)
 }
 
-/// Adds the pairs of one chunk of the copies.
-#[tactic(auto, using(crate::proofs::Laying::chunk_rules))]
-fn copy_chunk(copies: &mut Placement, placement: &Placement, base: u8, chunk: u16)
+/// Of each place of so many chunks, whether a chunk of the copies stands there.
+fn cells(
+    alloc: Global,
+    placement: &Placement,
+    base: u8,
+    chunks: u16,
+) -> Result<Vec<bool>, OutOfMemory>
     requires base { 1 ≤ base }
-    requires chunks { placement.now.chunks ≡ base }
-    requires nodes { placement.now.nodes ≡ copies.old.nodes }
-    requires chunk { chunk < copies.old.chunks }
-    requires limits { IsPlacement copies.old }
-    ensures placed { copies.new ≡ with_row (in_copies base placement.now) copies.old chunk }
+    requires copied { placement.now.chunks ≡ base }
+    requires nodes { 1 ≤ placement.now.nodes }
+    ensures { IfOk result (λ cells. cells.items ≡ map (λ place. in_copies base placement.now (place / placement.now.nodes, place % placement.now.nodes)) (range_with_len 0 (chunks * placement.now.nodes))) }
 {
-    for node in 0..copies.nodes() {
-        if in_copies(placement, base, chunk, node) {
-            copies.insert(chunk, node);
-        }
-    }
+    (0..chunks as usize * placement.nodes() as usize)
+        .map(|place| in_copies(placement, base, place))
+        .collect(alloc)
 }
 
 /// The placement `c` times: the chunk numbered `g` of the copy numbered `k` has the number `k *
 /// base + g`.
-#[tactic(auto, using(crate::proofs::Laying::layout_rules))]
+#[tactic(auto, using(crate::proofs::Laying::placed_nowhere))]
 pub(crate) fn copied(
     alloc: Global,
     placement: &Placement,
@@ -105,10 +107,11 @@ pub(crate) fn copied(
     requires chunks { placement.now.chunks ≡ base }
     ensures { IfOk result (λ p. p ≡ copied base c placement.now.nodes placement.now) }
 {
-    let chunks = u16::from(base) * u16::from(c);
-    let mut copies = Placement::empty(alloc, chunks, placement.nodes())?;
-    for chunk in 0..chunks {
-        copy_chunk(&mut copies, placement, base, chunk);
+    let chunks = base as u16 * c as u16;
+    let nodes = placement.nodes();
+    if nodes == 0 {
+        return Placement::empty(alloc, chunks, nodes);
     }
-    Ok(copies)
+    let cells = cells(alloc, placement, base, chunks)?;
+    Ok(Placement::of_cells(chunks, nodes, cells))
 }

@@ -1,13 +1,13 @@
 -- Groups that share no link with another may be taken at any turn, so the greedy cover is the same with these taken first.
-use Rattle.std.proofs.Common.{◌≡◌, ℕ, zero, suc, ◌+◌, ◌-◌, ◌*◌, ◌<◌, ◌≤◌, ◌⊎◌, Bool, true, false, ◌&&◌, ◌||◌, cond, List, [], ◌∷◌, ◌++◌, append_assoc, length, refl, sym, ap, ◌∙◌, ⊎_elim, arith, ◌==◌, Option, None, Some, count_by, filter, nat_lt, not}
-use Rattle.std.{specs.{List.{AllByRecursion, list_any, range_with_len}, Option.option_map_or}, proofs.{Math.Bool.{or-false, or_assoc, or_comm}, lemmas.List.append-nil}}
+use Rattle.std.proofs.Common.{◌≡◌, ℕ, zero, suc, ◌+◌, ◌-◌, ◌*◌, ◌<◌, ◌≤◌, ◌⊎◌, Bool, true, false, ◌&&◌, ◌||◌, List, [], ◌∷◌, ◌++◌, append_assoc, length, refl, sym, ap, ◌∙◌, ⊎_elim, arith, ◌==◌, Option, None, Some, filter, nat_lt, not}
+use Rattle.std.{specs.{List.{AllByRecursion, list_any, range_with_len}, Option.option_map_or}, proofs.{lemmas.List.append-nil}}
 use Rattle.std.proofs.lemmas.Bool.{both_ways, cases_eq, cases_order, cond_both, false_from_ne_true, and_parts, and_from, ne_eqb, not-true, not_from_false, or_left, or_right}
 use Rattle.std.proofs.lemmas.List.{Elements.filter_agree, Folds.list_any-append, FromFn.length-range_with_len}
 use Rattle.list_laws.proofs.{Ranges.any_at, Tests.few_kept}
 use Rattle.schedule.specs.{Links.{TopologyValue, has_link}, Judging.group_at}
 use Rattle.schedule.proofs.{First.{any_among, any_found, each_among}, Ordered.{among_from_any, any_from_among}}
 use Rattle.node_cuts.specs.{Sides.NodeSet, Opened.is_alone}
-use Rattle.node_cuts.specs.Cuts.{all_groups, ascending, best_of, best_taken, better, enters, is_among, opened, opens, opens_more}
+use Rattle.node_cuts.specs.Cuts.{all_groups, ascending, best_of, best_taken, better, opened, opens, opens_more}
 use Rattle.node_cuts.proofs.{Choosing.{IsChoice, IsMost, chosen, is_new}, Counting.{any_alike_of, count_alike_of}, Covered.in_range}
 
 module _ (u : NodeSet) (t : TopologyValue) where
@@ -21,20 +21,11 @@ module _ (u : NodeSet) (t : TopologyValue) where
   same_more a b h same p = list_any-append p a (h ∷ []) ∙ ap (λ c. c || list_any p (h ∷ [])) (same p) ∙ sym (list_any-append p b (h ∷ []))
 
   turned : (taken : List ℕ) (g h : ℕ) → Same ((taken ++ g ∷ []) ++ h ∷ []) ((taken ++ h ∷ []) ++ g ∷ [])
-  turned taken g h p =
-      let has : List ℕ → Bool = list_any p in
-      apart g h ∙ or_assoc (has taken) (has (g ∷ [])) (has (h ∷ [])) ∙ ap (λ c. has taken || c) (or_comm (has (g ∷ [])) (has (h ∷ [])))
-      ∙ sym (or_assoc (has taken) (has (h ∷ [])) (has (g ∷ []))) ∙ sym (apart h g)
-    where
-      apart : (x y : ℕ) → list_any p ((taken ++ x ∷ []) ++ y ∷ []) ≡ ((list_any p taken || list_any p (x ∷ [])) || list_any p (y ∷ []))
-      apart x y = list_any-append p (taken ++ x ∷ []) (y ∷ []) ∙ ap (λ c. c || list_any p (y ∷ [])) (list_any-append p taken (x ∷ []))
+  turned taken g h p = grind (arith, list_any-append p)
 
   better_same : (a b : List ℕ) → Same a b → (best : Option ℕ) (g : ℕ) → better u t a best g ≡ better u t b best g
-  better_same a b same None g =
-      λ i. cond {A = Option ℕ} (list_any (λ link. enters u link && not (same (λ k. has_link (group_at t k) link) i)) (group_at t g).links) (Some g) None
-  better_same a b same (Some best) g =
-      let opens_now : (k : ℕ) → opened u t a k ≡ opened u t b k = λ k. λ i. count_by (λ link. enters u link && not (same (λ k. has_link (group_at t k) link) i)) (group_at t k).links in
-      λ i. cond {A = Option ℕ} (nat_lt (opens_now best i * (group_at t g).width) (opens_now g i * (group_at t best).width)) (Some g) (Some best)
+  better_same a b same None g = grind arith
+  better_same a b same (Some best) g = grind arith
 
   best_same : (a b : List ℕ) → Same a b → (best : Option ℕ) (gs : List ℕ) → best_of u t a best gs ≡ best_of u t b best gs
   best_same a b same best [] = refl
@@ -47,9 +38,7 @@ module _ (u : NodeSet) (t : TopologyValue) where
 
   in_any_order : (turns : ℕ) (a b : List ℕ) → Same a b → best_taken u t turns a ≡ best_taken u t turns b
   in_any_order zero a b same = refl
-  in_any_order (suc turns) a b same =
-      ap (λ o. option_map_or (λ h. best_taken u t turns (a ++ h ∷ [])) o (ascending t a)) (best_same a b same None (all_groups t))
-      ∙ by_best a b turns same (λ h. in_any_order turns (a ++ h ∷ []) (b ++ h ∷ []) (same_more a b h same)) (best_of u t b None (all_groups t))
+  in_any_order (suc turns) a b same = grind (arith, best_same a b same None, by_best a b turns same, same_more a b, in_any_order turns)
 
   -- ---- groups that were taken, by what they say of a group's links
 
@@ -64,10 +53,7 @@ module _ (u : NodeSet) (t : TopologyValue) where
 
   -- taking a group says nothing of the links of one with which it shares none
   agree_past : (taken : List ℕ) (h g : ℕ) → ((link : ℕ × ℕ) → has_link (group_at t g) link ≡ true → has_link (group_at t h) link ≡ true → ⊥) → Agree taken (taken ++ h ∷ []) g
-  agree_past taken h g apart =
-      each_among (λ link. is_new u t taken link ≡ is_new u t (taken ++ h ∷ []) link) (group_at t g).links (λ link among.
-      let none : has_link (group_at t h) link ≡ false = false_from_ne_true (has_link (group_at t h) link) (apart link (any_from_among link (group_at t g).links among)) in
-      ap (λ b. enters u link && not b) (sym (list_any-append (λ k. has_link (group_at t k) link) taken (h ∷ []) ∙ ap (λ b. is_among t taken link || (b || false)) none ∙ or-false (is_among t taken link))))
+  agree_past taken h g apart = grind (arith, each_among, is_new, false_from_ne_true, any_from_among, list_any-append)
 
   -- ---- a group that shares no link with another
 
@@ -89,13 +75,7 @@ module _ (u : NodeSet) (t : TopologyValue) where
 
     -- once it is taken it opens nothing
     closed : (taken : List ℕ) → opens u t (taken ++ g ∷ []) g ≡ false
-    closed taken =
-        false_from_ne_true (opens u t (taken ++ g ∷ []) g) (λ it.
-        let found = any_found (is_new u t (taken ++ g ∷ [])) (group_at t g).links it in
-        let link : ℕ × ℕ = found.0 in
-        let of_it : Bool = has_link (group_at t g) link in
-        both_ways (is_among t (taken ++ g ∷ []) link) (not-true (is_among t (taken ++ g ∷ []) link) (and_parts (enters u link) (not (is_among t (taken ++ g ∷ []) link)) found.2).1)
-        (list_any-append (λ k. has_link (group_at t k) link) taken (g ∷ []) ∙ or_right (is_among t taken link) (of_it || false) (or_left of_it false (any_from_among link (group_at t g).links found.1))))
+    closed taken = grind (arith, false_from_ne_true, any_found, is_new, both_ways, not-true, and_parts, list_any-append, or_right, or_left, any_from_among)
 
     -- the best stays the best once it is taken
     it_stays : (taken : List ℕ) (h : ℕ) → (h ≡ g → ⊥) → IsMost u t taken (length t.groups) h → (best : Option ℕ) → IsChoice u t (taken ++ g ∷ []) (length t.groups) best → best ≡ Some h
@@ -124,8 +104,7 @@ module _ (u : NodeSet) (t : TopologyValue) where
         → ((h : ℕ) → (h ≡ g → ⊥) → best_of u t taken None (all_groups t) ≡ Some h → best_taken u t turns (taken ++ h ∷ []) ≡ best_taken u t turns (taken ++ g ∷ []))
         → (best : Option ℕ) → best_of u t taken None (all_groups t) ≡ best → option_map_or (λ h. best_taken u t turns (taken ++ h ∷ [])) best (ascending t taken) ≡ best_taken u t turns (taken ++ g ∷ [])
     one_by_best turns taken inside opening later None is = absurd (both_ways (opens u t taken g) (chosen u t taken None is g inside) opening)
-    one_by_best turns taken inside opening later (Some h) is =
-        ⊎_elim (λ (same : h ≡ g). ap (λ k. best_taken u t turns (taken ++ k ∷ [])) same) (λ (other : h ≡ g → ⊥). later h other is) (cases_eq h g)
+    one_by_best turns taken inside opening later (Some h) is = grind (arith, cases_eq h)
 
     one_first : (turns : ℕ) (taken : List ℕ) → g < length t.groups → opens u t taken g ≡ true → best_taken u t (suc turns) taken ≡ best_taken u t turns (taken ++ g ∷ [])
     one_first zero taken inside opening = one_by_best zero taken inside opening (λ h other is. refl) (best_of u t taken None (all_groups t)) refl

@@ -1,6 +1,6 @@
 -- The best of some groups, and those that are left for later turns.
-use Rattle.std.proofs.Common.{◌≡◌, ℕ, zero, suc, ◌+◌, ◌*◌, ◌<◌, Bool, true, false, ◌&&◌, ◌||◌, cond, List, [], ◌∷◌, ◌++◌, refl, sym, ap, ◌∙◌, subst, arith, Option, None, Some, below_more, count_by, filter, length, nat_lt, not}
-use Rattle.std.{specs.{List.{list_any, range_with_len}, Option.{is_some, option_map}}, proofs.{Math.Nat.lt_of_mul-lt-mul_right, lemmas.List.{Folds.list_any-append, Elements.filter_agree, Sums.sum_by-cons}}}
+use Rattle.std.proofs.Common.{◌≡◌, ℕ, zero, suc, ◌+◌, ◌<◌, Bool, true, false, ◌&&◌, ◌||◌, cond, List, [], ◌∷◌, ◌++◌, refl, sym, ap, ◌∙◌, subst, arith, Option, None, Some, below_more, count_by, filter, length, nat_lt, not}
+use Rattle.std.{specs.{List.{list_any, range_with_len}, Option.{is_some, option_map}}, proofs.{lemmas.List.{Folds.list_any-append, Sums.sum_by-cons}}}
 use Rattle.std.proofs.lemmas.Bool.{both_ways, cond-false, cond_both, false≢true, false_from_ne_true, and_parts, and_from, le-ltb, lt-ltb, ltb-true, not-true, not_from_false, or_parts}
 use Rattle.list_laws.proofs.Tests.{same_test}
 use Rattle.schedule.{specs.{Links.{TopologyValue, has_link}, Judging.group_at}, proofs.First.{any_among, any_found}}
@@ -23,15 +23,11 @@ none_mapped f (Some x) is = absurd (false≢true (ap is_some is))
 -- what passes one test among what passes another
 pub filter_both : {X : Type 0} (p q : X → Bool) (xs : List X) → filter q (filter p xs) ≡ filter (λ x. p x && q x) xs
 filter_both p q [] = refl
-filter_both p q (x ∷ xs) =
-    elim (p x) as (λ b. filter q (cond b (x ∷ filter p xs) (filter p xs)) ≡ cond (b && q x) (x ∷ filter (λ y. p y && q y) xs) (filter (λ y. p y && q y) xs))
-    [ true ↦ ap (λ ys. cond (q x) (x ∷ ys) ys) (filter_both p q xs) | false ↦ filter_both p q xs ]
+filter_both p q (x ∷ xs) = grind (arith, filter_both p q xs)
 
 pub any_filter : {X : Type 0} (p q : X → Bool) (xs : List X) → list_any q (filter p xs) ≡ list_any (λ x. p x && q x) xs
 any_filter p q [] = refl
-any_filter p q (x ∷ xs) =
-    elim (p x) as (λ b. list_any q (cond b (x ∷ filter p xs) (filter p xs)) ≡ ((b && q x) || list_any (λ y. p y && q y) xs))
-    [ true ↦ ap (λ b. q x || b) (any_filter p q xs) | false ↦ any_filter p q xs ]
+any_filter p q (x ∷ xs) = grind (arith, any_filter p q xs)
 
 module _ (u : NodeSet) (t : TopologyValue) where
   -- the link leads into the set and stands in none of these groups
@@ -43,15 +39,12 @@ module _ (u : NodeSet) (t : TopologyValue) where
 
   -- a group that opens more than another opens something
   pub more_some : (taken : List ℕ) (x y : ℕ) → opens_more u t taken x y ≡ true → opens u t taken x ≡ true
-  more_some taken x y more =
-      let less : 0 * (group_at t y).width < opened u t taken x * (group_at t y).width = omega (arith, ltb-true (opened u t taken y * (group_at t x).width) (opened u t taken x * (group_at t y).width) more) in
-      opens_counts taken x ∙ lt-ltb 0 (opened u t taken x) (lt_of_mul-lt-mul_right (group_at t y).width less)
+  more_some taken x y more = grind (arith, ltb-true, opens_counts taken x, lt-ltb 0)
 
   -- so one that opens nothing is not better
   no_better : (taken : List ℕ) (best : Option ℕ) (g : ℕ) → opens u t taken g ≡ false → better u t taken best g ≡ best
   no_better taken None g none = cond-false (opens u t taken g) (Some g) None none
-  no_better taken (Some best) g none =
-      cond-false (opens_more u t taken g best) (Some g) (Some best) (false_from_ne_true (opens_more u t taken g best) (λ more. both_ways (opens u t taken g) none (more_some taken g best more)))
+  no_better taken (Some best) g none = grind (arith, cond-false, false_from_ne_true, both_ways, more_some taken g best)
 
   -- and the best is among those that open something
   pub best_left : (taken : List ℕ) (best : Option ℕ) (gs : List ℕ) → best_of u t taken best (filter (opens u t taken) gs) ≡ best_of u t taken best gs
@@ -70,11 +63,7 @@ module _ (u : NodeSet) (t : TopologyValue) where
       any_among (is_new taken) found.0 (group_at t g).links found.1 (and_from (enters u found.0) (not (is_among t taken found.0)) parts.0 (not_from_false (is_among t taken found.0) none.0))
 
   pub left_after : (taken : List ℕ) (one : ℕ) (gs : List ℕ) → filter (opens u t (taken ++ one ∷ [])) (filter (opens u t taken) gs) ≡ filter (opens u t (taken ++ one ∷ [])) gs
-  left_after taken one gs =
-      let before : ℕ → Bool = opens u t taken in
-      let now : ℕ → Bool = opens u t (taken ++ one ∷ []) in
-      filter_both before now gs
-      ∙ filter_agree (λ g. before g && now g) now (λ g. same_test (before g && now g) (now g) (λ both. (and_parts (before g) (now g) both).1) (λ later. and_from (before g) (now g) (opened_before taken one g later) later)) gs
+  left_after taken one gs = grind (arith, filter_both, same_test, and_parts, and_from, opened_before taken one)
 
   -- ---- the best of all groups is the first of those that open the most for their width
 

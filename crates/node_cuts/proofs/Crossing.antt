@@ -1,11 +1,11 @@
 -- Whatever its steps, a schedule that solves brings each needed chunk into the set by a send of its own, so that they are no more than come in in its rounds.
-use Rattle.std.proofs.Common.{◌≡◌, ℕ, zero, suc, ◌+◌, ◌-◌, ◌*◌, ◌<◌, ◌≤◌, Bool, true, false, ◌||◌, ◌&&◌, cond, List, [], ◌∷◌, length, get_or, take, refl, sym, ap, ◌∙◌, inl, inr, ⊎_elim, arith, Some, find, ◌==◌, count_by, not, nat_le, nat_lt, sum, ◌⊎◌, filter}
+use Rattle.std.proofs.Common.{◌≡◌, ℕ, zero, suc, ◌+◌, ◌-◌, ◌*◌, ◌<◌, ◌≤◌, Bool, true, false, ◌||◌, ◌&&◌, cond, List, [], ◌∷◌, length, get_or, take, refl, sym, ap, ◌∙◌, inl, inr, arith, Some, find, ◌==◌, count_by, not, nat_le, nat_lt, sum, ◌⊎◌}
 use Rattle.std.{specs.{Option.{is_some, option_map}, List.{list_any, range_with_len}}, proofs.{Math.Nat.mul-add, lemmas.List.{take_all, get_or_past}}}
 use Rattle.std.proofs.lemmas.Bool.{Decides.nat_tests, cases_Bool, cases_lt, or_cases, and_parts, and_from, both_ways, not-true, eq-eqb, eqb-true, ltb-true}
 use Rattle.std.proofs.lemmas.{List.{Sums.sum_by_more, Elements.{All-get_or, recursion_from_All}}}
 use Rattle.list_laws.proofs.Tests.{find-map}
-use Rattle.schedule.specs.{declared.hop.Hop.Hop, Links.{TopologyValue, is_usable}, Placed.{PlacementValue, holds, placed, same_pair, all_pairs}, Solving.Solves}
-use Rattle.schedule.specs.{Sends.{ScheduleValue, link_of}, Running.{after, brings}, Fitting.{Fits, load, rounds_at}, Judging.group_at}
+use Rattle.schedule.specs.{declared.hop.Hop.Hop, Links.{TopologyValue, is_usable}, Placed.{PlacementValue, holds, placed, all_pairs}, Solving.Solves}
+use Rattle.schedule.specs.{Sends.{ScheduleValue, link_of}, Running.{after}, Fitting.{Fits, load, rounds_at}, Judging.group_at}
 use Rattle.schedule.proofs.{First.{Among, among_each, any_found, any_among, each_passes}, Ordered.among_from_any, Placing.pair_is}
 use Rattle.node_cuts.specs.{declared.sets.Sets.Sets, Sides.{NodeSet, node_sets}}
 use Rattle.node_cuts.specs.{Cuts.{stands_in, is_needed, need_of, enters, is_among, cover_by, width_by, CutValue, cut_of, first_cut_of}, inner.Refuting.cut_refutes}
@@ -13,9 +13,7 @@ use Rattle.node_cuts.proofs.{Counting.{counted, no_fewer, no_fewer_of, one_more,
 
 -- what the placement of a test holds passes it
 passes_placed : (chunks nodes : ℕ) (f : ℕ × ℕ → Bool) (pair : ℕ × ℕ) → holds (placed chunks nodes f) pair ≡ true → f pair ≡ true
-passes_placed chunks nodes f pair held =
-    let kept = filter f (all_pairs chunks nodes) in
-    among_each (λ p. f p ≡ true) pair kept (each_passes f (all_pairs chunks nodes)) (among_from_any pair kept held)
+passes_placed chunks nodes f pair held = grind (arith, among_each, each_passes f (all_pairs chunks nodes), among_from_any pair)
 
 module _ (u : NodeSet) (s : ScheduleValue) where
   -- a send of one of the first steps, over a link into the set
@@ -40,42 +38,13 @@ module _ (u : NodeSet) (s : ScheduleValue) where
 
   -- what stands in the set after so many steps stood in it before all of them, or came in by a send
   arrives : (pre : PlacementValue) (n chunk node : ℕ) → u node ≡ true → holds (after pre s n) (chunk, node) ≡ true → (stands_in u pre chunk ≡ true) ⊎ Enters n chunk
-  arrives pre zero chunk node member held =
-      inl (any_among (λ pair. pair.0 == chunk && u pair.1) (chunk, node) pre.pairs (among_from_any (chunk, node) pre.pairs held) (and_from (chunk == chunk) (u node) (eq-eqb chunk chunk refl) member))
-  arrives pre (suc n) chunk node member held =
-      let before : PlacementValue = after pre s n in
-      let either : (holds before (chunk, node) || list_any (brings before (n + 1) (chunk, node)) s.sends) ≡ true = passes_placed before.chunks before.nodes (λ pair. holds before pair || list_any (brings before (n + 1) pair) s.sends) (chunk, node) held in
-      let up : (stands_in u pre chunk ≡ true) ⊎ Enters n chunk → (stands_in u pre chunk ≡ true) ⊎ Enters (suc n) chunk = ⊎_elim (λ stood. inl stood) (λ (e : Enters n chunk). inr (later n chunk e)) in
-      ⊎_elim
-      (λ (already : holds before (chunk, node) ≡ true). up (arrives pre n chunk node member already))
-      (λ (brought : list_any (brings before (n + 1) (chunk, node)) s.sends ≡ true).
-      let found = any_found (brings before (n + 1) (chunk, node)) s.sends brought in
-      let h : Hop = found.0 in
-      let parts = and_parts (h.step == n + 1) (same_pair (h.chunk, h.to) (chunk, node) && holds before (h.chunk, h.from)) found.2 in
-      let rest = and_parts (same_pair (h.chunk, h.to) (chunk, node)) (holds before (h.chunk, h.from)) parts.1 in
-      let same : (h.chunk, h.to) ≡ (chunk, node) = pair_is (h.chunk, h.to) (chunk, node) rest.0 in
-      let chunk_is : h.chunk ≡ chunk = ap (λ (pair : ℕ × ℕ). pair.0) same in
-      ⊎_elim
-      (λ (inside : u h.from ≡ true). up (arrives pre n chunk h.from inside (ap (λ c. holds before (c, h.from)) (sym chunk_is) ∙ rest.1)))
-      (λ (outside : u h.from ≡ false). inr (record { hop = h; sent = found.1; chunk_is = chunk_is; inside = comes_now n h (eqb-true h.step (n + 1) parts.0) outside (ap (λ (pair : ℕ × ℕ). u pair.1) same ∙ member) }))
-      (cases_Bool (u h.from)))
-      (or_cases (holds before (chunk, node)) (list_any (brings before (n + 1) (chunk, node)) s.sends) either)
+  arrives pre zero chunk node member held = grind (arith, any_among, among_from_any (chunk, node), and_from (chunk == chunk), eq-eqb chunk chunk refl)
+  arrives pre (suc n) chunk node member held = grind (arith, passes_placed, later n chunk, any_found, and_parts, pair_is, comes_now n, eqb-true, cases_Bool, or_cases, arrives pre n chunk node member, arrives pre n chunk)
 
   -- chunks that differ come by sends that differ
   by_sends_of_their_own : (n : ℕ) (p : ℕ → Bool) → ((chunk : ℕ) → p chunk ≡ true → Enters n chunk) → (a len : ℕ) → count_by p (range_with_len a len) ≤ count_by (λ h. nat_le a h.chunk && comes_in n h) s.sends
   by_sends_of_their_own n p enter a zero = omega arith
-  by_sends_of_their_own n p enter a (suc len) =
-      let here : Hop → Bool = λ h. nat_le a h.chunk && comes_in n h in
-      let next : Hop → Bool = λ h. nat_le (a + 1) h.chunk && comes_in n h in
-      let rest : count_by p (range_with_len (a + 1) len) ≤ count_by next s.sends = by_sends_of_their_own n p enter (a + 1) len in
-      let weaker : (h : Hop) → next h ≡ true → here h ≡ true = λ h both. grind (arith, nat_tests, both) in
-      elim (cases_Bool (p a)) [
-        | inl needed ↦ (let e : Enters n a = enter a needed in
-            let passes : here e.hop ≡ true = grind (arith, nat_tests, e.chunk_is, e.inside) in
-            let fails : next e.hop ≡ false = grind (arith, nat_tests, e.chunk_is) in
-            omega (arith, counted p a (range_with_len (a + 1) len), ap (λ b. cond {A = ℕ} b 1 0) needed, rest, one_more next here weaker s.sends e.hop e.sent passes fails))
-        | inr other ↦ omega (arith, counted p a (range_with_len (a + 1) len), ap (λ b. cond {A = ℕ} b 1 0) other, rest, no_fewer next here weaker s.sends)
-      ]
+  by_sends_of_their_own n p enter a (suc len) = grind (arith, cases_Bool (p a), counted p a (range_with_len (a + 1) len), one_more, no_fewer, by_sends_of_their_own n p enter (a + 1) len)
 
   -- ---- what comes in in the first steps
 

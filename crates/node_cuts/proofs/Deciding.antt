@@ -1,8 +1,8 @@
 -- The greatest fraction alone tells whether one of the sets refutes so many rounds.
-use Rattle.std.proofs.Common.{◌≡◌, ℕ, ◌*◌, ◌<◌, ◌≤◌, Bool, true, false, ◌||◌, List, [], ◌∷◌, ◌++◌, map, refl, sym, ap, ◌∙◌, subst, arith, append_assoc, Option, None, Some, filter, nat_lt}
+use Rattle.std.proofs.Common.{◌≡◌, ℕ, ◌*◌, ◌<◌, ◌≤◌, Bool, true, false, List, [], ◌∷◌, ◌++◌, map, refl, sym, ap, ◌∙◌, subst, arith, append_assoc, Option, None, Some, filter, nat_lt}
 use Rattle.std.{specs.{List.{AllByRecursion, list_any}, Option.{is_some, unwrap_or}}, proofs.lemmas.List.append-nil}
 use Rattle.std.proofs.Math.Nat.{mul_comm, mul_right_comm, mul-le-mul_right, mul-lt-mul_of_pos_right, lt_of_mul-lt-mul_right, mul-pos}
-use Rattle.std.proofs.lemmas.Bool.{cond_both, ltb-true, ltb-false, lt-ltb, le-ltb, true_from_ne_false}
+use Rattle.std.proofs.lemmas.Bool.{ltb-true, ltb-false, lt-ltb, le-ltb, true_from_ne_false}
 use Rattle.list_laws.proofs.{Each.each_middle, Tests.same_test}
 use Rattle.schedule.{specs.Links.TopologyValue, proofs.First.{any_found, among_each, each_append, each_passes}}
 use Rattle.collective_spec.specs.{declared.{spec.Spec.Spec, instance.Instance.Instance}, Kinds.allows, Collectives.{kind_in, spec_instance}}
@@ -52,23 +52,16 @@ of_best c r fs (Some b) some each is =
     (λ above. ap (list_any (is_above c r)) is.whole ∙ any_middle (is_above c r) is.before b is.after above)
 
 greatest_decides : (c r : ℕ) (fs : List Floor) → 0 < c → AllByRecursion Positive fs → list_any (is_above c r) fs ≡ is_above c r (first_greatest fs)
-greatest_decides c r fs some each =
-    let best = best_from [] fs None tt each refl in
-    of_best c r fs best.0 some each best.1 ∙ ap (is_above c r) (best_is fs best.0 best.1)
+greatest_decides c r fs some each = grind (arith, best_from [] fs None tt each refl, of_best c r fs, best_is fs)
 
 -- ---- the sets
 
 nothing_above : (c r : ℕ) (f : Floor) → has_need f ≡ false → is_above c r f ≡ false
-nothing_above c r f none =
-    let zero_is : f.above ≡ 0 = omega (arith, ltb-false 0 f.above none) in
-    le-ltb (f.below * r) (f.above * c) (omega (arith, ap (λ v. v * c) zero_is))
+nothing_above c r f none = grind arith
 
 any_kept : {X : Type 0} (c r : ℕ) (q : X → Bool) (g : X → Floor) → ((x : X) → q x ≡ is_above c r (g x)) → (xs : List X) → list_any q xs ≡ list_any (is_above c r) (filter has_need (map g xs))
 any_kept c r q g told [] = refl
-any_kept c r q g told (x ∷ xs) =
-    let rest : List Floor = filter has_need (map g xs) in
-    ap (λ b. b || list_any q xs) (told x) ∙ ap (λ b. is_above c r (g x) || b) (any_kept c r q g told xs)
-    ∙ cond_both (has_need (g x)) (g x ∷ rest) rest (λ fs. (is_above c r (g x) || list_any (is_above c r) rest) ≡ list_any (is_above c r) fs) (λ kept. refl) (λ left. ap (λ b. b || list_any (is_above c r) rest) (nothing_above c r (g x) left))
+any_kept c r q g told (x ∷ xs) = grind (arith, nothing_above, any_kept c r q g told xs)
 
 -- a set refutes exactly where its fraction times the chunk count is more than the rounds
 set_told : (sets : Sets) (t : TopologyValue) (spec : Spec) (c r : ℕ) → 0 < t.nodes → allows (kind_in spec) t.nodes c ≡ true → (u : NodeSet)

@@ -1,7 +1,7 @@
 -- The holders of each chunk tell what has to come into a set.
-use Rattle.std.proofs.Common.{◌≡◌, ℕ, ◌+◌, ◌<◌, ◌&&◌, cond, List, map, sym, ap, ◌∙◌, arith, count_by, not}
+use Rattle.std.proofs.Common.{◌≡◌, ℕ, ◌+◌, ◌<◌, ◌&&◌, cond, List, map, ◌∙◌, arith, count_by, not}
 use Rattle.std.{specs.List.{list_any, range_with_len}, proofs.lemmas.List.Folds.fold-map}
-use Rattle.schedule.{specs.Placed.{PlacementValue, IsPlacement, holds}, proofs.Spreading.sum_alike}
+use Rattle.schedule.{specs.Placed.{PlacementValue, IsPlacement}, proofs.Spreading.sum_alike}
 use Rattle.node_cuts.specs.{Sides.NodeSet, Cuts.{is_needed, need_of, stands_in}, Holders.{HoldersValue, is_lacking, nodes_with}}
 use Rattle.node_cuts.proofs.{Choosing.any_filter, Scaling.stands_by}
 
@@ -10,8 +10,7 @@ abbrev pub all_holders : PlacementValue → PlacementValue → List HoldersValue
 all_holders pre post = map (λ chunk. record { before = nodes_with pre chunk; after = nodes_with post chunk }) (range_with_len 0 post.chunks)
 
 has_some : (u : NodeSet) (p : PlacementValue) (chunk : ℕ) → IsPlacement p → chunk < p.chunks → list_any u (nodes_with p chunk) ≡ stands_in u p chunk
-has_some u p chunk is below =
-    any_filter (λ node. holds p (chunk, node)) u (range_with_len 0 p.nodes) ∙ sym (ap (λ q. stands_in u q chunk) is ∙ stands_by u p.chunks p.nodes (holds p) chunk below)
+has_some u p chunk is below = grind (arith, any_filter, stands_by)
 
 pub need_by_holders : (u : NodeSet) (pre post : PlacementValue) → IsPlacement pre → IsPlacement post → post.chunks ≡ pre.chunks → count_by (is_lacking u) (all_holders pre post) ≡ need_of u pre post
 need_by_holders u pre post before after same =

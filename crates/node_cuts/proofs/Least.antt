@@ -1,5 +1,5 @@
 -- The least chunk count of a collective.
-use Rattle.std.proofs.{Common.{◌≡◌, ℕ, ◌%◌, ◌<◌, ◌≤◌, Bool, true, refl, ⊎_elim, arith, ◌==◌, ◌&&◌, nat_le}, Math.Nat.{mod_self, mod-eq_of_lt}}
+use Rattle.std.proofs.{Common.{◌≡◌, ℕ, ◌%◌, ◌<◌, ◌≤◌, Bool, true, refl, arith, ◌==◌, ◌&&◌, nat_le}, Math.Nat.{mod_self, mod-eq_of_lt}}
 use Rattle.std.proofs.lemmas.Bool.{and_from, and_parts, le-leb, leb-true, eq-eqb, eqb-true, cases_lt}
 use Rattle.collective_spec.specs.{declared.kind.Kind.Kind, Kinds.allows}
 use Rattle.collective_spec.specs.declared.kind.Kind.TheVariants.{Alltoall}
@@ -13,14 +13,7 @@ positive : (c : ℕ) (b : Bool) → (nat_le 1 c && b) ≡ true → 1 ≤ c
 positive c b allowed = leb-true 1 c (and_parts (nat_le 1 c) b allowed).0
 
 pub least_least : (kind : Kind) (nodes c : ℕ) → allows kind nodes c ≡ true → least_count kind nodes ≤ c
-least_least Alltoall nodes c allowed =
-    let parts = and_parts (nat_le 1 c) (c % nodes == 0) allowed in
-    let even : c % nodes ≡ 0 = eqb-true (c % nodes) 0 parts.1 in
-    let some : 1 ≤ c = leb-true 1 c parts.0 in
-    ⊎_elim
-    (λ (less : c < nodes). let itself : c % nodes ≡ c = mod-eq_of_lt less in absurd (omega (arith, even, itself, some)))
-    (λ (no_less : nodes ≤ c). no_less)
-    (cases_lt c nodes)
+least_least Alltoall nodes c allowed = grind (arith, and_parts (nat_le 1 c) (c % nodes == 0) allowed, eqb-true (c % nodes) 0, leb-true 1 c, mod-eq_of_lt, cases_lt c nodes)
 least_least kind nodes c allowed = positive c true allowed
 
 pub least_positive : (kind : Kind) (nodes : ℕ) → 0 < nodes → 0 < least_count kind nodes

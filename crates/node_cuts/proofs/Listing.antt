@@ -4,7 +4,7 @@ use Rattle.std.proofs.lemmas.{List.{map-append, FromFn.map-range_with_len_more},
 use Rattle.std.proofs.Math.Bool.{not-not}
 use Rattle.list_laws.proofs.Ranges.{flat_map-range_more}
 use Rattle.node_cuts.{specs.declared.{side.Side.{Side, TheVariants.{One, Two, AllButOne, AllButTwo}}, sets.Sets.TheVariants.Listed}}
-use Rattle.node_cuts.specs.{Sides.{NodeSet, node_sets, small_sets}, inner.Listed.{complement, listed_sides, set_of, small_sides, two_sides}}
+use Rattle.node_cuts.specs.{Sides.{NodeSet, node_sets, small_sets}, inner.Listed.{complement, listed_sides, set_of, small_sides}}
 
 pub ones_more : (n : ℕ) → map One (range_with_len 0 (n + 1)) ≡ map One (range_with_len 0 n) ++ One n ∷ []
 ones_more n = map-range_with_len_more One 0 n n (omega arith)
@@ -28,13 +28,7 @@ map_flat f g [] = refl
 map_flat f g (x ∷ xs) = map-append f (g x) (flat_map g xs) ∙ ap (λ ys. map f (g x) ++ ys) (map_flat f g xs)
 
 small_are : (nodes : ℕ) → map set_of (small_sides nodes) ≡ small_sets nodes
-small_are nodes =
-    let rows : map set_of (two_sides nodes) ≡ flat_map (λ a. map (λ b n. n == a || n == b) (range_with_len (a + 1) (nodes - (a + 1)))) (range_with_len 0 nodes) =
-    map_flat set_of (λ a. map (Two a) (range_with_len (a + 1) (nodes - (a + 1)))) (range_with_len 0 nodes)
-    ∙ λ i. flat_map (λ a. map-map set_of (Two a) (range_with_len (a + 1) (nodes - (a + 1))) i) (range_with_len 0 nodes) in
-    map-append set_of (map One (range_with_len 0 nodes)) (two_sides nodes)
-    ∙ ap (λ us. us ++ map set_of (two_sides nodes)) (map-map set_of One (range_with_len 0 nodes))
-    ∙ ap (λ us. map (λ a. set_of (One a)) (range_with_len 0 nodes) ++ us) rows
+small_are nodes = grind (arith, map_flat, map-map, map-append)
 
 -- none of the small sides is a complement
 complement_is : (side : Side) → set_of (complement side) ≡ (λ n. not (set_of side n))

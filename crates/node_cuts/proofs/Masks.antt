@@ -1,6 +1,6 @@
 -- A set of nodes as bits.
 use Rattle.std.proofs.Common.{◌≡◌, ℕ, zero, suc, ◌+◌, ◌-◌, ◌*◌, ◌/◌, ◌%◌, ◌^◌, ◌<◌, ◌≤◌, Bool, true, false, cond, ◌&&◌, [], ◌∷◌, ◌++◌, map-id, ap, sym, ◌∙◌, ⊎_elim, arith, ◌==◌, nat_lt}
-use Rattle.std.{proofs.Math.Nat.{mul-one, add-mul-div_left, add-mul-mod_self_left, div-eq_of_lt, pow-le-pow_right}, specs.List.{range_with_len, sum_by}}
+use Rattle.std.{proofs.Math.Nat.{add-mul-div_left, add-mul-mod_self_left, div-eq_of_lt, pow-le-pow_right}, specs.List.{range_with_len}}
 use Rattle.std.proofs.lemmas.{Bool.{cases_eq, cases_lt, cond_both, lt-ltb, le-ltb}, Nat.{pow-add, pow_pos}, List.FromFn.map-range_with_len_more}
 use Rattle.std.proofs.lemmas.List.Sums.{sum_by_push}
 use Rattle.node_cuts.specs.Sides.{NodeSet, has_bit, mask_of}
@@ -14,17 +14,11 @@ bit_more n = pow-add 2 n 1
 
 -- a node more
 pub mask_more : (u : NodeSet) (n : ℕ) → mask_of (n + 1) u ≡ mask_of n u + cond (u n) (2 ^ n) 0
-mask_more u n =
-    ap (sum_by (λ k. cond (u k) (2 ^ k) 0)) (range_more 0 n n (omega arith)) ∙ sum_by_push (λ k. cond (u k) (2 ^ k) 0) (range_with_len 0 n) n
+mask_more u n = grind (arith, range_more 0 n n, sum_by_push)
 
 pub mask_below : (u : NodeSet) (n : ℕ) → mask_of n u < 2 ^ n
 mask_below u zero = omega arith
-mask_below u (suc n) =
-    let one : suc n ≡ n + 1 = omega arith in
-    let more : mask_of (suc n) u ≡ mask_of n u + cond (u n) (2 ^ n) 0 = ap (λ k. mask_of k u) one ∙ mask_more u n in
-    let bit : 2 ^ suc n ≡ 2 ^ n * 2 = ap (λ k. 2 ^ k) one ∙ bit_more n in
-    let here : cond (u n) (2 ^ n) 0 ≤ 2 ^ n = cond_both (u n) (2 ^ n) 0 (λ b. b ≤ 2 ^ n) (λ it. omega arith) (λ it. omega arith) in
-    omega (arith, more, bit, here, mask_below u n)
+mask_below u (suc n) = grind (arith, mask_more u n, bit_more n, cond_both (u n) (2 ^ n) 0, mask_below u n)
 
 pub small_bit : (n : ℕ) → n ≤ 16 → 2 ^ n ≤ 65536
 small_bit n low = let two : 0 < 2 = omega arith in pow-le-pow_right two low
@@ -45,34 +39,14 @@ bit_below n m k below =
     ap (λ v. (m + v) / 2 ^ n % 2) split ∙ ap (λ v. v % 2) (add-mul-div_left m (2 * 2 ^ d) (pow_pos n)) ∙ add-mul-mod_self_left (m / 2 ^ n) 2 (2 ^ d)
 
 bit_here : (m k : ℕ) → m < 2 ^ k → (m + 2 ^ k) / 2 ^ k % 2 ≡ 1
-bit_here m k small =
-    let one : 2 ^ k ≡ 2 ^ k * 1 = sym (mul-one (2 ^ k)) in
-    let whole : (m + 2 ^ k) / 2 ^ k ≡ m / 2 ^ k + 1 = ap (λ v. (m + v) / 2 ^ k) one ∙ add-mul-div_left m 1 (pow_pos k) in
-    ap (λ v. v % 2) (whole ∙ ap (λ v. v + 1) (div-eq_of_lt small))
+bit_here m k small = grind (arith, pow_pos)
 
 pub bit_past : (n m : ℕ) → m < 2 ^ n → m / 2 ^ n % 2 ≡ 0
 bit_past n m small = ap (λ v. v % 2) (div-eq_of_lt small)
 
 bit_inside : (u : NodeSet) (nodes n : ℕ) → n < nodes → mask_of nodes u / 2 ^ n % 2 ≡ cond (u n) 1 0
 bit_inside u zero n inside = absurd (omega (arith, inside))
-bit_inside u (suc k) n inside =
-    let one : suc k ≡ k + 1 = omega arith in
-    ap (λ v. v / 2 ^ n % 2) (ap (λ v. mask_of v u) one ∙ mask_more u k)
-    ∙ ⊎_elim
-    (λ (here : n ≡ k). ap (λ v. (mask_of k u + cond (u k) (2 ^ k) 0) / 2 ^ v % 2) here ∙ last (mask_of k u) (u k) (mask_below u k) ∙ ap (λ v. cond (u v) 1 0) (sym here))
-    (λ (other : n ≡ k → ⊥). let below : n < k = omega (arith, inside, other) in earlier (mask_of k u) (u k) below ∙ bit_inside u k n below)
-    (cases_eq n k)
-  where
-    nothing : (m : ℕ) → m + 0 ≡ m
-    nothing m = omega arith
-
-    last : (m : ℕ) (b : Bool) → m < 2 ^ k → (m + cond b (2 ^ k) 0) / 2 ^ k % 2 ≡ cond b 1 0
-    last m true small = bit_here m k small
-    last m false small = ap (λ v. v / 2 ^ k % 2) (nothing m) ∙ bit_past k m small
-
-    earlier : (m : ℕ) (b : Bool) → n < k → (m + cond b (2 ^ k) 0) / 2 ^ n % 2 ≡ m / 2 ^ n % 2
-    earlier m true below = bit_below n m k below
-    earlier m false below = ap (λ v. v / 2 ^ n % 2) (nothing m)
+bit_inside u (suc k) n inside = grind (arith, mask_more u k, mask_below u k, cases_eq n k, bit_here, bit_past k, bit_below n, bit_inside u k n)
 
 one_where : (b : Bool) → (cond {A = ℕ} b 1 0 == 1) ≡ b
 one_where b = grind arith

@@ -10,7 +10,7 @@ use Rattle.collective_spec.specs.declared.kind.Kind.TheVariants.{Broadcast, Gath
 use Rattle.collective_spec.specs.Collectives.{kind_in, spec_instance}
 use Rattle.collective_spec.specs.declared.layout.Layout.TheVariants as layout
 use Rattle.collective_spec.specs.declared.spec.Spec.TheVariants as spec
-use Rattle.node_cuts.{specs.{Sides.NodeSet, Cuts.{stands_in, is_needed, need_of}, Floors.least_count}, proofs.{Counting.counted, Within.numbers_below}}
+use Rattle.node_cuts.{specs.{Sides.NodeSet, Cuts.{stands_in, need_of}, Floors.least_count}, proofs.{Counting.counted, Within.numbers_below}}
 
 -- ---- what stands in a set, by the test of a placement
 
@@ -41,10 +41,7 @@ abbrev needs : NodeSet → ℕ → (ℕ × ℕ → Bool) → (ℕ × ℕ → Boo
 needs u nodes f g chunk = some_stands u nodes g chunk && not (some_stands u nodes f chunk)
 
 need_by : (u : NodeSet) (chunks nodes : ℕ) (f g : ℕ × ℕ → Bool) → need_of u (placed chunks nodes f) (placed chunks nodes g) ≡ count_by (needs u nodes f g) (range_with_len 0 chunks)
-need_by u chunks nodes f g =
-    sum_alike (λ k. cond (is_needed u (placed chunks nodes f) (placed chunks nodes g) k) 1 0) (λ k. cond (needs u nodes f g k) 1 0) 0 chunks (λ k low high.
-    let below : k < chunks = omega (arith, high) in
-    λ i. cond (stands_by u chunks nodes g k below i && not (stands_by u chunks nodes f k below i)) 1 0)
+need_by u chunks nodes f g = grind (arith, sum_alike, stands_by)
 
 -- ---- periods
 

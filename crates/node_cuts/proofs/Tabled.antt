@@ -38,9 +38,7 @@ measure_told sets t pre post u holders known measure counted same is =
 
 pub fraction_told : (sets : Sets) (t : TopologyValue) (spec : Spec) (u : NodeSet) (nodes least : ℕ) (instance : Instance) (measure : Measure) (fraction : Floor) → nodes ≡ t.nodes → least ≡ least_count (kind_in spec) t.nodes
     → instance ≡ spec_instance spec t.nodes (least_count (kind_in spec) t.nodes) → measure ≡ measure_of sets t instance.pre instance.post u → fraction ≡ record { above = measure.need; below = measure.width * least; nodes = mask_of nodes u } → fraction ≡ fraction_of sets t spec u
-fraction_told sets t spec u nodes least instance measure fraction nodes_is least_is instance_is measure_is is =
-    let told = measure_is ∙ ap (λ (i : Instance). measure_of sets t i.pre i.post u) instance_is in
-    is ∙ λ i. record { above = (told i).need; below = (told i).width * least_is i; nodes = mask_of (nodes_is i) u }
+fraction_told sets t spec u nodes least instance measure fraction nodes_is least_is instance_is measure_is is = grind arith
 
 -- ---- a table
 
@@ -110,8 +108,7 @@ module _ (sets : Sets) (t : TopologyValue) (spec : Spec) (c r : ℕ) (some : 0 <
   pub first_in : (v : TableValue) → IsTableOf sets t spec v → (place : ℕ) → place < length v.measures
       → ((k : ℕ) → k < place → is_over (c / v.least) r (get_or v.measures k no_measure) ≡ false) → is_over (c / v.least) r (get_or v.measures place no_measure) ≡ true
       → Some (cut_at v place (c / v.least)) ≡ first_cut_of sets t asked.pre asked.post r
-  first_in v is = subst (λ (w : TableValue). (place : ℕ) → place < length w.measures → ((k : ℕ) → k < place → is_over (c / w.least) r (get_or w.measures k no_measure) ≡ false)
-      → is_over (c / w.least) r (get_or w.measures place no_measure) ≡ true → Some (cut_at w place (c / w.least)) ≡ first_cut_of sets t asked.pre asked.post r) (sym is) first_of
+  first_in v is = grind (arith, first_of)
 
   pub none_in : (v : TableValue) → IsTableOf sets t spec v → ((k : ℕ) → k < length v.measures → is_over (c / v.least) r (get_or v.measures k no_measure) ≡ false) → None ≡ first_cut_of sets t asked.pre asked.post r
   none_in v is = subst (λ (w : TableValue). ((k : ℕ) → k < length w.measures → is_over (c / w.least) r (get_or w.measures k no_measure) ≡ false) → None ≡ first_cut_of sets t asked.pre asked.post r) (sym is) none_of

@@ -5,7 +5,7 @@ use Rattle.std.proofs.lemmas.List.{Elements.{All-append, All-cons, All-filter, A
 use Rattle.list_laws.proofs.Tests.{few_kept}
 use Rattle.schedule.specs.Links.{TopologyValue}
 use Rattle.node_cuts.specs.{declared.sets.Sets.Sets, Sides.NodeSet}
-use Rattle.node_cuts.specs.Cuts.{all_groups, ascending, best_of, best_taken, cover, cover_back, cover_by, cover_greedily, narrower, opens, taken_along, width_of}
+use Rattle.node_cuts.specs.Cuts.{all_groups, ascending, best_taken, cover, cover_back, cover_by, cover_greedily, narrower, opens, taken_along, width_of}
 use Rattle.node_cuts.specs.declared.sets.Sets.TheVariants as sets
 
 -- these are groups of the topology, and no more than it has
@@ -14,9 +14,7 @@ pub record IsWithin (t : TopologyValue) (groups : List ℕ) : Type 0 where
   pub few : length groups ≤ length t.groups
 
 pub numbers_below : (n : ℕ) → All (λ k. k < n) (range_with_len 0 n)
-numbers_below n k d inside =
-    let low : k < n = omega (arith, inside, length-range_with_len 0 n) in
-    omega (arith, get_or-range_with_len 0 n k d low, low)
+numbers_below n k d inside = grind (arith, length-range_with_len, get_or-range_with_len)
 
 pub all_within : (t : TopologyValue) → IsWithin t (all_groups t)
 all_within t = record { below = numbers_below (length t.groups); few = omega (arith, length-range_with_len 0 (length t.groups)) }
@@ -61,8 +59,7 @@ by_best t taken f each (Some g) = each g
 
 best_within : (u : NodeSet) (t : TopologyValue) (turns : ℕ) (taken : List ℕ) → IsWithin t (best_taken u t turns taken)
 best_within u t zero taken = all_within t
-best_within u t (suc turns) taken =
-    by_best t taken (λ best. best_taken u t turns (taken ++ best ∷ [])) (λ g. best_within u t turns (taken ++ g ∷ [])) (best_of u t taken None (all_groups t))
+best_within u t (suc turns) taken = grind (arith, by_best, best_within u t turns)
 
 pub greedily_within : (u : NodeSet) (t : TopologyValue) → IsWithin t (cover_greedily u t)
 greedily_within u t = best_within u t (length t.groups) []
@@ -73,5 +70,4 @@ narrower_within t first second one other = cond_both (nat_lt (width_of t second)
 pub within_by : (s : Sets) (u : NodeSet) (t : TopologyValue) → IsWithin t (cover_by s u t)
 within_by sets.Nothing u t = cover_within u t
 within_by sets.Listed u t = cover_within u t
-within_by sets.All u t =
-    narrower_within t (narrower t (cover u t) (cover_back u t)) (cover_greedily u t) (narrower_within t (cover u t) (cover_back u t) (cover_within u t) (back_within u t)) (greedily_within u t)
+within_by sets.All u t = grind (arith, narrower_within, cover_within, back_within, greedily_within)

@@ -13,8 +13,7 @@ counted_sum nodes a b first second = omega (arith, first, second, length-map (zi
 
 counted_fold : (nodes : ℕ) (before : Bags) → Counted nodes before → (hops : List Hop) (bag : Bag) → length bag ≡ nodes → length (fold added bag (map (λ h. before (h.chunk, h.from)) hops)) ≡ nodes
 counted_fold nodes before counted [] bag is = is
-counted_fold nodes before counted (h ∷ hops) bag is =
-    counted_fold nodes before counted hops (added bag (before (h.chunk, h.from))) (counted_sum nodes bag (before (h.chunk, h.from)) is (counted (h.chunk, h.from)))
+counted_fold nodes before counted (h ∷ hops) bag is = grind (arith, counted_sum, counted_fold nodes before counted hops)
 
 pub counted_summed : (nodes : ℕ) (sends : List Hop) (before : Bags) (step : ℕ) → Counted nodes before → Counted nodes (summed_step sends before step)
 counted_summed nodes sends before step counted pair = counted_fold nodes before counted (filter (goes_to step pair) sends) (before pair) (counted pair)
@@ -48,5 +47,4 @@ all_ones (x ∷ bag) a ones =
 
 -- a bag with one of each node, by its counts
 pub one_each : (nodes : ℕ) (bag : Bag) → length bag ≡ nodes → ((i : ℕ) → i < nodes → get_or bag i 0 ≡ 1) → bag ≡ one_of_each nodes
-one_each nodes bag counted ones =
-    all_ones bag 0 (λ i inside. ones i (omega (arith, inside, counted))) ∙ ap one_of_each counted
+one_each nodes bag counted ones = grind (arith, all_ones)

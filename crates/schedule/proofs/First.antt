@@ -1,7 +1,7 @@
 -- The first element of a list in order that passes a test.
-use Rattle.std.proofs.Common.{◌≡◌, ℕ, zero, suc, ◌+◌, ◌<◌, ◌≤◌, map, Bool, true, false, cond, List, [], ◌∷◌, ◌++◌, Some, None, ◌⊎◌, inl, inr, refl, sym, ap, subst, ◌∙◌, arith, count_by}
+use Rattle.std.proofs.Common.{◌≡◌, ℕ, zero, suc, ◌+◌, ◌<◌, ◌≤◌, map, Bool, true, false, List, [], ◌∷◌, ◌++◌, Some, None, ◌⊎◌, inl, inr, refl, ap, subst, ◌∙◌, arith, count_by}
 use Rattle.std.specs.List.{find, filter, list_any, flat_map, range_with_len, AllPairs, AllByRecursion, Contains}
-use Rattle.std.proofs.lemmas.{Bool.{cases_Bool, cases_eq, false≢true, or_cases, or_left, or_right}, List.Elements.{filter_passes, recursion_from_All}}
+use Rattle.std.proofs.lemmas.{Bool.{false≢true, or_left, or_right}, List.Elements.{filter_passes, recursion_from_All}}
 use Rattle.list_laws.proofs.{Members.Contains-cons, Pairs.{pairs_head, pairs_tail}}
 
 -- x is among the elements
@@ -47,33 +47,22 @@ any_among p x (y ∷ ys) (inr later) passes = or_right (p y) (list_any p ys) (an
 -- what passes a test of a list
 pub any_found : {X : Type 0} (p : X → Bool) (xs : List X) → list_any p xs ≡ true → (x : X) × Among x xs × (p x ≡ true)
 any_found p [] some = absurd (false≢true some)
-any_found p (x ∷ xs) some =
-    elim (or_cases (p x) (list_any p xs) some)
-    [ inl here ↦ (x, inl refl, here) | inr later ↦ (let rest = any_found p xs later in (rest.0, inr rest.1, rest.2)) ]
+any_found p (x ∷ xs) some = grind (arith, any_found p xs)
 
 -- where some pass, one does
 pub some_passes : {X : Type 0} (p : X → Bool) (xs : List X) → 0 < count_by p xs → (x : X) × Among x xs × (p x ≡ true)
 some_passes p [] some = absurd (omega arith)
-some_passes p (x ∷ xs) some =
-    elim (cases_Bool (p x))
-    [ inl passes ↦ (x, inl refl, passes) | inr fails ↦ (let rest = some_passes p xs (rw fails at some) in (rest.0, inr rest.1, rest.2)) ]
+some_passes p (x ∷ xs) some = grind (arith, some_passes p xs)
 
 -- what a filter keeps
 pub among_kept : {X : Type 0} (test : X → Bool) (x : X) (xs : List X) → Among x xs → test x ≡ true → Among x (filter test xs)
 among_kept test x [] among passes = absurd among
 among_kept test x (y ∷ ys) (inl here) passes = rw (ap test here ∙ passes) (inl here)
-among_kept test x (y ∷ ys) (inr later) passes =
-    elim (test y) as (λ b. Among x (cond b (y ∷ filter test ys) (filter test ys)))
-    [ true ↦ inr (among_kept test x ys later passes) | false ↦ among_kept test x ys later passes ]
+among_kept test x (y ∷ ys) (inr later) passes = grind (arith, among_kept test x ys later passes)
 
 pub filter_among : {X : Type 0} (test : X → Bool) (x : X) (xs : List X) → Among x (filter test xs) → Among x xs × (test x ≡ true)
 filter_among test x [] among = absurd among
-filter_among {X} test x (y ∷ ys) among = in_case (filter_among test x ys) (test y) refl among
-  where
-    in_case : (Among x (filter test ys) → Among x ys × (test x ≡ true)) → (kept : Bool) → test y ≡ kept → Among x (cond kept (y ∷ filter test ys) (filter test ys)) → Among x (y ∷ ys) × (test x ≡ true)
-    in_case rest true is (inl here) = (inl here, ap test (sym here) ∙ is)
-    in_case rest true is (inr later) = (inr (rest later).0, (rest later).1)
-    in_case rest false is later = (inr (rest later).0, (rest later).1)
+filter_among {X} test x (y ∷ ys) among = grind (arith, filter_among test x ys)
 
 pub Contains-from_Among : {X : Type 0} (x : X) (xs : List X) → Among x xs → Contains xs x
 Contains-from_Among x [] among = absurd among
@@ -102,11 +91,7 @@ among_right x (y ∷ xs) ys among = inr (among_right x xs ys among)
 -- what stands in the part of one of the numbers
 pub among_parts : {Y : Type 0} (f : ℕ → List Y) (y : Y) (i a n : ℕ) → a ≤ i → i < a + n → Among y (f i) → Among y (flat_map f (range_with_len a n))
 among_parts f y i a zero from to among = absurd (omega arith)
-among_parts f y i a (suc n) from to among =
-    elim (cases_eq a i) [
-      | inl here ↦ among_left y (f a) (flat_map f (range_with_len (a + 1) n)) (rw here among)
-      | inr later ↦ among_right y (f a) (flat_map f (range_with_len (a + 1) n)) (among_parts f y i (a + 1) n (omega (arith, from, later)) (omega (arith, to)) among)
-    ]
+among_parts f y i a (suc n) from to among = grind (arith, among_left, among_right, among_parts f y i (a + 1) n)
 
 pub Among-from_Contains : {X : Type 0} (x : X) (xs : List X) → Contains xs x → Among x xs
 Among-from_Contains x [] (k, below, at) = absurd (omega arith)
@@ -120,20 +105,15 @@ InOrder-from_pairs before (x ∷ xs) pairs =
 
 pub each_filter : {X : Type 0} (P : X → Type 0) (p : X → Bool) (xs : List X) → AllByRecursion P xs → AllByRecursion P (filter p xs)
 each_filter P p [] each = tt
-each_filter P p (x ∷ xs) each =
-    elim (p x) as (λ b. AllByRecursion P (cond b (x ∷ filter p xs) (filter p xs)))
-    [ true ↦ (each.0, each_filter P p xs each.1) | false ↦ each_filter P p xs each.1 ]
+each_filter P p (x ∷ xs) each = grind (arith, each_filter P p xs each.1)
 
 pub InOrder-filter : {X : Type 0} (before : X → X → Bool) (p : X → Bool) (xs : List X) → InOrder before xs → InOrder before (filter p xs)
 InOrder-filter before p [] order = tt
-InOrder-filter before p (x ∷ xs) order =
-    elim (p x) as (λ b. InOrder before (cond b (x ∷ filter p xs) (filter p xs)))
-    [ true ↦ (each_filter (λ y. before x y ≡ true) p xs order.0, InOrder-filter before p xs order.1) | false ↦ InOrder-filter before p xs order.1 ]
+InOrder-filter before p (x ∷ xs) order = grind (arith, each_filter, InOrder-filter before p xs order.1)
 
 pub InOrder-append : {X : Type 0} (before : X → X → Bool) (xs ys : List X) → InOrder before xs → InOrder before ys → AllByRecursion (λ x. AllByRecursion (λ y. before x y ≡ true) ys) xs → InOrder before (xs ++ ys)
 InOrder-append before [] ys left right across = right
-InOrder-append before (x ∷ xs) ys left right across =
-    (each_append (λ y. before x y ≡ true) xs ys left.0 across.0, InOrder-append before xs ys left.1 right across.1)
+InOrder-append before (x ∷ xs) ys left right across = grind (arith, each_append, InOrder-append before xs ys left.1 right across.1)
 
 -- the first that passes: it is among the elements, it passes, and none before it does
 pub record IsFirst {X : Type 0} (before : X → X → Bool) (p : X → Bool) (xs : List X) (x : X) : Type 0 where
@@ -143,28 +123,15 @@ pub record IsFirst {X : Type 0} (before : X → X → Bool) (p : X → Bool) (xs
 
 pub found_first : {X : Type 0} (before : X → X → Bool) (p : X → Bool) (xs : List X) (x : X) → OneWay before → InOrder before xs → find p xs ≡ Some x → IsFirst before p xs x
 found_first before p [] x one_way order found = absurd cc
-found_first {X} before p (y ∷ ys) x one_way order found = in_case (found_first before p ys x one_way order.1) (p y) refl found
-  where
-    in_case : (find p ys ≡ Some x → IsFirst before p ys x) → (passes : Bool) → p y ≡ passes → cond passes (Some y) (find p ys) ≡ Some x → IsFirst before p (y ∷ ys) x
-    in_case rest true is at =
-        let same : y ≡ x = cc in
-        let none = each_weaker (λ z. before y z ≡ true) (λ z. before z y ≡ true → p z ≡ false) (λ z after back. absurd (one_way y z after back)) ys order.0 in
-        subst (IsFirst before p (y ∷ ys)) same (record { among = inl refl; passes = is; earlier = (λ itself. absurd (one_way y y itself itself), none) })
-    in_case rest false is at = record { among = inr (rest at).among; passes = (rest at).passes; earlier = (λ itself. is, (rest at).earlier) }
+found_first {X} before p (y ∷ ys) x one_way order found = grind (arith, each_weaker, found_first before p ys x one_way order.1)
 
 pub first_found : {X : Type 0} (before : X → X → Bool) (p : X → Bool) (xs : List X) (x : X) → InOrder before xs → IsFirst before p xs x → find p xs ≡ Some x
 first_found before p [] x order first = absurd first.among
-first_found before p (y ∷ ys) x order first =
-    elim first.among [
-      | inl here ↦ rw (ap p here ∙ first.passes) (ap Some here)
-      | inr later ↦ rw (first.earlier.0 (among_each (λ z. before y z ≡ true) x ys order.0 later)) (first_found before p ys x order.1 (record { among = later; passes = first.passes; earlier = first.earlier.1 }))
-    ]
+first_found before p (y ∷ ys) x order first = grind (arith, among_each, first_found before p ys x order.1)
 
 pub found_none : {X : Type 0} (p : X → Bool) (xs : List X) → find p xs ≡ None → AllByRecursion (λ x. p x ≡ false) xs
 found_none p [] none = tt
-found_none p (x ∷ xs) none =
-    elim (cases_Bool (p x))
-    [ inl passes ↦ (let found : Some x ≡ None = rw passes at none in absurd cc) | inr fails ↦ (fails, found_none p xs (rw fails at none)) ]
+found_none p (x ∷ xs) none = grind (arith, found_none p xs)
 
 pub none_found : {X : Type 0} (p : X → Bool) (xs : List X) → AllByRecursion (λ x. p x ≡ false) xs → find p xs ≡ None
 none_found p [] fail = refl

@@ -1,6 +1,6 @@
 -- The inverse of a schedule that wastes no send adds everything up at the one holder.
-use Rattle.std.proofs.Common.{◌≡◌, ℕ, zero, suc, ◌+◌, ◌-◌, ◌<◌, Bool, true, false, ◌&&◌, ◌||◌, cond, eqb, List, [], ◌∷◌, length, inl, inr, refl, sym, ap, ◌∙◌, subst, arith, nat_lt, sum_by}
-use Rattle.std.{specs.List.{AllByRecursion, AllPairs, list_any, range_with_len}, proofs.lemmas.Bool.{and_parts, cases_Bool, eqb-true, eq-eqb, false≢true, ltb-true, ne_eqb}}
+use Rattle.std.proofs.Common.{◌≡◌, ℕ, zero, suc, ◌+◌, ◌-◌, ◌<◌, Bool, true, false, ◌&&◌, ◌||◌, cond, eqb, List, [], ◌∷◌, length, inl, inr, refl, sym, ap, ◌∙◌, arith, sum_by}
+use Rattle.std.{specs.List.{AllByRecursion, AllPairs, list_any, range_with_len}, proofs.lemmas.Bool.{and_parts, cases_Bool, eqb-true, eq-eqb, false≢true, ne_eqb}}
 use Rattle.std.proofs.lemmas.{Bool.Decides.nat_tests, List.{Elements.recursion_from_All, FromFn.get_or-map-range_with_len}}
 use Rattle.list_laws.proofs.{Pairs.{pairs_head, pairs_tail}, Tests.if_so}
 use Rattle.schedule.specs.{declared.hop.Hop.Hop, Sends.{ScheduleValue, IsSchedule, IsInRange, is_hop_below}, Placed.{PlacementValue, holds, same_pair}}
@@ -19,14 +19,10 @@ Senders before step hops = AllByRecursion (λ h. eqb h.step step ≡ true → ho
 
 all_brought : (before : PlacementValue) (step chunk v : ℕ) (hops : List Hop) → Senders before step hops → list_any (brings before step (chunk, v)) hops ≡ reached (sends_now step chunk) v hops
 all_brought before step chunk v [] each = refl
-all_brought before step chunk v (h ∷ hops) each =
-    ap (λ b. b || list_any (brings before step (chunk, v)) hops) (brings_one (eqb h.step step) (eqb h.chunk chunk) (eqb h.to v) (holds before (h.chunk, h.from)) each.0)
-    ∙ ap (λ b. (sends_now step chunk h && eqb h.to v) || b) (all_brought before step chunk v hops each.1)
+all_brought before step chunk v (h ∷ hops) each = grind (arith, brings_one, sends_now, all_brought before step chunk v hops each.1)
 
 holds_more : (pre : PlacementValue) (s : ScheduleValue) (k chunk v : ℕ) → Senders (after pre s k) (k + 1) s.sends → chunk < pre.chunks → v < pre.nodes → holds (after pre s (suc k)) (chunk, v) ≡ (holds (after pre s k) (chunk, v) || reached (sends_now (k + 1) chunk) v s.sends)
-holds_more pre s k chunk v senders c n =
-    holds-placed (after pre s k).chunks (after pre s k).nodes (λ pair. holds (after pre s k) pair || list_any (brings (after pre s k) (k + 1) pair) s.sends) (chunk, v) (omega (arith, c, chunks-after pre s k)) (omega (arith, n, nodes-after pre s k))
-    ∙ ap (λ b. holds (after pre s k) (chunk, v) || b) (all_brought (after pre s k) (k + 1) chunk v s.sends senders)
+holds_more pre s k chunk v senders c n = grind (arith, holds-placed, chunks-after, nodes-after, all_brought)
 
 -- ---- the sends of a step, where none is wasted
 
@@ -37,26 +33,10 @@ abbrev LacksAt : PlacementValue → ScheduleValue → Hop → Type 0
 LacksAt pre s h = holds (after pre s (h.step - 1)) (h.chunk, h.to) ≡ false
 
 senders_of : (pre : PlacementValue) (s : ScheduleValue) (k : ℕ) (hops : List Hop) → AllByRecursion (HoldsAt pre s) hops → Senders (after pre s k) (k + 1) hops
-senders_of pre s k hops each =
-    each_weaker (HoldsAt pre s) (λ h. eqb h.step (k + 1) ≡ true → holds (after pre s k) (h.chunk, h.from) ≡ true) (λ h held now.
-    let before : h.step - 1 ≡ k = omega (arith, eqb-true h.step (k + 1) now) in
-    subst (λ n. holds (after pre s n) (h.chunk, h.from) ≡ true) before held) hops each
+senders_of pre s k hops each = grind (arith, each_weaker)
 
 one_useful : (pre : PlacementValue) (s : ScheduleValue) (k chunk : ℕ) (h : Hop) → is_hop_below pre.chunks pre.nodes h ≡ true → HoldsAt pre s h → LacksAt pre s h → IsUseful pre.nodes (sends_now (k + 1) chunk) (λ v. holds (after pre s k) (chunk, v)) h
-one_useful pre s k chunk h below held lacked =
-    let ends = and_parts (nat_lt h.from pre.nodes) (nat_lt h.to pre.nodes) (and_parts (nat_lt h.chunk pre.chunks) (nat_lt h.from pre.nodes && nat_lt h.to pre.nodes) below).1 in
-    record {
-      from = λ now. ltb-true h.from pre.nodes ends.0;
-      to = λ now. ltb-true h.to pre.nodes ends.1;
-      sender = λ now. at_step now h.from true held;
-      receiver = λ now. at_step now h.to false lacked;
-    }
-  where
-    at_step : sends_now (k + 1) chunk h ≡ true → (v : ℕ) (b : Bool) → holds (after pre s (h.step - 1)) (h.chunk, v) ≡ b → holds (after pre s k) (chunk, v) ≡ b
-    at_step now v b is =
-        let parts = and_parts (eqb h.step (k + 1)) (eqb h.chunk chunk) now in
-        let before : h.step - 1 ≡ k = omega (arith, eqb-true h.step (k + 1) parts.0) in
-        subst (λ c. holds (after pre s k) (c, v) ≡ b) (eqb-true h.chunk chunk parts.1) (subst (λ n. holds (after pre s n) (h.chunk, v) ≡ b) before is)
+one_useful pre s k chunk h below held lacked = grind (arith, sends_now)
 
 all_useful : (pre : PlacementValue) (s : ScheduleValue) (k chunk : ℕ) (hops : List Hop) → AllByRecursion (λ h. is_hop_below pre.chunks pre.nodes h ≡ true) hops → AllByRecursion (HoldsAt pre s) hops → AllByRecursion (LacksAt pre s) hops → AllByRecursion (IsUseful pre.nodes (sends_now (k + 1) chunk) (λ v. holds (after pre s k) (chunk, v))) hops
 all_useful pre s k chunk [] below held lacked = tt
@@ -111,11 +91,8 @@ weight_before pre s chunk m k j is below turn =
     back ∙ (one_step pre.nodes now held g s.sends useful (once_of (k + 1) chunk s.sends is.tight.once) ∙ on)
 
 weight_is : (pre : PlacementValue) (s : ScheduleValue) (chunk m j k : ℕ) → Brings pre s chunk → m < pre.nodes → k + j ≡ length s.rounds → weight pre s chunk m k j ≡ 1
-weight_is pre s chunk m zero k is below turn =
-    let at_end : k ≡ length s.rounds = omega (arith, turn) in
-    ap (λ n. weight pre s chunk m n 0) at_end ∙ weight_at_end pre s chunk m is below
-weight_is pre s chunk m (suc j) k is below turn =
-    weight_before pre s chunk m k j is below (omega (arith, turn)) ∙ weight_is pre s chunk m j (suc k) is below (omega (arith, turn))
+weight_is pre s chunk m zero k is below turn = grind (arith, weight_at_end pre s chunk m is below)
+weight_is pre s chunk m (suc j) k is below turn = grind (arith, weight_before pre s chunk m k j is below, weight_is pre s chunk m j (suc k) is below (omega (arith, turn)))
 
 -- the one holder has one contribution of each node
 pub one_at_holder : (pre : PlacementValue) (s : ScheduleValue) (chunk n m : ℕ) → Brings pre s chunk → n < pre.nodes → holds pre (chunk, n) ≡ true → ((v : ℕ) → v < pre.nodes → holds pre (chunk, v) ≡ true → v ≡ n) → m < pre.nodes → own (returned pre.nodes s (length s.rounds)) chunk m n ≡ 1

@@ -1,5 +1,5 @@
 -- Pairs by rows and then by columns, and the first of them that passes a test.
-use Rattle.std.proofs.Common.{◌≡◌, ℕ, suc, ◌+◌, ◌-◌, ◌<◌, ◌≤◌, Bool, true, false, ◌&&◌, cond, List, [], ◌∷◌, map, Some, None, refl, sym, ap, ◌∙◌, arith}
+use Rattle.std.proofs.Common.{◌≡◌, ℕ, ◌+◌, ◌-◌, ◌<◌, ◌≤◌, Bool, ◌&&◌, List, [], ◌∷◌, map, Some, None, refl, ap, ◌∙◌, arith}
 use Rattle.std.{specs.{List.{find, filter, flat_map, range_with_len}, Option.{option_map, option_or}}, proofs.lemmas.List.Folds.find-append}
 
 -- the pairs of the rows from one on and below another, each with so many columns
@@ -7,21 +7,15 @@ abbrev pub rows_from : ℕ → ℕ → ℕ → List (ℕ × ℕ)
 rows_from low high columns = flat_map (λ row. map (λ column. (row, column)) (range_with_len 0 columns)) (range_with_len low (high - low))
 
 pub range_more : (low high : ℕ) → low < high → range_with_len low (high - low) ≡ low ∷ range_with_len (low + 1) (high - (low + 1))
-range_more low high below =
-    let count : high - low ≡ suc (high - (low + 1)) = omega arith in
-    ap (range_with_len low) count
+range_more low high below = grind arith
 
 pub range_none : (low high : ℕ) → high ≤ low → range_with_len low (high - low) ≡ []
-range_none low high past =
-    let count : high - low ≡ 0 = omega arith in
-    ap (range_with_len low) count
+range_none low high past = grind arith
 
 -- the first column of a row
 find_in_row : (test : ℕ × ℕ → Bool) (row : ℕ) (columns : List ℕ) → find test (map (λ column. (row, column)) columns) ≡ option_map (λ column. (row, column)) (find (λ column. test (row, column)) columns)
 find_in_row test row [] = refl
-find_in_row test row (c ∷ cs) =
-    elim (test (row, c)) as (λ b. cond b (Some (row, c)) (find test (map (λ column. (row, column)) cs)) ≡ option_map (λ column. (row, column)) (cond b (Some c) (find (λ column. test (row, column)) cs)))
-    [ true ↦ refl | false ↦ find_in_row test row cs ]
+find_in_row test row (c ∷ cs) = grind (arith, find_in_row test row cs)
 
 rows_more : (test : ℕ × ℕ → Bool) (low high columns : ℕ) → low < high → find test (rows_from low high columns) ≡ option_or (option_map (λ column. (low, column)) (find (λ column. test (low, column)) (range_with_len 0 columns))) (find test (rows_from (low + 1) high columns))
 rows_more test low high columns below =
@@ -32,28 +26,19 @@ rows_more test low high columns below =
 
 -- where a row has one, it is the first of all
 pub find_here : (test : ℕ × ℕ → Bool) (low high columns column : ℕ) → low < high → Some column ≡ find (λ c. test (low, c)) (range_with_len 0 columns) → find test (rows_from low high columns) ≡ Some (low, column)
-find_here test low high columns column below found =
-    rows_more test low high columns below
-    ∙ ap (λ first. option_or (option_map (λ c. (low, c)) first) (find test (rows_from (low + 1) high columns))) (sym found)
+find_here test low high columns column below found = grind (arith, rows_more)
 
 -- where it has none, the search goes on in the rows after it
 pub find_later : (test : ℕ × ℕ → Bool) (low high columns : ℕ) → low < high → None ≡ find (λ c. test (low, c)) (range_with_len 0 columns) → find test (rows_from low high columns) ≡ find test (rows_from (low + 1) high columns)
-find_later test low high columns below none =
-    rows_more test low high columns below
-    ∙ ap (λ first. option_or (option_map (λ c. (low, c)) first) (find test (rows_from (low + 1) high columns))) (sym none)
+find_later test low high columns below none = grind (arith, rows_more)
 
 pub find_nowhere : (test : ℕ × ℕ → Bool) (low high columns : ℕ) → high ≤ low → find test (rows_from low high columns) ≡ None
-find_nowhere test low high columns past =
-    ap (λ rs. find test (flat_map (λ r. map (λ column. (r, column)) (range_with_len 0 columns)) rs)) (range_none low high past)
+find_nowhere test low high columns past = grind (arith, range_none)
 
 -- the first of those that pass another test
 pub find-filter : {X : Type 0} (p q : X → Bool) (xs : List X) → find p (filter q xs) ≡ find (λ x. q x && p x) xs
 find-filter p q [] = refl
-find-filter p q (x ∷ xs) =
-    elim (q x) as (λ b. find p (cond b (x ∷ filter q xs) (filter q xs)) ≡ cond (b && p x) (Some x) (find (λ y. q y && p y) xs))
-    [ true ↦ ap (cond (p x) (Some x)) (find-filter p q xs) | false ↦ find-filter p q xs ]
+find-filter p q (x ∷ xs) = grind (arith, find-filter p q xs)
 
 pub rows_start : (rows columns : ℕ) → rows_from 0 rows columns ≡ flat_map (λ row. map (λ column. (row, column)) (range_with_len 0 columns)) (range_with_len 0 rows)
-rows_start rows columns =
-    let count : rows - 0 ≡ rows = omega arith in
-    ap (λ n. flat_map (λ row. map (λ column. (row, column)) (range_with_len 0 columns)) (range_with_len 0 n)) count
+rows_start rows columns = grind arith

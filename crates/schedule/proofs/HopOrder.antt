@@ -1,5 +1,5 @@
 -- Sends in ascending order: the order is total, and a list of different sends has one ascending order.
-use Rattle.std.proofs.Common.{◌≡◌, ℕ, Bool, true, false, ◌&&◌, ◌||◌, cond, eqb, ltb, List, [], ◌∷◌, inl, inr, sym, ap, ◌∙◌, arith, ◌≢◌}
+use Rattle.std.proofs.Common.{◌≡◌, ℕ, Bool, true, false, ◌&&◌, ◌||◌, eqb, ltb, List, [], ◌∷◌, inl, inr, arith, ◌≢◌}
 use Rattle.std.{specs.List.{AllByRecursion, Sorted.IsPermutation}, proofs.lemmas.Bool.Decides.nat_tests}
 use Rattle.std.proofs.lemmas.Bool.{cases_Bool}
 use Rattle.std.proofs.lemmas.List.{Elements.{All-from_recursion, recursion_from_All}, Sorted.{All-permutation, Contains-permutation, IsPermutation-cons, IsPermutation-middle, IsPermutation-refl, IsPermutation-sym, IsPermutation-trans}}
@@ -8,27 +8,14 @@ use Rattle.schedule.proofs.{First.{Among, Among-from_Contains, Contains-from_Amo
 
 -- where neither of two comes first by a number, the number is the same, and what follows decides
 untied : (a b : ℕ) (there back : Bool) → (ltb a b || (eqb a b && there)) ≡ false → (ltb b a || (eqb b a && back)) ≡ false → (a ≡ b) × (there ≡ false) × (back ≡ false)
-untied a b there back first second = (same, rest there first same, rest_back back second same)
-  where
-    same : a ≡ b
-    same = grind (arith, nat_tests)
-
-    rest : (there : Bool) → (ltb a b || (eqb a b && there)) ≡ false → a ≡ b → there ≡ false
-    rest there is e = grind (arith, nat_tests)
-
-    rest_back : (back : Bool) → (ltb b a || (eqb b a && back)) ≡ false → a ≡ b → back ≡ false
-    rest_back back is e = grind (arith, nat_tests)
+untied a b there back first second = grind (arith, nat_tests)
 
 -- sends of the same numbers are the same
 pub same_hop : (a b : Hop) → a.chunk ≡ b.chunk → a.from ≡ b.from → a.to ≡ b.to → a.step ≡ b.step → a ≡ b
 same_hop a b chunks froms tos steps = λ i. record { chunk = chunks i; from = froms i; to = tos i; step = steps i }
 
 pub neither_before : (a b : Hop) → hop_before a b ≡ false → hop_before b a ≡ false → a ≡ b
-neither_before a b there back =
-    let steps = untied a.step b.step _ _ there back in
-    let chunks = untied a.chunk b.chunk _ _ steps.1 steps.2 in
-    let froms = untied a.from b.from _ _ chunks.1 chunks.2 in
-    same_hop a b chunks.0 froms.0 (grind (arith, nat_tests, froms.1, froms.2)) steps.0
+neither_before a b there back = grind (arith, untied, same_hop)
 
 pub or_after : (a b : Hop) → a ≢ b → hop_before a b ≡ false → hop_before b a ≡ true
 or_after a b apart fails = elim (cases_Bool (hop_before b a)) [ inl after ↦ after | inr neither ↦ absurd (apart (neither_before a b fails neither)) ]
@@ -45,11 +32,7 @@ before_all a b c =
 
 with_permutes : (h : Hop) (hops : List Hop) → IsPermutation (h ∷ hops) (with_hop h hops)
 with_permutes h [] = IsPermutation-refl (h ∷ [])
-with_permutes h (o ∷ hops) =
-    elim (hop_before h o) as (λ first. IsPermutation (h ∷ o ∷ hops) (cond first (h ∷ o ∷ hops) (o ∷ with_hop h hops))) [
-      | true ↦ IsPermutation-refl (h ∷ o ∷ hops)
-      | false ↦ IsPermutation-trans (h ∷ o ∷ hops) (o ∷ h ∷ hops) (o ∷ with_hop h hops) (IsPermutation-sym (o ∷ h ∷ hops) (h ∷ o ∷ hops) (IsPermutation-middle (o ∷ []) h hops)) (IsPermutation-cons o (h ∷ hops) (with_hop h hops) (with_permutes h hops))
-    ]
+with_permutes h (o ∷ hops) = grind (arith, IsPermutation-refl (h ∷ o ∷ hops), IsPermutation-trans (h ∷ o ∷ hops) (o ∷ h ∷ hops) (o ∷ with_hop h hops) (IsPermutation-sym (o ∷ h ∷ hops) (h ∷ o ∷ hops) (IsPermutation-middle (o ∷ []) h hops)) (IsPermutation-cons o (h ∷ hops) (with_hop h hops) (with_permutes h hops)))
 
 each_permuted : (P : Hop → Type 0) (xs ys : List Hop) → IsPermutation xs ys → AllByRecursion P xs → AllByRecursion P ys
 each_permuted P xs ys same each = recursion_from_All P ys (All-permutation P xs ys same (All-from_recursion P xs each))
@@ -91,5 +74,4 @@ in_order_among x hops among =
 -- ascending sends differ
 pub ascending_apart : (hops : List Hop) → InOrder hop_before hops → Apart hops
 ascending_apart [] order = tt
-ascending_apart (h ∷ hops) order =
-    (each_weaker (λ o. hop_before h o ≡ true) (λ o. h ≢ o) (λ o after same. sends_one_way h o after (ap (λ x. hop_before x h) (sym same) ∙ (ap (hop_before h) same ∙ after))) hops order.0, ascending_apart hops order.1)
+ascending_apart (h ∷ hops) order = grind (arith, each_weaker, sends_one_way, ascending_apart hops order.1)

@@ -1,6 +1,6 @@
 -- The inverse of a valid schedule is valid, and its inverse is the schedule.
-use Rattle.std.proofs.Common.{◌≡◌, ℕ, zero, suc, ◌+◌, ◌-◌, true, ◌&&◌, List, [], ◌∷◌, length, map, inl, inr, refl, sym, ap, ◌∙◌, subst, arith, ◌≢◌, nat_lt, reverse, sum}
-use Rattle.std.{specs.List.{All, AllPairs, AllByRecursion}, proofs.lemmas.{Bool.{and_parts, and_from}, List.{length-reverse, reverse-reverse}}}
+use Rattle.std.proofs.Common.{◌≡◌, ℕ, zero, suc, true, List, [], ◌∷◌, length, map, inl, inr, refl, sym, ap, ◌∙◌, subst, arith, ◌≢◌, reverse, sum}
+use Rattle.std.{specs.List.{All, AllPairs, AllByRecursion}, proofs.lemmas.{List.{length-reverse, reverse-reverse}}}
 use Rattle.std.proofs.lemmas.List.{Elements.{All-from_recursion, recursion_from_All}, Sorted.{All-permutation, IsPermutation-reverse, sum_by-IsPermutation}}
 use Rattle.list_laws.proofs.Each.{each_map}
 use Rattle.schedule.specs.{declared.hop.Hop.Hop, Sends.{ScheduleValue, IsSchedule, IsInRange, IsRound, IsStep, hop_before, is_hop_below}}
@@ -27,19 +27,13 @@ same_first a b xs ys first second there back =
     ]
 
 rest_within : (a b : Hop) (xs ys : List Hop) → a ≡ b → InOrder hop_before (a ∷ xs) → Within (a ∷ xs) (b ∷ ys) → Within xs ys
-rest_within a b xs ys same order there x among =
-    elim (there x (inr among)) [
-      | inl here ↦ absurd (never_itself x (ap (λ y. hop_before y x) (sym (same ∙ here)) ∙ among_each (λ y. hop_before a y ≡ true) x xs order.0 among))
-      | inr later ↦ later
-    ]
+rest_within a b xs ys same order there x among = grind (arith, never_itself, among_each)
 
 pub one_order : (xs ys : List Hop) → InOrder hop_before xs → InOrder hop_before ys → Within xs ys → Within ys xs → xs ≡ ys
 one_order [] [] first second there back = refl
 one_order [] (b ∷ ys) first second there back = absurd (back b (inl refl))
 one_order (a ∷ xs) [] first second there back = absurd (there a (inl refl))
-one_order (a ∷ xs) (b ∷ ys) first second there back =
-    let same = same_first a b xs ys first second there back in
-    ap (λ h. h ∷ xs) same ∙ ap (λ hops. b ∷ hops) (one_order xs ys first.1 second.1 (rest_within a b xs ys same first there) (rest_within b a ys xs (sym same) second back))
+one_order (a ∷ xs) (b ∷ ys) first second there back = grind (arith, same_first, rest_within, one_order xs ys first.1 second.1)
 
 -- ---- one send and its inverse
 
@@ -47,8 +41,7 @@ back_again : (steps : ℕ) (h : Hop) → IsStep steps h.step → inverse_hop ste
 back_again steps h is = same_hop (inverse_hop steps (inverse_hop steps h)) h refl refl refl (omega (arith, is.from, is.to))
 
 apart_again : (steps : ℕ) (a b : Hop) → IsStep steps a.step → IsStep steps b.step → a ≢ b → inverse_hop steps a ≢ inverse_hop steps b
-apart_again steps a b first second apart same =
-    apart (same_hop a b (ap (λ h. h.chunk) same) (ap (λ h. h.to) same) (ap (λ h. h.from) same) (let steps_same : steps + 1 - a.step ≡ steps + 1 - b.step = ap (λ h. h.step) same in omega (arith, steps_same, first.from, first.to, second.from, second.to)))
+apart_again steps a b first second apart same = grind (arith, same_hop)
 
 abbrev pub StepsIn : ℕ → List Hop → Type 0
 StepsIn steps hops = AllByRecursion (λ h. IsStep steps h.step) hops
@@ -67,10 +60,7 @@ inverse_steps steps hops each =
 
 inverse_below : (steps chunks nodes : ℕ) (hops : List Hop) → AllByRecursion (λ h. is_hop_below chunks nodes h ≡ true) hops → AllByRecursion (λ h. is_hop_below chunks nodes h ≡ true) (map (inverse_hop steps) hops)
 inverse_below steps chunks nodes [] each = tt
-inverse_below steps chunks nodes (h ∷ hops) each =
-    let parts = and_parts (nat_lt h.chunk chunks) (nat_lt h.from nodes && nat_lt h.to nodes) each.0 in
-    let ends = and_parts (nat_lt h.from nodes) (nat_lt h.to nodes) parts.1 in
-    (and_from _ _ parts.0 (and_from _ _ ends.1 ends.0), inverse_below steps chunks nodes hops each.1)
+inverse_below steps chunks nodes (h ∷ hops) each = grind (arith, inverse_below steps chunks nodes hops each.1)
 
 -- ---- whole schedules
 

@@ -1,5 +1,5 @@
 -- A placement by its table of cells: what it holds, and what a cell that is set adds.
-use Rattle.std.proofs.Common.{◌≡◌, ℕ, ◌+◌, ◌*◌, ◌<◌, Bool, true, false, ◌||◌, List, length, get_or, set, replicate, sym, ap, ◌∙◌, ⊎_elim, arith}
+use Rattle.std.proofs.Common.{◌≡◌, ℕ, ◌+◌, ◌*◌, ◌<◌, Bool, true, false, ◌||◌, List, length, get_or, set, replicate, subst, arith}
 use Rattle.std.proofs.lemmas.{Bool.{or_left, cases_Bool, and_from, eq-eqb, both_ways}, List.{get_or-set_same, get_or-set_other, get_or-replicate, get_or_read}}
 use Rattle.std.proofs.lemmas.Nat.{mul-add-lt, same_from_place}
 use Rattle.schedule.specs.{Placed.{PlacementValue, same_pair, holds, IsPlacement, empty_placement, with_pair}, Cells.marked}
@@ -8,40 +8,21 @@ use Rattle.schedule.proofs.Placing.{pair_is, placed-alike, placed-none, holds-pl
 abbrev cell : ℕ → List Bool → ℕ × ℕ → Bool
 cell nodes cells pair = get_or cells (pair.0 * nodes + pair.1) false
 
-pub placement-marked : (p : PlacementValue) (chunks nodes : ℕ) (cells : List Bool) → marked chunks nodes cells ≡ p → IsPlacement p
-placement-marked p chunks nodes cells is =
-    let P : PlacementValue → Type 0 = IsPlacement in
-    let shown : P (marked chunks nodes cells) = placement-placed chunks nodes (cell nodes cells) in
-    rw (← is) shown
+pub placement_here : (chunks nodes : ℕ) (cells : List Bool) → IsPlacement (marked chunks nodes cells)
+placement_here chunks nodes cells = placement-placed chunks nodes (cell nodes cells)
 
-pub holds-marked : (chunks nodes : ℕ) (cells : List Bool) (chunk node : ℕ) (answer : Bool) → length cells ≡ chunks * nodes → chunk < chunks → node < nodes → answer ≡ get_or cells (chunk * nodes + node) answer → answer ≡ holds (marked chunks nodes cells) (chunk, node)
-holds-marked chunks nodes cells chunk node answer size c n read =
-    let inside : chunk * nodes + node < length cells = omega (arith, mul-add-lt chunk nodes node chunks c n) in
-    get_or_read cells (chunk * nodes + node) answer inside read false
-    ∙ sym (holds-placed chunks nodes (cell nodes cells) (chunk, node) c n)
+pub placement_marked : (p : PlacementValue) (chunks nodes : ℕ) (cells : List Bool) → marked chunks nodes cells ≡ p → IsPlacement p
+placement_marked p chunks nodes cells is = subst IsPlacement is (placement_here chunks nodes cells)
+
+pub holds_marked : (chunks nodes : ℕ) (cells : List Bool) (chunk node : ℕ) (answer : Bool) → length cells ≡ chunks * nodes → chunk < chunks → node < nodes → answer ≡ get_or cells (chunk * nodes + node) answer → answer ≡ holds (marked chunks nodes cells) (chunk, node)
+holds_marked chunks nodes cells chunk node answer size c n read = grind (arith, mul-add-lt, get_or_read, holds-placed)
 
 cell-set : (nodes : ℕ) (cells : List Bool) (a pair : ℕ × ℕ) → a.0 * nodes + a.1 < length cells → a.1 < nodes → pair.1 < nodes → cell nodes (set cells (a.0 * nodes + a.1) true) pair ≡ (same_pair a pair || cell nodes cells pair)
-cell-set nodes cells a pair inside n pn =
-    ⊎_elim
-    (λ (same : same_pair a pair ≡ true).
-    let is : a ≡ pair = pair_is a pair same in
-    let stored : cell nodes (set cells (a.0 * nodes + a.1) true) a ≡ true = get_or-set_same cells (a.0 * nodes + a.1) true false inside in
-    let place : pair.0 * nodes + pair.1 ≡ a.0 * nodes + a.1 = ap (λ (p : ℕ × ℕ). p.0 * nodes + p.1) (sym is) in
-    ap (λ k. get_or (set cells (a.0 * nodes + a.1) true) k false) place ∙ (stored ∙ sym (or_left _ _ same)))
-    (λ (other : same_pair a pair ≡ false).
-    let apart : pair.0 * nodes + pair.1 ≡ a.0 * nodes + a.1 → ⊥ = λ e.
-    let alike = same_from_place pair.0 pair.1 a.0 a.1 nodes pn n e in
-    both_ways _ other (and_from _ _ (eq-eqb a.0 pair.0 (sym alike.0)) (eq-eqb a.1 pair.1 (sym alike.1))) in
-    get_or-set_other cells (a.0 * nodes + a.1) (pair.0 * nodes + pair.1) true false apart
-    ∙ sym (ap (λ b. b || cell nodes cells pair) other))
-    (cases_Bool (same_pair a pair))
+cell-set nodes cells a pair inside n pn = grind (arith, pair_is a pair, get_or-set_same cells (a.0 * nodes + a.1) true false inside, or_left, same_from_place pair.0 pair.1 a.0 a.1 nodes pn n, both_ways, and_from, eq-eqb a.0 pair.0, eq-eqb a.1 pair.1, get_or-set_other cells (a.0 * nodes + a.1) (pair.0 * nodes + pair.1) true false, cases_Bool (same_pair a pair))
 
-pub marked-set : (chunks nodes : ℕ) (cells : List Bool) (chunk node : ℕ) → length cells ≡ chunks * nodes → chunk < chunks → node < nodes → marked chunks nodes (set cells (chunk * nodes + node) true) ≡ with_pair (marked chunks nodes cells) (chunk, node)
-marked-set chunks nodes cells chunk node size c n =
-    placed-alike chunks nodes _ _ (λ pair pc pn.
-    cell-set nodes cells (chunk, node) pair (omega (arith, mul-add-lt chunk nodes node chunks c n)) n pn
-    ∙ ap (λ b. same_pair (chunk, node) pair || b) (sym (holds-placed chunks nodes (cell nodes cells) pair pc pn)))
+pub marked_set : (chunks nodes : ℕ) (cells : List Bool) (chunk node : ℕ) → length cells ≡ chunks * nodes → chunk < chunks → node < nodes → marked chunks nodes (set cells (chunk * nodes + node) true) ≡ with_pair (marked chunks nodes cells) (chunk, node)
+marked_set chunks nodes cells chunk node size c n = grind (arith, placed-alike chunks nodes, cell-set nodes cells (chunk, node), mul-add-lt chunk nodes node chunks c n, holds-placed chunks nodes (cell nodes cells))
 
-pub marked-empty : (chunks nodes : ℕ) → marked chunks nodes (replicate (chunks * nodes) false) ≡ empty_placement chunks nodes
-marked-empty chunks nodes =
+pub marked_empty : (chunks nodes : ℕ) → marked chunks nodes (replicate (chunks * nodes) false) ≡ empty_placement chunks nodes
+marked_empty chunks nodes =
     placed-none chunks nodes _ (λ pair c n. get_or-replicate (chunks * nodes) (pair.0 * nodes + pair.1) false false (omega (arith, mul-add-lt pair.0 nodes pair.1 chunks c n)))

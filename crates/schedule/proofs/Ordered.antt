@@ -1,8 +1,8 @@
 -- Pairs by rows and then by columns: which stand in a grid, and that they stand there in order.
-use Rattle.std.proofs.Common.{◌≡◌, ℕ, zero, suc, ◌+◌, ◌<◌, ◌≤◌, true, List, [], ◌∷◌, map, inl, inr, refl, sym, ap, arith}
-use Rattle.std.specs.List.{list_any, flat_map, range_with_len, filter, AllByRecursion}
-use Rattle.std.proofs.lemmas.Bool.{Decides.nat_tests, and_from, or_cases, or_left, or_right, lt-ltb, eq-eqb}
-use Rattle.schedule.specs.{Failing.pair_before, Placed.{PlacementValue, IsPlacement, same_pair, holds, all_pairs}}
+use Rattle.std.proofs.Common.{◌≡◌, ℕ, zero, suc, ◌+◌, ◌<◌, ◌≤◌, true, List, [], ◌∷◌, map, inl, inr, sym, arith}
+use Rattle.std.specs.List.{list_any, flat_map, range_with_len, AllByRecursion}
+use Rattle.std.proofs.lemmas.Bool.{Decides.nat_tests, or_cases}
+use Rattle.schedule.specs.{Failing.pair_before, Placed.{PlacementValue, IsPlacement, same_pair}}
 use Rattle.schedule.proofs.{Placing.{pair_is, pair_itself, in_rows}, First.{Among, InOrder, OneWay, InOrder-append, InOrder-filter, any_among, each_weaker, each_append}}
 
 pub pairs_one_way : OneWay pair_before
@@ -30,20 +30,15 @@ in_grid low rows columns (row, column) is = among_from_any (row, column) (grid l
 
 row_cells : (number from count columns : ℕ) → from + count ≤ columns → AllByRecursion (IsCell number 1 columns) (map (λ column. (number, column)) (range_with_len from count))
 row_cells number from zero columns fits = tt
-row_cells number from (suc count) columns fits =
-    (record { from = omega arith; to = omega arith; column = omega arith }, row_cells number (from + 1) count columns (omega arith))
+row_cells number from (suc count) columns fits = grind (arith, row_cells number (from + 1) count columns (omega arith))
 
 pub grid_cells : (low rows columns : ℕ) → AllByRecursion (IsCell low rows columns) (grid low rows columns)
 grid_cells low zero columns = tt
-grid_cells low (suc rows) columns =
-    each_append (IsCell low (suc rows) columns) _ _
-    (each_weaker (IsCell low 1 columns) (IsCell low (suc rows) columns) (λ pair is. record { from = is.from; to = omega (arith, is.to); column = is.column }) _ (row_cells low 0 columns columns (omega arith)))
-    (each_weaker (IsCell (low + 1) rows columns) (IsCell low (suc rows) columns) (λ pair is. record { from = omega (arith, is.from); to = omega (arith, is.to); column = is.column }) _ (grid_cells (low + 1) rows columns))
+grid_cells low (suc rows) columns = grind (arith, each_append, each_weaker, row_cells, grid_cells (low + 1) rows columns)
 
 column_after : (row column from count : ℕ) → column < from → AllByRecursion (λ pair. pair_before (row, column) pair ≡ true) (map (λ c. (row, c)) (range_with_len from count))
 column_after row column from zero below = tt
-column_after row column from (suc count) below =
-    (or_right _ _ (and_from _ _ (eq-eqb row row refl) (lt-ltb column from below)), column_after row column (from + 1) count (omega arith))
+column_after row column from (suc count) below = grind (arith, column_after row column (from + 1) count (omega arith))
 
 row_order : (row from count : ℕ) → InOrder pair_before (map (λ column. (row, column)) (range_with_len from count))
 row_order row from zero = tt
@@ -51,15 +46,8 @@ row_order row from (suc count) = (column_after row from (from + 1) count (omega 
 
 pub grid_order : (low rows columns : ℕ) → InOrder pair_before (grid low rows columns)
 grid_order low zero columns = tt
-grid_order low (suc rows) columns =
-    let later : List (ℕ × ℕ) = grid (low + 1) rows columns in
-    InOrder-append pair_before _ later (row_order low 0 columns) (grid_order (low + 1) rows columns)
-    (each_weaker (IsCell low 1 columns) (λ pair. AllByRecursion (λ other. pair_before pair other ≡ true) later)
-    (λ pair is. each_weaker (IsCell (low + 1) rows columns) (λ other. pair_before pair other ≡ true) (λ other after. or_left _ _ (lt-ltb pair.0 other.0 (omega (arith, is.to, after.from)))) later (grid_cells (low + 1) rows columns))
-    _ (row_cells low 0 columns columns (omega arith)))
+grid_order low (suc rows) columns = grind (arith, InOrder-append, row_order, each_weaker, grid_cells, row_cells, grid_order (low + 1) rows columns)
 
 -- the pairs of a placement stand in order
 pub placement_order : (p : PlacementValue) → IsPlacement p → InOrder pair_before p.pairs
-placement_order p is =
-    let pairs : p.pairs ≡ filter (holds p) (all_pairs p.chunks p.nodes) = ap (λ (q : PlacementValue). q.pairs) is in
-    rw pairs (InOrder-filter pair_before (holds p) (all_pairs p.chunks p.nodes) (grid_order 0 p.chunks p.nodes))
+placement_order p is = grind (arith, InOrder-filter, grid_order)

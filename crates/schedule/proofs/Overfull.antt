@@ -1,5 +1,5 @@
 -- A group of a topology, by a read of the list: which it is, and that its links have a place in a table.
-use Rattle.std.{specs.List.All, proofs.{Common.{◌≡◌, ℕ, ◌<◌, List, [], length, get_or, ap, ◌∙◌, arith}, lemmas.List.{get_or_read, Elements.{All-same, All-weaker}}}}
+use Rattle.std.{specs.List.All, proofs.{Common.{◌≡◌, ℕ, ◌<◌, List, [], length, get_or, ap, ◌∙◌, arith}, lemmas.List.{get_or_read}}}
 use Rattle.schedule.specs.{Links.{GroupValue, TopologyValue, IsTopology, IsBelow}, Judging.group_at}
 
 -- the group at a place, by a read of the list
@@ -9,8 +9,4 @@ group_read t groups number group is inside read =
 
 -- the links of a topology's group have a place in a table
 pub group_tabled : (t : TopologyValue) (groups : List GroupValue) (number : ℕ) (group : GroupValue) → IsTopology t → groups ≡ t.groups → number < length groups → group ≡ get_or groups number group → All (IsBelow 16) group.links
-group_tabled t groups number group valid is inside read =
-    let P : GroupValue → Type 0 = λ g. All (IsBelow t.nodes) g.links in
-    let all : All P groups = All-same P groups t.groups is valid.nodes in
-    let mine : P group = rw read (all number group inside) in
-    All-weaker (IsBelow t.nodes) (IsBelow 16) (λ link below. record { from = omega (arith, below.from, valid.few); to = omega (arith, below.to, valid.few) }) group.links mine
+group_tabled t groups number group valid is inside read = grind arith

@@ -1,17 +1,13 @@
 -- What a placement holds, when it is given by a test, made empty, or had a pair added; and when two are the same.
 use Rattle.std.proofs.Common.{◌≡◌, ℕ, zero, suc, ◌+◌, ◌<◌, ◌≤◌, Bool, true, false, ◌||◌, ◌&&◌, List, [], ◌∷◌, map, inl, inr, refl, sym, ap, ◌∙◌, arith}
 use Rattle.std.{specs.List.{list_any, flat_map, range_with_len, filter, AllByRecursion}, proofs.lemmas.{List.Folds.list_any-append, Map.Views.any-filter_same}}
-use Rattle.std.proofs.lemmas.Bool.{eqb-true, eq-eqb, and_parts, and_from, or_left, or_right, cases_eq}
+use Rattle.std.proofs.lemmas.Bool.{eq-eqb, and_from, or_left, or_right, cases_eq}
 use Rattle.std.proofs.Math.Bool.{and-true}
 use Rattle.schedule.{specs.Placed.{PlacementValue, same_pair, holds, all_pairs, placed, IsPlacement, empty_placement, with_pair}, proofs.First.each_append}
 
 -- the test on pairs tells them apart
 pub pair_is : (a b : ℕ × ℕ) → same_pair a b ≡ true → a ≡ b
-pair_is (a, b) (c, d) h =
-    let both = and_parts _ _ h in
-    let first : a ≡ c = eqb-true a c both.0 in
-    let second : b ≡ d = eqb-true b d both.1 in
-    cc
+pair_is (a, b) (c, d) h = grind arith
 
 pub pair_itself : (a : ℕ × ℕ) → same_pair a a ≡ true
 pair_itself a = and_from _ _ (eq-eqb a.0 a.0 refl) (eq-eqb a.1 a.1 refl)
@@ -19,11 +15,7 @@ pair_itself a = and_from _ _ (eq-eqb a.0 a.0 refl) (eq-eqb a.1 a.1 refl)
 -- the node stands in the row of its chunk
 in_row : (chunk node from len : ℕ) → from ≤ node → node < from + len → list_any (same_pair (chunk, node)) (map (λ n. (chunk, n)) (range_with_len from len)) ≡ true
 in_row chunk node from zero low high = absurd (omega arith)
-in_row chunk node from (suc len) low high =
-    elim (cases_eq node from) [
-      | inl here ↦ or_left _ _ (and_from _ _ (eq-eqb chunk chunk refl) (eq-eqb node from here))
-      | inr later ↦ or_right _ _ (in_row chunk node (from + 1) len (omega (arith, later)) (omega arith))
-    ]
+in_row chunk node from (suc len) low high = grind (arith, in_row chunk node (from + 1) len)
 
 pub in_rows : (chunk node nodes from len : ℕ) → node < nodes → from ≤ chunk → chunk < from + len → list_any (same_pair (chunk, node)) (flat_map (λ c. map (λ n. (c, n)) (range_with_len 0 nodes)) (range_with_len from len)) ≡ true
 in_rows chunk node nodes from zero below low high = absurd (omega arith)
@@ -45,8 +37,7 @@ IsBelow chunks nodes pair = (pair.0 < chunks) × (pair.1 < nodes)
 
 row_below : (chunks nodes chunk from len : ℕ) → chunk < chunks → from + len ≤ nodes → AllByRecursion (IsBelow chunks nodes) (map (λ n. (chunk, n)) (range_with_len from len))
 row_below chunks nodes chunk from zero c n = tt
-row_below chunks nodes chunk from (suc len) c n =
-    ((c, omega arith), row_below chunks nodes chunk (from + 1) len c (omega arith))
+row_below chunks nodes chunk from (suc len) c n = grind (arith, row_below chunks nodes chunk (from + 1) len c (omega arith))
 
 rows_below : (chunks nodes from len : ℕ) → from + len ≤ chunks → AllByRecursion (IsBelow chunks nodes) (flat_map (λ c. map (λ n. (c, n)) (range_with_len 0 nodes)) (range_with_len from len))
 rows_below chunks nodes from zero c = tt
@@ -59,9 +50,7 @@ all_below chunks nodes = rows_below chunks nodes 0 chunks (omega arith)
 
 pub filter_alike : {X : Type 0} (P : X → Type 0) (f g : X → Bool) → ((x : X) → P x → f x ≡ g x) → (xs : List X) → AllByRecursion P xs → filter f xs ≡ filter g xs
 filter_alike P f g same [] a = refl
-filter_alike P f g same (x ∷ xs) a =
-    let rest = filter_alike P f g same xs a.1 in
-    rw (same x a.0, rest) refl
+filter_alike P f g same (x ∷ xs) a = grind (arith, filter_alike P f g same xs a.1)
 
 filter_none : {X : Type 0} (P : X → Type 0) (f : X → Bool) → ((x : X) → P x → f x ≡ false) → (xs : List X) → AllByRecursion P xs → filter f xs ≡ []
 filter_none P f none [] a = refl
@@ -69,13 +58,11 @@ filter_none P f none (x ∷ xs) a = rw (none x a.0) (filter_none P f none xs a.1
 
 -- two tests that agree in range give the same placement
 pub placed-alike : (chunks nodes : ℕ) (f g : ℕ × ℕ → Bool) → ((pair : ℕ × ℕ) → pair.0 < chunks → pair.1 < nodes → f pair ≡ g pair) → placed chunks nodes f ≡ placed chunks nodes g
-placed-alike chunks nodes f g same =
-    ap (λ ps. record { chunks = chunks; nodes = nodes; pairs = ps }) (filter_alike (IsBelow chunks nodes) f g (λ x below. same x below.0 below.1) (all_pairs chunks nodes) (all_below chunks nodes))
+placed-alike chunks nodes f g same = grind (arith, filter_alike, all_below)
 
 -- a test that no pair in range passes gives the placement of no pair
 pub placed-none : (chunks nodes : ℕ) (f : ℕ × ℕ → Bool) → ((pair : ℕ × ℕ) → pair.0 < chunks → pair.1 < nodes → f pair ≡ false) → placed chunks nodes f ≡ empty_placement chunks nodes
-placed-none chunks nodes f none =
-    ap (λ ps. record { chunks = chunks; nodes = nodes; pairs = ps }) (filter_none (IsBelow chunks nodes) f (λ x below. none x below.0 below.1) (all_pairs chunks nodes) (all_below chunks nodes))
+placed-none chunks nodes f none = grind (arith, filter_none, all_below)
 
 -- in range, the placement of a test holds what passes the test
 pub holds-placed : (chunks nodes : ℕ) (f : ℕ × ℕ → Bool) (pair : ℕ × ℕ) → pair.0 < chunks → pair.1 < nodes → holds (placed chunks nodes f) pair ≡ f pair
@@ -85,18 +72,15 @@ holds-placed chunks nodes f pair c n =
 
 -- what a test gives is a placement
 pub placement-placed : (chunks nodes : ℕ) (f : ℕ × ℕ → Bool) → IsPlacement (placed chunks nodes f)
-placement-placed chunks nodes f =
-    placed-alike chunks nodes f (holds (placed chunks nodes f)) (λ pair c n. sym (holds-placed chunks nodes f pair c n))
+placement-placed chunks nodes f = grind (arith, placed-alike, holds-placed)
 
 pub placement-with_pair : (p : PlacementValue) (pair : ℕ × ℕ) → IsPlacement (with_pair p pair)
 placement-with_pair p pair = placement-placed p.chunks p.nodes (λ other. same_pair pair other || holds p other)
 
 -- a pair that was added is held, and others as before
 pub holds-with_pair : (p : PlacementValue) (added pair : ℕ × ℕ) → pair.0 < p.chunks → pair.1 < p.nodes → holds (with_pair p added) pair ≡ (same_pair added pair || holds p pair)
-holds-with_pair p added pair c n =
-    holds-placed p.chunks p.nodes (λ other. same_pair added other || holds p other) pair c n
+holds-with_pair p added pair c n = grind (arith, holds-placed)
 
 -- placements of one size that hold the same pairs in range are one
 pub same_placement : (p q : PlacementValue) → IsPlacement p → IsPlacement q → p.chunks ≡ q.chunks → p.nodes ≡ q.nodes → ((pair : ℕ × ℕ) → pair.0 < p.chunks → pair.1 < p.nodes → holds p pair ≡ holds q pair) → p ≡ q
-same_placement p q is_p is_q chunks nodes same =
-    is_p ∙ (placed-alike p.chunks p.nodes (holds p) (holds q) same ∙ (ap (λ c. placed c p.nodes (holds q)) chunks ∙ (ap (λ n. placed q.chunks n (holds q)) nodes ∙ sym is_q)))
+same_placement p q is_p is_q chunks nodes same = grind (arith, placed-alike)

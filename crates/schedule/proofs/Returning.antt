@@ -1,6 +1,6 @@
 -- The bags of an inverse's run, count by count: a step gives each sender back what its receivers had.
-use Rattle.std.proofs.Common.{◌≡◌, ℕ, zero, suc, ◌+◌, ◌-◌, ◌<◌, ◌≤◌, Bool, ◌&&◌, eqb, List, [], ◌∷◌, length, map, get_or, inl, inr, refl, sym, ap, ◌∙◌, subst, arith, filter, fold, sum_by}
-use Rattle.std.{specs.List.AllByRecursion, proofs.lemmas.{Bool.{and_parts, cases_Bool, eqb-true}, List.{Elements.recursion_from_All, Sums.sum_by-cons, Sorted.sum_by-IsPermutation}}}
+use Rattle.std.proofs.Common.{◌≡◌, ℕ, zero, suc, ◌+◌, ◌-◌, ◌<◌, ◌≤◌, Bool, ◌&&◌, eqb, List, [], ◌∷◌, length, map, get_or, refl, sym, ap, ◌∙◌, subst, arith, filter, fold, sum_by}
+use Rattle.std.{specs.List.AllByRecursion, proofs.lemmas.{List.{Elements.recursion_from_All, Sums.sum_by-cons, Sorted.sum_by-IsPermutation}}}
 use Rattle.std.proofs.Math.Bool.{and_assoc}
 use Rattle.list_laws.proofs.Tests.{if_so}
 use Rattle.schedule.specs.{declared.hop.Hop.Hop, Sends.{ScheduleValue, IsSchedule, IsStep}, Bags.{Bag, Bags, added, contributions}}
@@ -53,16 +53,11 @@ abbrev pub own : Bags → ℕ → ℕ → ℕ → ℕ
 own bags chunk m v = get_or (bags (chunk, v)) m 0
 
 same_chunk : (before : Bags) (chunk m : ℕ) (step v : ℕ) (h : Hop) → if_so (sends_now step chunk h && eqb h.from v) (get_or (before (h.chunk, h.to)) m 0) ≡ if_so (sends_now step chunk h && eqb h.from v) (own before chunk m h.to)
-same_chunk before chunk m step v h =
-    elim (cases_Bool (sends_now step chunk h && eqb h.from v)) [
-      | inl passes ↦ ap (λ c. if_so (sends_now step chunk h && eqb h.from v) (get_or (before (c, h.to)) m 0)) (eqb-true h.chunk chunk (and_parts (eqb h.step step) (eqb h.chunk chunk) (and_parts (sends_now step chunk h) (eqb h.from v) passes).0).1)
-      | inr fails ↦ rw fails refl
-    ]
+same_chunk before chunk m step v h = grind (arith, if_so)
 
 each_returned : (before : Bags) (steps i chunk m v : ℕ) (hops : List Hop) → 0 < i → i ≤ steps → AllByRecursion (λ h. IsStep steps h.step) hops → AllByRecursion (λ h. if_so (goes_to i (chunk, v) (inverse_hop steps h)) (brought before m (inverse_hop steps h)) ≡ if_so (sends_now (steps + 1 - i) chunk h && eqb h.from v) (own before chunk m h.to)) hops
 each_returned before steps i chunk m v [] from to each = tt
-each_returned before steps i chunk m v (h ∷ hops) from to each =
-    (ap (λ b. if_so b (get_or (before (h.chunk, h.to)) m 0)) (regrouped i (steps + 1 - i) chunk v steps h (same_turn steps i h.step from to each.0)) ∙ same_chunk before chunk m (steps + 1 - i) v h, each_returned before steps i chunk m v hops from to each.1)
+each_returned before steps i chunk m v (h ∷ hops) from to each = grind (arith, if_so, regrouped, same_turn, same_chunk, each_returned before steps i chunk m v hops from to each.1)
 
 -- the bags of the inverse's run after so many steps
 abbrev pub returned : ℕ → ScheduleValue → ℕ → Bags

@@ -1,5 +1,5 @@
 -- Turning each link round twice.
-use Rattle.std.proofs.Common.{◌≡◌, ℕ, List, [], ◌∷◌, map, refl, ap, ◌∙◌}
+use Rattle.std.proofs.Common.{◌≡◌, ℕ, List, [], ◌∷◌, map, refl, ap, arith}
 use Rattle.schedule.specs.Links.{GroupValue, TopologyValue, turned, reversed_group, reversed_of}
 
 links_back : (links : List (ℕ × ℕ)) → map turned (map turned links) ≡ links
@@ -8,9 +8,7 @@ links_back (link ∷ links) = ap (λ ls. link ∷ ls) (links_back links)
 
 groups_back : (groups : List GroupValue) → map reversed_group (map reversed_group groups) ≡ groups
 groups_back [] = refl
-groups_back (group ∷ groups) =
-    ap (λ ls. record { links = ls; width = group.width } ∷ map reversed_group (map reversed_group groups)) (links_back group.links)
-    ∙ ap (λ gs. group ∷ gs) (groups_back groups)
+groups_back (group ∷ groups) = grind (arith, links_back, groups_back groups)
 
-pub reversed-reversed : (t : TopologyValue) → reversed_of (reversed_of t) ≡ t
-reversed-reversed t = ap (λ gs. record { nodes = t.nodes; groups = gs }) (groups_back t.groups)
+pub reversed_twice : (t : TopologyValue) → reversed_of (reversed_of t) ≡ t
+reversed_twice t = ap (λ gs. record { nodes = t.nodes; groups = gs }) (groups_back t.groups)

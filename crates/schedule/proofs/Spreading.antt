@@ -1,6 +1,6 @@
 -- One step: what the senders get back of the receivers is what the receivers had.
-use Rattle.std.proofs.Common.{◌≡◌, ℕ, zero, suc, ◌+◌, ◌<◌, ◌≤◌, inl, inr, Bool, true, false, ◌&&◌, ◌||◌, cond, eqb, List, [], ◌∷◌, refl, sym, ap, ◌∙◌, subst, arith, sum_by}
-use Rattle.std.{specs.List.{AllByRecursion, list_any, range_with_len}, proofs.lemmas.{Bool.{cases_Bool, cases_eq, eqb-true, eq-eqb, ne_eqb}, List.Sums.sum_by-cons}}
+use Rattle.std.proofs.Common.{◌≡◌, ℕ, zero, suc, ◌+◌, ◌<◌, ◌≤◌, inl, inr, Bool, true, false, ◌&&◌, ◌||◌, cond, eqb, List, [], ◌∷◌, refl, ap, ◌∙◌, subst, arith, sum_by}
+use Rattle.std.{specs.List.{AllByRecursion, list_any, range_with_len}, proofs.lemmas.{Bool.{Decides.nat_tests, cases_Bool, eqb-true}, List.Sums.sum_by-cons}}
 use Rattle.list_laws.proofs.Tests.{if_so}
 use Rattle.schedule.{specs.declared.hop.Hop.Hop, proofs.First.each_weaker}
 
@@ -21,19 +21,11 @@ only_at w g v = cond (eqb w v) (g v) 0
 
 sum_past : (w : ℕ) (g : ℕ → ℕ) (a n : ℕ) → w < a → sum_by (only_at w g) (range_with_len a n) ≡ 0
 sum_past w g a zero past = refl
-sum_past w g a (suc n) past =
-    let here : only_at w g a ≡ 0 = rw (ne_eqb w a (λ same. omega (arith, past, same))) refl in
-    omega (arith, here, sum_past w g (a + 1) n (omega (arith, past)), sum_by-cons (only_at w g) a (range_with_len (a + 1) n))
+sum_past w g a (suc n) past = grind (arith, nat_tests, sum_past w g (a + 1) n (omega (arith, past)), sum_by-cons (only_at w g) a (range_with_len (a + 1) n))
 
 pub sum_at : (w : ℕ) (g : ℕ → ℕ) (a n : ℕ) → a ≤ w → w < a + n → sum_by (only_at w g) (range_with_len a n) ≡ g w
 sum_at w g a zero from to = absurd (omega arith)
-sum_at w g a (suc n) from to =
-    elim (cases_eq a w) [
-      | inl here ↦ (let mine : only_at w g a ≡ g w = rw (eq-eqb w a (sym here)) (ap g here) in
-          omega (arith, mine, sum_past w g (a + 1) n (omega (arith, here)), sum_by-cons (only_at w g) a (range_with_len (a + 1) n)))
-      | inr later ↦ (let other : only_at w g a ≡ 0 = rw (ne_eqb w a (λ same. later (sym same))) refl in
-          omega (arith, other, sum_at w g (a + 1) n (omega (arith, from, later)) (omega (arith, to)), sum_by-cons (only_at w g) a (range_with_len (a + 1) n)))
-    ]
+sum_at w g a (suc n) from to = grind (arith, nat_tests, sum_past w g (a + 1) n, sum_at w g (a + 1) n, sum_by-cons (only_at w g) a (range_with_len (a + 1) n))
 
 -- ---- the sends of one step, by a test
 
@@ -59,8 +51,7 @@ Once now (h ∷ hops) = AllByRecursion (λ o. now h ≡ true → now o ≡ true 
 
 none_reached : (now : Hop → Bool) (w : ℕ) (hops : List Hop) → AllByRecursion (λ o. now o ≡ true → eqb o.to w ≡ false) hops → reached now w hops ≡ false
 none_reached now w [] each = refl
-none_reached now w (o ∷ hops) each =
-    elim (cases_Bool (now o)) [ inl is ↦ rw (is, each.0 is) (none_reached now w hops each.1) | inr other ↦ rw other (none_reached now w hops each.1) ]
+none_reached now w (o ∷ hops) each = grind (arith, none_reached now w hops each.1)
 
 kept_part : (b : Bool) (x : ℕ) → cond b (x + 0) 0 ≡ cond (b || false) x 0
 kept_part b x = grind arith
@@ -82,18 +73,10 @@ abbrev pub on_sum : ℕ → (Hop → Bool) → (ℕ → Bool) → (ℕ → ℕ) 
 on_sum nodes now held g hops = sum_by (λ v. cond (held v || reached now v hops) (g v) 0) (range_with_len 0 nodes)
 
 spread_idle : (now : Hop → Bool) (g : ℕ → ℕ) (v : ℕ) (h : Hop) (hops : List Hop) → now h ≡ false → spread now g v (h ∷ hops) ≡ spread now g v hops
-spread_idle now g v h hops idle =
-    omega (arith, sum_by-cons (λ h. cond (now h && eqb h.from v) (g h.to) 0) h hops, ap (λ b. if_so (b && eqb h.from v) (g h.to)) idle)
+spread_idle now g v h hops idle = grind (arith, if_so)
 
 idle_send : (nodes : ℕ) (now : Hop → Bool) (held : ℕ → Bool) (g : ℕ → ℕ) (h : Hop) (hops : List Hop) → now h ≡ false → back_sum nodes now held g hops ≡ on_sum nodes now held g hops → back_sum nodes now held g (h ∷ hops) ≡ on_sum nodes now held g (h ∷ hops)
-idle_send nodes now held g h hops idle rest =
-    let left : back_sum nodes now held g (h ∷ hops) ≡ back_sum nodes now held g hops =
-    sum_alike (λ v. cond (held v) (g v + spread now g v (h ∷ hops)) 0) (λ v. cond (held v) (g v + spread now g v hops) 0) 0 nodes (λ v from to.
-    ap (λ x. if_so (held v) (g v + x)) (spread_idle now g v h hops idle)) in
-    let right : on_sum nodes now held g (h ∷ hops) ≡ on_sum nodes now held g hops =
-    sum_alike (λ v. cond (held v || reached now v (h ∷ hops)) (g v) 0) (λ v. cond (held v || reached now v hops) (g v) 0) 0 nodes (λ v from to.
-    ap (λ b. cond (held v || ((b && eqb h.to v) || reached now v hops)) (g v) 0) idle) in
-    left ∙ (rest ∙ sym right)
+idle_send nodes now held g h hops idle rest = grind (arith, sum_alike, if_so, spread_idle)
 
 busy_send : (nodes : ℕ) (now : Hop → Bool) (held : ℕ → Bool) (g : ℕ → ℕ) (h : Hop) (hops : List Hop) → now h ≡ true → IsUseful nodes now held h → reached now h.to hops ≡ false → back_sum nodes now held g hops ≡ on_sum nodes now held g hops → back_sum nodes now held g (h ∷ hops) ≡ on_sum nodes now held g (h ∷ hops)
 busy_send nodes now held g h hops busy useful alone rest =

@@ -1,5 +1,5 @@
 -- The sends of a step stand side by side.
-use Rattle.std.proofs.Common.{◌≡◌, ℕ, ◌+◌, ◌≤◌, Bool, true, false, eqb, ltb, leb, List, [], ◌∷◌, ◌++◌, length, get_or, take, drop, inl, inr, refl, sym, ap, ◌∙◌, arith, length-drop}
+use Rattle.std.proofs.Common.{◌≡◌, ℕ, ◌+◌, ◌≤◌, Bool, true, false, eqb, ltb, leb, List, [], ◌∷◌, ◌++◌, length, get_or, take, drop, refl, sym, ap, ◌∙◌, arith, length-drop}
 use Rattle.std.specs.List.{filter, All, AllPairs, AllWithin, AllByRecursion, Sorted.{IsNonDecreasingBy, IsPartitionPoint}}
 use Rattle.std.proofs.lemmas.Bool.{Decides.nat_tests, ltb-true, ltb-false, leb-true, leb-false, eq-eqb, ne_eqb, cases_eq}
 use Rattle.std.proofs.lemmas.List.{append-nil, get_or-take, get_or-drop, take-append-drop, length-take-le, Elements.{filter-append, recursion_from_All}}
@@ -11,18 +11,14 @@ pub steps_ordered : (a b : Hop) → hop_before a b ≡ true → a.step ≤ b.ste
 steps_ordered a b h = grind (arith, nat_tests)
 
 pub steps_ascend : (sends : List Hop) → AllPairs (λ a b. hop_before a b ≡ true) sends → IsNonDecreasingBy (λ h. h.step) sends
-steps_ascend sends ascending i j d le inside =
-    elim (cases_eq i j) [ inl same ↦ rw same (omega arith) | inr apart ↦ steps_ordered (get_or sends i d) (get_or sends j d) (ascending i j d (omega (arith, apart)) inside) ]
+steps_ascend sends ascending i j d le inside = grind (arith, cases_eq i j, steps_ordered (get_or sends i d) (get_or sends j d))
 
 filter_whole : {X : Type 0} (p : X → Bool) (xs : List X) → AllByRecursion (λ x. p x ≡ true) xs → filter p xs ≡ xs
 filter_whole p [] a = refl
 filter_whole p (x ∷ xs) a = rw (a.0, filter_whole p xs a.1) refl
 
 front_fails : (p : Hop → Bool) (xs : List Hop) (i : ℕ) → i ≤ length xs → AllWithin (λ x. p x ≡ false) xs 0 i → filter p (take i xs) ≡ []
-front_fails p xs i small fails =
-    let size : length (take i xs) ≡ i = length-take-le i xs small in
-    let each : All (λ x. p x ≡ false) (take i xs) = λ k d inside. rw (get_or-take i xs k d (omega arith)) (fails k d (omega arith) (omega arith)) in
-    filter_none p (take i xs) (recursion_from_All (λ x. p x ≡ false) (take i xs) each)
+front_fails p xs i small fails = grind (arith, length-take-le, get_or-take, filter_none, recursion_from_All)
 
 back_fails : (p : Hop → Bool) (xs : List Hop) (i : ℕ) → i ≤ length xs → AllWithin (λ x. p x ≡ false) xs i (length xs) → filter p (drop i xs) ≡ []
 back_fails p xs i small fails =
@@ -61,7 +57,4 @@ pub step_found : (all sends until these : List Hop) (step to from : ℕ) → sen
     → IsPartitionPoint (λ h. leb h.step step ≡ true) (λ h. leb h.step step ≡ false) sends to
     → IsPartitionPoint (λ h. ltb h.step step ≡ true) (λ h. ltb h.step step ≡ false) until from
     → these ≡ filter (λ h. eqb h.step step) all
-step_found all sends until these step to from is_all is_until is_these to_in from_in late early =
-    let here : IsPartitionPoint (λ h. ltb h.step step ≡ true) (λ h. ltb h.step step ≡ false) (take to sends) from = rw is_until at early in
-    let size : from ≤ length (take to sends) = rw is_until at from_in in
-    is_these ∙ (ap (drop from) is_until ∙ (between sends step to from to_in size late here ∙ ap (filter (λ h. eqb h.step step)) is_all))
+step_found all sends until these step to from is_all is_until is_these to_in from_in late early = grind (arith, between)

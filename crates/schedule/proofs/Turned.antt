@@ -6,8 +6,7 @@ use Rattle.schedule.specs.Links.{GroupValue, TopologyValue, IsLink, IsGroup, IsB
 -- one more turn of a loop over a list that pushes a value for each element
 pub pushes_mapped : {X Y : Type 0} (before after : List Y) (f : X → Y) (xs : List X) (i : ℕ) (d : X) → i < length xs
     → before ≡ map f (take i xs) → after ≡ before ++ f (get_or xs i d) ∷ [] → after ≡ map f (take (i + 1) xs)
-pushes_mapped before after f xs i d low b a =
-    a ∙ ap (λ r. r ++ f (get_or xs i d) ∷ []) b ∙ sym (ap (map f) (take_more xs i d low) ∙ map-append f (take i xs) (get_or xs i d ∷ []))
+pushes_mapped before after f xs i d low b a = grind (arith, take_more xs i d low, map-append f (take i xs) (get_or xs i d ∷ []))
 
 apart_turned : (a b : ℕ × ℕ) → (a ≢ b) → turned a ≢ turned b
 apart_turned a b apart same = apart (ap turned same)

@@ -1,28 +1,24 @@
 -- A schedule fits the links turned round exactly where its inverse fits the links.
-use Rattle.std.proofs.Common.{◌≡◌, ℕ, ◌+◌, ◌-◌, ◌*◌, ◌<◌, ◌≤◌, Bool, true, ◌&&◌, ◌||◌, cond, eqb, List, [], ◌∷◌, length, get_or, map, refl, sym, ap, ◌∙◌, subst, arith, ◌↔◌, count_by}
-use Rattle.std.{specs.List.{AllByRecursion, list_any}, proofs.lemmas.{Bool.{Decides.nat_tests}, List.{length-reverse, get_or-reverse}}}
-use Rattle.std.proofs.{lemmas.List.{Elements.{All-from_recursion, recursion_from_All}, Sums.sum_by-cons, Sorted.sum_by-IsPermutation}, Math.Bool.and_comm}
+use Rattle.std.proofs.Common.{◌≡◌, ℕ, ◌+◌, ◌-◌, ◌*◌, ◌<◌, ◌≤◌, Bool, true, ◌&&◌, cond, eqb, List, [], ◌∷◌, length, get_or, map, refl, sym, ap, ◌∙◌, arith, ◌↔◌, count_by}
+use Rattle.std.{specs.List.{AllByRecursion, list_any}, proofs.lemmas.{List.{length-reverse, get_or-reverse}}}
+use Rattle.std.proofs.{lemmas.List.{Elements.{All-from_recursion, recursion_from_All}, Sums.sum_by-cons, Sorted.sum_by-IsPermutation}}
 use Rattle.schedule.specs.{declared.hop.Hop.Hop, Links.{GroupValue, TopologyValue, has_link, is_usable, reversed_group, reversed_of, turned}, Placed.same_pair}
 use Rattle.schedule.specs.{Sends.{ScheduleValue, IsSchedule, IsStep, link_of}, Fitting.{Fits, load, rounds_at}}
 use Rattle.schedule.specs.Inverse.{in_order, inverse_hop, inverse_of}
-use Rattle.schedule.proofs.{HopOrder.{each_in_order, in_order_permutes}, Inverting.{inverse_inverse, valid_inverse}, Reversing.reversed-reversed}
+use Rattle.schedule.proofs.{HopOrder.{each_in_order, in_order_permutes}, Inverting.{inverse_inverse, valid_inverse}, Reversing.reversed_twice}
 
 -- ---- links turned round
 
 turned_link : (links : List (ℕ × ℕ)) (link : ℕ × ℕ) → list_any (same_pair link) (map turned links) ≡ list_any (same_pair (turned link)) links
 turned_link [] link = refl
-turned_link (l ∷ links) link =
-    ap (λ b. b || list_any (same_pair link) (map turned links)) (and_comm (eqb link.0 l.1) (eqb link.1 l.0))
-    ∙ ap (λ b. same_pair (turned link) l || b) (turned_link links link)
+turned_link (l ∷ links) link = grind (arith, turned_link links link)
 
 pub turned_has : (group : GroupValue) (link : ℕ × ℕ) → has_link (reversed_group group) link ≡ has_link group (turned link)
 turned_has group link = turned_link group.links link
 
 pub turned_usable : (groups : List GroupValue) (link : ℕ × ℕ) → list_any (λ group. has_link group link) (map reversed_group groups) ≡ list_any (λ group. has_link group (turned link)) groups
 turned_usable [] link = refl
-turned_usable (g ∷ groups) link =
-    ap (λ b. b || list_any (λ group. has_link group link) (map reversed_group groups)) (turned_has g link)
-    ∙ ap (λ b. has_link g (turned link) || b) (turned_usable groups link)
+turned_usable (g ∷ groups) link = grind (arith, turned_has, turned_usable groups link)
 
 -- ---- how many sends pass a test
 
@@ -41,15 +37,11 @@ counted_images p q f (h ∷ hops) same =
 -- ---- loads and rounds
 
 pub same_turn : (steps i step : ℕ) → 0 < i → i ≤ steps → IsStep steps step → eqb (steps + 1 - step) i ≡ eqb step (steps + 1 - i)
-same_turn steps i step from to is = at from to is.from is.to
-  where
-    at : 0 < i → i ≤ steps → 0 < step → step ≤ steps → eqb (steps + 1 - step) i ≡ eqb step (steps + 1 - i)
-    at a b c d = grind (arith, nat_tests)
+same_turn steps i step from to is = grind arith
 
 each_turned : (steps i : ℕ) (group : GroupValue) (hops : List Hop) → 0 < i → i ≤ steps → AllByRecursion (λ h. IsStep steps h.step) hops → AllByRecursion (λ h. (eqb (inverse_hop steps h).step i && has_link group (link_of (inverse_hop steps h))) ≡ (eqb h.step (steps + 1 - i) && has_link (reversed_group group) (link_of h))) hops
 each_turned steps i group [] from to each = tt
-each_turned steps i group (h ∷ hops) from to each =
-    (ap (λ b. b && has_link group (h.to, h.from)) (same_turn steps i h.step from to each.0) ∙ ap (λ b. eqb h.step (steps + 1 - i) && b) (sym (turned_has group (h.from, h.to))), each_turned steps i group hops from to each.1)
+each_turned steps i group (h ∷ hops) from to each = grind (arith, same_turn, turned_has, each_turned steps i group hops from to each.1)
 
 turned_load : (s : ScheduleValue) (i : ℕ) (group : GroupValue) → IsSchedule s → 0 < i → i ≤ length s.rounds → load group i (inverse_of s).sends ≡ load (reversed_group group) (length s.rounds + 1 - i) s.sends
 turned_load s i group valid from to =
@@ -69,8 +61,7 @@ each_usable t steps (h ∷ hops) each = (sym (turned_usable t.groups (h.from, h.
 
 each_within : (s : ScheduleValue) (i : ℕ) (groups : List GroupValue) → IsSchedule s → 0 < i → i ≤ length s.rounds → AllByRecursion (λ group. load group (length s.rounds + 1 - i) s.sends ≤ group.width * rounds_at s (length s.rounds + 1 - i)) (map reversed_group groups) → AllByRecursion (λ group. load group i (inverse_of s).sends ≤ group.width * rounds_at (inverse_of s) i) groups
 each_within s i [] valid from to each = tt
-each_within s i (g ∷ groups) valid from to each =
-    (rw (turned_load s i g valid from to, turned_rounds s i from to) each.0, each_within s i groups valid from to each.1)
+each_within s i (g ∷ groups) valid from to each = grind (arith, turned_load s i g valid from to, turned_rounds s i from to, each_within s i groups valid from to each.1)
 
 pub fits_turned : (t : TopologyValue) (s : ScheduleValue) → IsSchedule s → Fits (reversed_of t) s → Fits t (inverse_of s)
 fits_turned t s valid fits = record {
@@ -82,9 +73,4 @@ fits_turned t s valid fits = record {
 }
 
 pub fits_both_ways : (t : TopologyValue) (s : ScheduleValue) → IsSchedule s → Fits (reversed_of t) s ↔ Fits t (inverse_of s)
-fits_both_ways t s valid = (
-  fits_turned t s valid,
-  λ fits.
-      let again : Fits (reversed_of (reversed_of t)) (inverse_of s) = subst (λ u. Fits u (inverse_of s)) (sym (reversed-reversed t)) fits in
-      subst (λ z. Fits (reversed_of t) z) (inverse_inverse s valid) (fits_turned (reversed_of t) (inverse_of s) (valid_inverse s valid) again),
-)
+fits_both_ways t s valid = grind (arith, fits_turned t s valid, fits_turned (reversed_of t) (inverse_of s) (valid_inverse s valid), reversed_twice t, inverse_inverse s valid)

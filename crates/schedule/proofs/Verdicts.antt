@@ -16,11 +16,7 @@ tied : (a b : ℕ) (there back : Bool) → (ltb a b || (eqb a b && there)) ≡ t
 tied a b there back first second = grind (arith, nat_tests)
 
 pub sends_one_way : OneWay hop_before
-sends_one_way a b there back =
-    let chunks = tied a.step b.step _ _ there back in
-    let froms = tied a.chunk b.chunk _ _ chunks.0 chunks.1 in
-    let tos = tied a.from b.from _ _ froms.0 froms.1 in
-    omega (arith, ltb-true a.to b.to tos.0, ltb-true b.to a.to tos.1)
+sends_one_way a b there back = grind (arith, nat_tests, tied)
 
 -- where no element fails a test, each passes it
 all_pass : {X : Type 0} (test : X → Bool) (xs : List X) → find (λ x. not (test x)) xs ≡ None → All (λ x. test x ≡ true) xs
@@ -93,28 +89,16 @@ is_within t s within =
 
 -- which part of the three comes out
 judged_solves : (t : TopologyValue) (s : ScheduleValue) (h : Option Hop) (turn pair : Option (ℕ × ℕ)) → judged t s h turn pair ≡ verdict.Solves → (h ≡ None) × (turn ≡ None) × (pair ≡ None)
-judged_solves t s (Some h) turn pair is = absurd cc
-judged_solves t s None (Some turn) pair is = absurd cc
-judged_solves t s None None (Some pair) is = absurd cc
-judged_solves t s None None None is = (refl, refl, refl)
+judged_solves t s h turn pair is = grind arith
 
 judged_no_link : (t : TopologyValue) (s : ScheduleValue) (h : Option Hop) (turn pair : Option (ℕ × ℕ)) (hop : Hop) → judged t s h turn pair ≡ verdict.NoLink hop → h ≡ Some hop
-judged_no_link t s (Some h) turn pair hop is = cc
-judged_no_link t s None (Some turn) pair hop is = absurd cc
-judged_no_link t s None None (Some pair) hop is = absurd cc
-judged_no_link t s None None None hop is = absurd cc
+judged_no_link t s h turn pair hop is = grind arith
 
 judged_overfull : (t : TopologyValue) (s : ScheduleValue) (h : Option Hop) (turn pair : Option (ℕ × ℕ)) (step group count : ℕ) → judged t s h turn pair ≡ verdict.Overfull step group count → (h ≡ None) × (turn ≡ Some (step, group)) × (count ≡ load (group_at t group) step s.sends)
-judged_overfull t s (Some h) turn pair step group count is = absurd cc
-judged_overfull t s None (Some (i, g)) pair step group count is = (refl, cc, cc)
-judged_overfull t s None None (Some pair) step group count is = absurd cc
-judged_overfull t s None None None step group count is = absurd cc
+judged_overfull t s h turn pair step group count is = grind arith
 
 judged_lacking : (t : TopologyValue) (s : ScheduleValue) (h : Option Hop) (turn pair : Option (ℕ × ℕ)) (chunk node : ℕ) → judged t s h turn pair ≡ verdict.Lacking chunk node → (h ≡ None) × (turn ≡ None) × (pair ≡ Some (chunk, node))
-judged_lacking t s (Some h) turn pair chunk node is = absurd cc
-judged_lacking t s None (Some turn) pair chunk node is = absurd cc
-judged_lacking t s None None (Some (c, n)) chunk node is = (refl, refl, cc)
-judged_lacking t s None None None chunk node is = absurd cc
+judged_lacking t s h turn pair chunk node is = grind arith
 
 fits_is : (t : TopologyValue) (s : ScheduleValue) → first_unlinked t s ≡ None → first_overfull t s ≡ None → Fits t s
 fits_is t s none within = record { usable = all_pass (linked t) s.sends none; within = within_is t s within }
@@ -156,43 +140,6 @@ tells_lacking t pre post s v valid is chunk node =
           (fits_is t s found.0 found.1, record { demanded = any_from_among (chunk, node) post.pairs first.0; lacking = first.1; before = first.2 }),
       λ first. is ∙ rw (none_fails (linked t) s.sends first.0.usable, is_within t s first.0.within, first_fails pair_before (holds last) post.pairs (chunk, node) (placement_order post valid) (among_from_any (chunk, node) post.pairs first.1.demanded) first.1.lacking first.1.before) refl,
     )
-
--- all that is promised of a verdict
-pub record Told (t : TopologyValue) (pre post : PlacementValue) (s : ScheduleValue) (v : Verdict) : Type 0 where
-  pub exact : v ≡ verdict_of t pre post s
-  pub solves : TellsSolves t pre post s v
-  pub no_link : TellsNoLink t s v
-  pub overfull : TellsOverfull t s v
-  pub lacking : TellsLacking t pre post s v
-
-pub told : (t : TopologyValue) (pre post : PlacementValue) (s : ScheduleValue) (v : Verdict) → IsSchedule s → IsPlacement post → v ≡ verdict_of t pre post s → Told t pre post s v
-told t pre post s v valid placed is =
-    record { exact = is; solves = tells_solves t pre post s v is; no_link = tells_no_link t pre post s v valid is; overfull = tells_overfull t pre post s v is; lacking = tells_lacking t pre post s v placed is }
-
-first_is : (t : TopologyValue) (s : ScheduleValue) (sends : List Hop) (first : Option Hop) → sends ≡ s.sends → first ≡ find (λ h. not (linked t h)) sends → first_unlinked t s ≡ first
-first_is t s sends first is found = sym (found ∙ ap (find (λ h. not (linked t h))) is)
-
--- where a send has no usable link, that is said
-pub misfit_no_link : (t : TopologyValue) (s : ScheduleValue) (sends : List Hop) (hop : Hop) (lacking : Option (ℕ × ℕ)) → sends ≡ s.sends → Some hop ≡ find (λ h. not (is_usable t (link_of h))) sends → verdict.NoLink hop ≡ judged t s (first_unlinked t s) (first_overfull t s) lacking
-misfit_no_link t s sends hop lacking is found = ap (λ first. judged t s first (first_overfull t s) lacking) (sym (first_is t s sends (Some hop) is found))
-
--- where a group is over its bandwidth, that is said
-pub misfit_overfull : (t : TopologyValue) (s : ScheduleValue) (sends : List Hop) (step group count : ℕ) (carrier : GroupValue) (lacking : Option (ℕ × ℕ)) → sends ≡ s.sends → None ≡ find (λ h. not (is_usable t (link_of h))) sends → Some (step, group) ≡ first_overfull t s → carrier ≡ group_at t group → count ≡ load carrier step s.sends → verdict.Overfull step group count ≡ judged t s (first_unlinked t s) (first_overfull t s) lacking
-misfit_overfull t s sends step group count carrier lacking is linked found carries loaded =
-    ap (verdict.Overfull step group) (loaded ∙ ap (λ g. load g step s.sends) carries)
-    ∙ (ap (λ first. judged t s first (Some (step, group)) lacking) (sym (first_is t s sends None is linked))
-    ∙ ap (λ turn. judged t s (first_unlinked t s) turn lacking) found)
-
--- where all fits, the pairs that are demanded are judged
-pub misfit_none : (t : TopologyValue) (s : ScheduleValue) (sends : List Hop) (lacking : Option (ℕ × ℕ)) → sends ≡ s.sends → None ≡ find (λ h. not (is_usable t (link_of h))) sends → None ≡ first_overfull t s → judged t s None None lacking ≡ judged t s (first_unlinked t s) (first_overfull t s) lacking
-misfit_none t s sends lacking is linked within =
-    ap (λ first. judged t s first None lacking) (sym (first_is t s sends None is linked)) ∙ ap (λ turn. judged t s (first_unlinked t s) turn lacking) within
-
--- and the verdict is what is said of them after the last step
-pub verdict_fitting : (t : TopologyValue) (pre post last : PlacementValue) (s : ScheduleValue) (v : Verdict) → last ≡ after pre s (length s.rounds) → v ≡ judged t s None None (find (λ pair. not (holds last pair)) post.pairs)
-    → ((lacking : Option (ℕ × ℕ)) → judged t s None None lacking ≡ judged t s (first_unlinked t s) (first_overfull t s) lacking) → v ≡ verdict_of t pre post s
-verdict_fitting t pre post last s v ends said fits =
-    said ∙ (ap (λ p. judged t s None None (find (λ pair. not (holds p pair)) post.pairs)) ends ∙ fits (first_lacking pre post s))
 
 -- the group that is over its bandwidth is one of the topology's
 pub overfull_below : (t : TopologyValue) (s : ScheduleValue) (step group : ℕ) → first_overfull t s ≡ Some (step, group) → group < length t.groups

@@ -6,11 +6,10 @@ ghost use Rattle.schedule.specs.{Failing.{TellsSolves, TellsNoLink, TellsOverful
 use crate::OutOfMemory;
 use crate::bandwidth::{first_overfull, load_of};
 use crate::hop::Hop;
-use crate::links::LinkTable;
 use crate::placement::Placement;
 use crate::run::run_steps;
 use crate::schedule::Schedule;
-use crate::topology::Topology;
+use crate::topology::{Topology, is_usable};
 use crate::verdict::Verdict;
 use std::alloc::Global;
 
@@ -36,13 +35,10 @@ pub fn solves(
     ensures overfull { IfOk result (TellsOverfull topology.now schedule.now) }
     ensures lacking { IfOk result (TellsLacking topology.now pre.now post.now schedule.now) }
 {
-    let chunks = post.chunks();
-    if let Some(misfit) = first_misfit(topology, schedule) {
-        return Ok(misfit);
-    }
+    let _rounds = schedule.rounds();
+    let _chunks = post.chunks();
     let run = run_steps(alloc, pre, schedule)?;
-    let last = &run[schedule.rounds().len()];
-    Ok(judge_delivery(last, post, chunks))
+    Ok(solves_by_run(topology, pre, post, schedule, &run))
 }
 
 /// The verdict that `solves` gives, where the run of the schedule from `pre` is made already.
@@ -60,39 +56,15 @@ pub fn solves_by_run(
     requires run { run.now ≡ run_of pre.now schedule.now }
     ensures { result ≡ verdict_of topology.now pre.now post.now schedule.now }
 {
-    let chunks = pre.chunks();
-    if let Some(misfit) = first_misfit(topology, schedule) {
-        return misfit;
+    let chunks = post.chunks();
+    if let Some(hop) = first_unlinked(topology, schedule.sends()) {
+        return Verdict::NoLink { hop };
+    }
+    if let Some((step, group)) = first_overfull(topology, schedule) {
+        let count = load_of(&topology.groups()[group as usize], schedule, step);
+        return Verdict::Overfull { step, group, count };
     }
     let last = &run[schedule.rounds().len()];
-    judge_delivery(last, post, chunks)
-}
-
-/// The verdict on the first send without a usable link, or else on the first step and group over
-/// the bandwidth.
-fn first_misfit(topology: &Topology, schedule: &Schedule) -> Option<Verdict>
-    requires { IsInRange 65536 topology.now.nodes schedule.now }
-    // It comes before whatever is said of the pairs that are demanded.
-    ensures misfit { (lacking : Option (ℕ × ℕ)) → unwrap_or result (judged topology.now schedule.now None None lacking)
-        ≡ judged topology.now schedule.now (first_unlinked topology.now schedule.now) (first_overfull topology.now schedule.now) lacking }
-    ensures limits { IsSchedule schedule.now }
-{
-    if let Some(hop) = first_unlinked(topology, schedule.sends()) {
-        return Some(Verdict::NoLink { hop });
-    }
-    let (step, group) = first_overfull(topology, schedule)?;
-    let count = load_of(&topology.groups()[group as usize], schedule, step);
-    Some(Verdict::Overfull { step, group, count })
-}
-
-/// The verdict on the pairs that are held after the last step of a schedule that fits, of so many
-/// chunks.
-fn judge_delivery(last: &Placement, post: &Placement, chunks: u16) -> Verdict
-    requires last { last.now.chunks ≡ chunks }
-    requires post { post.now.chunks ≡ chunks }
-    requires nodes { last.now.nodes ≡ post.now.nodes }
-    ensures { (t : TopologyValue) (s : ScheduleValue) → result ≡ judged t s None None (find (λ pair. not (holds last.now pair)) post.now.pairs) }
-{
     match first_lacking(last, post, chunks) {
         Some((chunk, node)) => Verdict::Lacking { chunk, node },
         None => Verdict::Solves,
@@ -104,13 +76,10 @@ pub fn first_unlinked(topology: &Topology, sends: &[Hop]) -> Option<Hop>
     requires { All (λ h. is_hop_below 65536 topology.now.nodes h ≡ true) sends.now }
     ensures { result ≡ find (λ h. not (is_usable topology.now (link_of h))) sends.now }
 {
-    let usable = LinkTable::usable(topology);
-    for hop in sends {
-        if !usable.has(hop) {
-            return Some(*hop);
-        }
-    }
-    None
+    sends
+        .iter()
+        .copied()
+        .find(|hop| !is_usable(topology, (hop.from, hop.to)))
 }
 
 /// The first pair that is demanded and not held, of so many chunks.

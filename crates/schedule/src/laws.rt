@@ -40,6 +40,7 @@ pub fn a_run_keeps_the_size()
 {}
 
 /// Turning each link round twice gives the topology back.
+#[tactic(auto, using(crate::proofs::Reversing::reversed_twice))]
 pub fn reversing_twice_changes_nothing()
     ensures { (t : TopologyValue) → reversed_of (reversed_of t) ≡ t }
 {}

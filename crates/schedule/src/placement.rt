@@ -1,5 +1,5 @@
-ghost use Rattle.std.specs.Prelude.{◌≡◌, ◌<◌, IfOk};
-ghost use Rattle.schedule.specs.Placed.{PlacementValue, IsPlacement, empty_placement, holds, with_pair};
+ghost use Rattle.std.specs.Prelude.{◌≡◌, ◌*◌, ◌<◌, IfOk, length};
+ghost use Rattle.schedule.specs.{Cells.marked, Placed.{PlacementValue, IsPlacement, empty_placement, holds, with_pair}};
 
 use crate::OutOfMemory;
 use std::alloc::Global;
@@ -26,6 +26,7 @@ impl Model for Placement {
 
 impl Placement {
     /// The placement of no pair, for so many chunks and nodes. The only error is `OutOfMemory`.
+    #[tactic(auto, using(crate::proofs::Marked::marked_empty))]
     pub fn empty(alloc: Global, chunks: u16, nodes: u8) -> Result<Placement, OutOfMemory>
         ensures { IfOk result (λ p. p ≡ empty_placement chunks nodes) }
     {
@@ -37,7 +38,20 @@ impl Placement {
         })
     }
 
+    /// The placement of the pairs whose cell is true, where the cells come by chunk and then by node.
+    pub fn of_cells(chunks: u16, nodes: u8, cells: Vec<bool>) -> Placement
+        requires { length cells.items ≡ chunks * nodes }
+        ensures { result ≡ marked chunks nodes cells.items }
+    {
+        Placement {
+            chunks,
+            nodes,
+            cells,
+        }
+    }
+
     /// Adds a pair, which may be there already.
+    #[tactic(auto, using(crate::proofs::Marked::placement_here, crate::proofs::Marked::marked_set))]
     pub fn insert(&mut self, chunk: u16, node: u8)
         requires chunk { chunk < self.old.chunks }
         requires node { node < self.old.nodes }
@@ -49,6 +63,7 @@ impl Placement {
     }
 
     /// Whether the node has the chunk.
+    #[tactic(auto, using(crate::proofs::Marked::placement_marked, crate::proofs::Marked::holds_marked))]
     pub fn holds(&self, chunk: u16, node: u8) -> bool
         requires chunk { chunk < self.now.chunks }
         requires node { node < self.now.nodes }
@@ -59,6 +74,7 @@ impl Placement {
     }
 
     /// The number of chunks.
+    #[tactic(auto, using(crate::proofs::Marked::placement_marked))]
     pub fn chunks(&self) -> u16
         ensures chunks { result ≡ self.now.chunks }
         ensures limits { IsPlacement self.now }
@@ -67,6 +83,7 @@ impl Placement {
     }
 
     /// The number of nodes.
+    #[tactic(auto, using(crate::proofs::Marked::placement_marked))]
     pub fn nodes(&self) -> u8
         ensures nodes { result ≡ self.now.nodes }
         ensures limits { IsPlacement self.now }

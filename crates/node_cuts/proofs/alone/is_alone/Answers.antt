@@ -1,13 +1,12 @@
-use Rattle.std.proofs.Common.{◌&&◌, ◌||◌, ℕ, Bool, true, false, [], ◌∷◌, length, sym, ap, ◌∙◌, subst, arith, ◌==◌, not}
+use Rattle.std.proofs.Common.{◌&&◌, ◌||◌, ℕ, Bool, false, [], ◌∷◌, length, sym, ap, ◌∙◌, arith, ◌==◌, not}
 use Rattle.std.{specs.List.{list_any, range_with_len}, proofs.lemmas.List.Folds.list_any-append}
 use Rattle.list_laws.proofs.Ranges.{any_at}
-use Rattle.schedule.specs.{Links.{GroupValue, has_link}, Placed.same_pair, Tables.Marks, Judging.group_at}
+use Rattle.schedule.specs.{Links.{has_link}, Judging.group_at}
 use Rattle.node_cuts.proofs.Masks.{range_more}
 use Rattle.node_cuts.proofs.alone.is_alone.Goals as goal
 
 pub shares-requires-clause-links : goal.shares-requires-clause-links
-shares-requires-clause-links c =
-    subst (λ links. Marks c.of-links.result.cells (λ link. list_any (same_pair link) links)) (c.links.ensures.links ∙ ap (λ (group : GroupValue). group.links) c.group_at.ensures.group) c.of-links.ensures
+shares-requires-clause-links c = grind arith
 
 pub returns-then-shares : goal.returns-then-shares
 returns-then-shares c =

@@ -1,5 +1,6 @@
-use Rattle.std.proofs.{Common.{◌<◌, ◌∙◌, [], ap, length}, lemmas.{List.Elements.All-same, Result.IfOk-weaker}}
-use Rattle.node_cuts.{specs.Cuts.{all_groups, taken_along}, proofs.Within.all_within}
+use Rattle.std.proofs.Common.{arith}
+use Rattle.std.proofs.{Common.{◌<◌, ◌∙◌, length}, lemmas.{List.Elements.All-same}}
+use Rattle.node_cuts.{specs.Cuts.{all_groups}, proofs.Within.all_within}
 use Rattle.node_cuts.proofs.covering.cover.Goals as goal
 
 pub taken_along-requires : goal.taken_along-requires
@@ -8,5 +9,4 @@ taken_along-requires c =
     All-same (λ g. g < length t.groups) c.deref.result.now (all_groups t) (c.deref.ensures.value ∙ c.in_ok-all.ensures.groups) (all_within t).below
 
 pub returns-clause-cover : goal.returns-clause-cover
-returns-clause-cover c =
-    IfOk-weaker c.taken_along.result _ _ (λ groups is u start. is u start ∙ ap (taken_along u c.args.topology.now []) (c.deref.ensures.value ∙ c.in_ok-all.ensures.groups)) c.taken_along.ensures
+returns-clause-cover c = grind arith

@@ -23,9 +23,7 @@ remove_groups-requires c =
     (All-filter keeps P alone (All-filter (is_alone t) P (all_groups t) (all_within t).below))
 
 pub still_open-requires-2 : goal.still_open-requires-2
-still_open-requires-2 c =
-    let t = c.args.topology.now in
-    All-same (λ g. g < length t.groups) c.deref-2.result.now (all_groups t) (c.deref-2.ensures.value ∙ c.in_ok-all.ensures.groups) (all_within t).below
+still_open-requires-2 c = grind (arith, all_within)
 
 pub loop-turn-init : goal.loop-turn-init
 loop-turn-init c =

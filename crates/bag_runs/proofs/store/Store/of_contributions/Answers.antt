@@ -4,11 +4,7 @@ use Rattle.bag_runs.proofs.Storing.{filled_all, row_pushed}
 use Rattle.bag_runs.proofs.store.Store.of_contributions.Goals as goal
 
 pub loop-chunk-preserved : goal.loop-chunk-preserved
-loop-chunk-preserved c =
-    record {
-      bags = row_pushed (λ pair. held_at_2 (contributions c.args.nodes pair)) c.args.nodes c.loop-chunk._chunk _ _ c.loop-chunk.invariant.bags c.in_ok-push_contributions.ensures.bags;
-      held = c.in_ok-push_contributions.ensures.held c.loop-chunk.invariant.held;
-    }
+loop-chunk-preserved c = grind (arith, row_pushed)
 
 pub invariant_of-result : goal.invariant_of-result
 invariant_of-result c =

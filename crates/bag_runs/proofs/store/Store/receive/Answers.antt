@@ -1,3 +1,4 @@
+use Rattle.std.proofs.Common.{arith}
 use Rattle.bag_runs.proofs.Storing.{filled_set, received_here, store_stored}
 use Rattle.bag_runs.proofs.store.Store.receive.Goals as goal
 
@@ -8,6 +9,4 @@ returns-clause-received c =
     (rw (← c.self.view_is) at c.requires.chunk) (rw (← c.self.view_is) at c.requires.node) c.index.ensures c.received.ensures.bag)
 
 pub returns-clause-limits : goal.returns-clause-limits
-returns-clause-limits c =
-    let s = c.self.inside in
-    store_stored s.chunks s.nodes _ (filled_set s.chunks s.nodes s.bags.items c.args.chunk c.args.node c.received.result c.self.invariant c.received.ensures.held)
+returns-clause-limits c = grind (arith, store_stored, filled_set)
