@@ -1,12 +1,13 @@
 -- The clauses of the order are few.
-use Rattle.std.proofs.Common.{ℕ, ◌*◌, ◌<◌, ◌≤◌, Bool, true, false, List, [], ◌∷◌, length, sym, subst, arith, Option, None, Some, filter, flat_map}
+use Rattle.std.proofs.Common.{ℕ, ◌*◌, ◌≤◌, Bool, true, false, List, [], ◌∷◌, length, sym, subst, arith, Option, None, Some, filter, flat_map}
 use Rattle.std.{specs.List.{range_with_len}, proofs.lemmas.List.{length-append, Sums.{count_by-le-length, length-filter, sum_by-le}}}
 use Rattle.std.proofs.lemmas.List.{Concat.length-flat_map, FromFn.{length-map-range_with_len, length-range_with_len}}
+use Rattle.std.proofs.lemmas.Bool.Decides.{nat_tests}
 use Rattle.schedule.specs.{Links.TopologyValue, Placed.PlacementValue}
 use Rattle.cnf_formula.specs.Literals.{negation}
-use Rattle.send_encoding.specs.Variables.{SendMapValue, arrival, map_of}
+use Rattle.send_encoding.specs.Variables.{SendMapValue, arrival}
 use Rattle.round_encoding.{specs.Candidates.{IsCandidate, size_limit, size_of}, proofs.FewClauses.small}
-use Rattle.chunk_order.specs.Ordering.{class_in_order, class_of, is_least, next_pairs, order_clauses, ordered_formula_of, pair_in_order}
+use Rattle.chunk_order.specs.Ordering.{class_in_order, class_of, is_least, next_pairs, order_clauses, pair_in_order}
 use Rattle.chunk_order.specs.Alike.{is_alike, watch_node}
 use Rattle.candidate_formula.proofs.Exact.{asked_formula}
 use Rattle.candidate_solver.proofs.Readable.{IsSmall}
@@ -36,10 +37,7 @@ module _ (m : SendMapValue) (few_steps : m.steps ≤ 16) where
 
   module _ (pre post : PlacementValue) (few_chunks : pre.chunks ≤ 256) where
     among_few : (p : ℕ → Bool) → length (filter p (range_with_len 0 pre.chunks)) ≤ 256
-    among_few p =
-        let kept = filter_few p (range_with_len 0 pre.chunks) in
-        let all = length-range_with_len 0 pre.chunks in
-        omega (arith, kept, all, few_chunks)
+    among_few p = grind (arith, nat_tests, filter_few, length-range_with_len)
 
     pub order_few : length (order_clauses m pre post) ≤ 1048576
     order_few =
@@ -49,17 +47,5 @@ module _ (m : SendMapValue) (few_steps : m.steps ≤ 16) where
 
 -- so the formula is small with them and without them
 pub asked_small : (ordered : Bool) (t : TopologyValue) (pre post : PlacementValue) (steps rounds : ℕ) → IsCandidate t pre post steps rounds → size_of t pre steps rounds ≤ size_limit → IsSmall (asked_formula ordered t pre post steps rounds)
-asked_small false t pre post steps rounds is size =
-    let few = small t pre post steps rounds is size in
-    let clauses = few.1 in
-    record { few_vars = few.0; few_clauses = omega (arith, clauses) }
-asked_small true t pre post steps rounds is size =
-    let few = small t pre post steps rounds is size in
-    let clauses = few.1 in
-    let more = order_few (map_of t pre steps) is.few pre post is.few_chunks in
-    record { few_vars = few.0; few_clauses = clauses_few t pre post steps rounds clauses more }
-  where
-    clauses_few : (t : TopologyValue) (pre post : PlacementValue) (steps rounds : ℕ) → length (asked_formula false t pre post steps rounds).clauses < 1000000000 → length (order_clauses (map_of t pre steps) pre post) ≤ 1048576 → length (ordered_formula_of t pre post steps rounds).clauses < 2000000000
-    clauses_few t pre post steps rounds clauses more =
-        let both = length-append (asked_formula false t pre post steps rounds).clauses (order_clauses (map_of t pre steps) pre post) in
-        omega (arith, clauses, more, both)
+asked_small false t pre post steps rounds is size = grind (arith, nat_tests, small)
+asked_small true t pre post steps rounds is size = grind (arith, nat_tests, small, order_few, asked_formula, length-append)

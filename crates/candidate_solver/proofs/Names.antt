@@ -1,5 +1,6 @@
 -- Names of files, which are one or not.
-use Rattle.std.proofs.{Common.{◌≡◌, ℕ, refl, sym, ap, ◌∙◌, inl, inr, ⊎_elim, ◌⊎◌, ◌==◌, if◌then◌else◌}, lemmas.Bool.cases_eq}
+use Rattle.std.proofs.{Common.{arith, ◌≡◌, ℕ, refl, ◌⊎◌, ◌==◌, if◌then◌else◌}, lemmas.Bool.cases_eq}
+use Rattle.std.proofs.lemmas.Bool.Decides.{nat_tests}
 use Rattle.outer_ports.specs.declared.{part.Part.Part, proof_name.{FileKind.{FileKind, TheVariants.{Cnf, Lrat, Partial}}, ProofName.ProofName}}
 use Rattle.outer_ports.specs.Files.{part_number, kind_number}
 use Rattle.outer_ports.specs.declared.part.Part.TheVariants as part
@@ -23,27 +24,7 @@ part_back part.Joined = refl
 
 -- names that are numbered alike are one
 same_parts : (a b : ProofName) → kind_number a.kind ≡ kind_number b.kind → part_number a.part ≡ part_number b.part → a.s ≡ b.s → a.r ≡ b.r → a.c ≡ b.c → a ≡ b
-same_parts a b k p s r c =
-    let make : FileKind → Part → ℕ → ℕ → ℕ → ProofName = λ kind part s r c. record { kind = kind; part = part; s = s; r = r; c = c } in
-    let kinds : a.kind ≡ b.kind = sym (kind_back a.kind) ∙ ap numbered_kind k ∙ kind_back b.kind in
-    let parts : a.part ≡ b.part = sym (part_back a.part) ∙ ap numbered_part p ∙ part_back b.part in
-    ap (λ kind. make kind a.part a.s a.r a.c) kinds ∙ ap (λ part. make b.kind part a.s a.r a.c) parts
-    ∙ ap (λ s. make b.kind b.part s a.r a.c) s ∙ ap (λ r. make b.kind b.part b.s r a.c) r ∙ ap (make b.kind b.part b.s b.r) c
+same_parts a b k p s r c = grind (arith, nat_tests, kind_back, part_back)
 
 pub one_or_apart : (a b : ProofName) → (a ≡ b) ⊎ (a ≡ b → ⊥)
-one_or_apart a b = ⊎_elim
-    (λ k. ⊎_elim
-    (λ p. ⊎_elim
-    (λ s. ⊎_elim
-    (λ r. ⊎_elim
-    (λ c. inl (same_parts a b k p s r c))
-    (λ n. inr (λ e. n (ap (λ x. x.c) e)))
-    (cases_eq a.c b.c))
-    (λ n. inr (λ e. n (ap (λ x. x.r) e)))
-    (cases_eq a.r b.r))
-    (λ n. inr (λ e. n (ap (λ x. x.s) e)))
-    (cases_eq a.s b.s))
-    (λ n. inr (λ e. n (ap (λ x. part_number x.part) e)))
-    (cases_eq (part_number a.part) (part_number b.part)))
-    (λ n. inr (λ e. n (ap (λ x. kind_number x.kind) e)))
-    (cases_eq (kind_number a.kind) (kind_number b.kind))
+one_or_apart a b = grind (arith, nat_tests, same_parts, cases_eq)

@@ -1,11 +1,12 @@
 -- One candidate more in a record, by its formula and the lines of its search.
-use Rattle.std.proofs.{Common.{◌≡◌, ℕ, List, [], ◌∷◌, ◌++◌, refl, sym, ap, ◌∙◌, subst, ⊎_elim, Contains, map}, lemmas.List.Elements.Contains-push_cases}
+use Rattle.std.proofs.{Common.{arith, ◌≡◌, ℕ, List, [], ◌∷◌, ◌++◌, refl, sym, ap, ◌∙◌, subst, ⊎_elim, Contains, map}, lemmas.List.Elements.Contains-push_cases}
+use Rattle.std.proofs.lemmas.Bool.Decides.{nat_tests}
 use Rattle.cnf_formula.specs.{Formulas.{FormulaValue, Satisfiable}, Lines.ProofLineValue, declared.line.LratLine.TheVariants.Addition}
 use Rattle.proof_rules.{specs.Refuting.{Exhausted, Refutes}, proofs.{Calm.never_refuted, Tested.not_rup}}
 use Rattle.ledger_rules.specs.Logs.{checker_of}
 use Rattle.candidate_order.specs.{declared.{candidate.Candidate.Candidate, outcome.Outcome.Outcome}, Frontiers.{QuestionValue, IsSolvable}}
 use Rattle.candidate_order.specs.declared.outcome.Outcome.TheVariants as outcome
-use Rattle.engine_rules.specs.{declared.settled.Settled.Settled, Outcomes.{RecordValue, SpentOn, kind_of}}
+use Rattle.engine_rules.specs.{declared.settled.Settled.Settled, Outcomes.{RecordValue, kind_of}}
 use Rattle.engine_rules.specs.declared.settled.Settled.TheVariants as settled
 use Rattle.candidate_solver.specs.{Proved.IsProved, Trying.IsOutcome}
 
@@ -13,12 +14,9 @@ pub not_solvable : (q : QuestionValue) (x : Candidate) (f : FormulaValue) (lines
 not_solvable q x f lines said refutes solvable = never_refuted f (map Addition lines) (said solvable) refutes
 
 pub proved_by : (q : QuestionValue) (x : Candidate) (f : FormulaValue) (lines : List ProofLineValue) (out : Outcome) (kind : Settled) → kind ≡ kind_of out → IsOutcome q x f lines out → IsProved f q.limits.conflicts lines kind
-proved_by q x f lines (outcome.Solved s) kind e o = record { refuted = λ r. absurd (cc); unknown = λ u. absurd (cc) }
-proved_by q x f lines outcome.Refuted kind e o = record { refuted = λ r. o.refuted refl; unknown = λ u. absurd (cc) }
-proved_by q x f lines (outcome.Unknown n) kind e o = record {
-  refuted = λ r. absurd (cc);
-  unknown = λ u. let over = o.unknown n refl in subst (SpentOn f lines) over.0 over.1;
-}
+proved_by q x f lines (outcome.Solved s) kind e o = grind (arith, nat_tests)
+proved_by q x f lines outcome.Refuted kind e o = grind (arith, nat_tests)
+proved_by q x f lines (outcome.Unknown n) kind e o = grind (arith, nat_tests)
 
 -- the last of some entries
 last_or : Candidate × Settled → RecordValue → Candidate × Settled

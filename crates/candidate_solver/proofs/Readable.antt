@@ -2,6 +2,7 @@
 use Rattle.std.proofs.Common.{suc, ◌≡◌, ℕ, ◌+◌, ◌<◌, ◌≤◌, true, false, eqb, List, [], ◌∷◌, ◌++◌, length, get_or, ℤ, pos, negsuc, Ok, subst, ⊎_elim, arith, ◌≢◌, ◌==◌, Contains, All, AllPairs, Some, map}
 use Rattle.std.{specs.List.{list_any, enumerate_from, IsDistinct, AllByRecursion}, proofs.lemmas.{Bool.{cases_Bool, eqb-true, ne_eqb}, List.length-map}}
 use Rattle.std.proofs.lemmas.{List.Elements.{All-nil, All-cons, Contains-push_cases}, Map.Steps.length-le_from_distinct_below}
+use Rattle.std.proofs.lemmas.Bool.Decides.{nat_tests}
 use Rattle.list_laws.proofs.Members.{Contains-cons}
 use Rattle.cnf_formula.specs.{Literals.{LitValue, IsLit}, Formulas.{FormulaValue, IsClause}, Lines.ProofLineValue, declared.line.LratLine.TheVariants.Addition}
 use Rattle.proof_rules.specs.{Held.{Entry, CheckerValue, start_of, clause_at}, Accepting.{Conflicts, Implied, leading, hint_groups_from}, Refuting.with_line}
@@ -42,10 +43,7 @@ hints_read held ids (pos id ∷ pos next ∷ hints) place falses g c =
 -- ---- literals
 
 lits_read : (vars : ℕ) (lits : List LitValue) → vars ≤ 2147483647 → IsClause vars lits → All IsLit lits
-lits_read vars lits named about k d w =
-    let l = about k d w in
-    let within = l.within in
-    record { some = l.some; small = omega (arith, within, named) }
+lits_read vars lits named about k d w = grind (arith, nat_tests)
 
 named_once : (lits : List LitValue) → AllPairs (λ l other. l.var ≢ other.var) lits → IsDistinct eqb (map (λ l. l.var) lits)
 unfolding IsDistinct
@@ -76,13 +74,7 @@ few_lits vars lits few about once =
 -- ---- lines
 
 line_read : (c : CheckerValue) (line : ProofLineValue) → c.formula.vars ≤ 2147483647 → AreIds c.held → line.id ≤ 4294967295 → Implied c line → IsReadable (Addition line)
-line_read c line named ids small i =
-    let n = i.new in
-    let above = n.above_formula in (
-      record { some = omega (arith, above); small = small },
-      lits_read c.formula.vars line.lits named n.in_range,
-      hints_read c.held ids line.hints 0 line.lits i.no_groups i.conflict,
-    )
+line_read c line named ids small i = grind (arith, nat_tests, lits_read, hints_read)
 
 held_more : (held : List Entry) (id : ℕ) (lits : List LitValue) → AreIds held → IsId id → AreIds (held ++ (id, lits) ∷ [])
 held_more held id lits ids is entry at = ⊎_elim (ids entry) (λ e. subst (λ x. IsId x.0) e is) (Contains-push_cases held (id, lits) entry at)

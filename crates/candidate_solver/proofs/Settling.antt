@@ -1,6 +1,7 @@
 -- The files beside the record, with one candidate more.
-use Rattle.std.proofs.Common.{◌≡◌, [], ◌∷◌, ◌++◌, get_or, refl, sym, ap, ◌∙◌, subst, inl, inr, ⊎_elim, ◌⊎◌, IsTrue, None, Some, Contains}
+use Rattle.std.proofs.Common.{arith, ◌≡◌, [], ◌∷◌, ◌++◌, get_or, refl, sym, ap, ◌∙◌, subst, inl, inr, ⊎_elim, ◌⊎◌, IsTrue, None, Some, Contains}
 use Rattle.std.proofs.lemmas.List.{append-nil, Elements.{All-push, Contains-get_or, Contains-push}}
+use Rattle.std.proofs.lemmas.Bool.Decides.{nat_tests}
 use Rattle.outer_ports.specs.{declared.{part.Part.Part, proof_name.{FileKind.FileKind, ProofName.ProofName}}, Port.Tells, Files.Files}
 use Rattle.candidate_order.specs.{declared.candidate.Candidate.Candidate, Frontiers.QuestionValue}
 use Rattle.candidate_formula.specs.{Files.{file_of, candidate_of}, Formulas.formula_for, Begun.BegunOnly}
@@ -62,10 +63,7 @@ module _ (a b : EngineState) (x : Candidate) (kind : Settled) (s : IsSettled a b
       (has t)
 
   pub settled_agrees : KeptAgrees a → (IsTrue b.told → HasFiles a.part a.question b.files (x, kind)) → KeptAgrees b
-  settled_agrees agrees has =
-      subst (λ part. KeptAgrees (record b { part = part })) (sym s.part)
-      (subst (λ q. KeptAgrees (record b { part = a.part; question = q })) (sym s.question)
-      (subst (λ r. KeptAgrees (record b { part = a.part; question = a.question; entries = r })) (sym s.entries) (agrees_more agrees has)))
+  settled_agrees agrees has = grind (arith, nat_tests, agrees_more)
 
 -- an engine that failed at a candidate, with its record as it was
 pub failed_moves : (a b : EngineState) (x : Candidate) → b.part ≡ a.part → b.question ≡ a.question → b.entries ≡ a.entries → a.stopped ≡ None → b.stopped ≡ Some x → Tells a.told b.told → (IsTrue b.told → BeginsOwn (formula_for a.question x) a.part x a.files b.files)

@@ -1,17 +1,18 @@
 -- What a try at a candidate says, and the files that it leaves.
-use Rattle.std.proofs.Common.{◌≡◌, ℕ, ◌≤◌, Bool, List, refl, sym, ap, ◌∙◌, subst, arith, Some, map, Result, Ok, Err, IfOk}
+use Rattle.std.proofs.Common.{◌≡◌, ℕ, ◌+◌, ◌≤◌, Bool, List, length, sym, ap, ◌∙◌, subst, arith, Some, map}
+use Rattle.std.proofs.lemmas.Bool.Decides.{nat_tests}
 use Rattle.schedule.specs.{Links.TopologyValue, Placed.PlacementValue, Sends.ScheduleValue}
 use Rattle.cnf_formula.specs.{Formulas.{FormulaValue, Satisfies}, Lines.ProofLineValue, declared.line.LratLine.TheVariants.Addition}
 use Rattle.proof_rules.{specs.{Held.start_of, Refuting.Refutes, Learning.AllImplied}, proofs.InTurn.learned_in_turn}
 use Rattle.lrat_text.specs.Printing.{cnf_text}
-use Rattle.outer_ports.specs.{declared.{part.Part.Part, proof_name.FileKind.TheVariants.{Cnf, Lrat, Partial}}, Files.Files}
+use Rattle.outer_ports.specs.{declared.{part.Part.Part, proof_name.FileKind.{FileKind, TheVariants.Cnf}}, Files.Files}
 use Rattle.conflict_ledger.specs.Shelved.{log_text}
 use Rattle.sat_core.{specs.declared.solving.SatAnswer.SatAnswer, proofs.Ending.all_learned}
 use Rattle.sat_core.specs.declared.solving.SatAnswer.TheVariants as answer
 use Rattle.round_encoding.specs.{declared.encoding.Encoding.Encoding, Candidates.{IsEncodingOf, IsTightSolution}, Decoding.decoded}
 use Rattle.candidate_order.specs.{declared.{candidate.Candidate.Candidate, outcome.Outcome.Outcome}, Frontiers.{QuestionValue, instance_for}}
 use Rattle.candidate_order.specs.declared.outcome.Outcome.TheVariants as outcome
-use Rattle.candidate_formula.specs.{Files.{file_of, HasRefutation, HasLog}, Encodings.schedule_said, Formulas.{formula_for, Suits}, Questions.IsSmallQuestion}
+use Rattle.candidate_formula.specs.{Files.{file_of, HoldsLines}, Encodings.schedule_said, Formulas.{formula_for, Suits}, Questions.IsSmallQuestion}
 use Rattle.candidate_formula.proofs.Exact.{tight_solves}
 use Rattle.candidate_solver.{specs.{Kept.HasFiles, Trying.{HasText, HasLines, IsTidy, IsSearch, Says, IsOutcome}}, proofs.Readable.{IsSmall, holds_lines}}
 use Rattle.engine_rules.specs.Outcomes.{kind_of, SpentOn}
@@ -26,12 +27,7 @@ schedule_in d (outcome.Unknown n) = d
 pub says_solved : (e : Encoding) (said : SatAnswer) (limit : ℕ) (values : List Bool) (s : ScheduleValue) → said ≡ answer.Model values → s ≡ decoded (record { map = e.map; extra = e.extra }) values
     → ((t : TopologyValue) (pre post : PlacementValue) (steps rounds : ℕ) → IsEncodingOf t pre post steps rounds e → IsTightSolution t pre post s steps rounds) → Says e said limit (outcome.Solved s)
 unfolding schedule_in
-says_solved e said limit values s model is h = record {
-  solved = λ schedule same t pre post steps rounds of. subst (λ s. IsTightSolution t pre post s steps rounds) (ap (schedule_in s) same) (h t pre post steps rounds of);
-  by_model = λ schedule same. (values, model, sym (ap (schedule_in s) same) ∙ is);
-  refuted = λ same. absurd (cc);
-  unknown = λ n same. absurd (cc);
-}
+says_solved e said limit values s model is h = grind (arith, nat_tests, schedule_in)
 
 pub outcome_by : (q : QuestionValue) (x : Candidate) (e : Encoding) (f : FormulaValue) (lines : List ProofLineValue) (said : SatAnswer) (limit : ℕ) (out : Outcome) → IsSmallQuestion q → f ≡ formula_for q x → limit ≡ q.limits.conflicts
     → IsEncodingOf q.topology (instance_for q x).pre (instance_for q x).post x.s x.r e → ((values : List Bool) → Satisfies values f → Suits q x (schedule_said e values)) → IsSearch f limit lines said → Says e said limit out → IsOutcome q x (formula_for q x) lines out
@@ -63,46 +59,15 @@ pub record IsLeft (q : QuestionValue) (part : Part) (x : Candidate) (f : Formula
   pub implied : AllImplied (start_of f) lines
   pub search : IsSearch f q.limits.conflicts lines said
 
-has_formula : (q : QuestionValue) (part : Part) (x : Candidate) (f : FormulaValue) (lines : List ProofLineValue) (said : SatAnswer) (middle now : Files) → IsLeft q part x f lines said middle now → now (file_of Cnf part x) ≡ Some (cnf_text (formula_for q x))
-has_formula q part x f lines said middle now left = left.kept ∙ left.text ∙ ap (λ g. Some (cnf_text g)) left.same
+-- so the candidate has the files of its outcome
+module _ (q : QuestionValue) (part : Part) (x : Candidate) (f : FormulaValue) (lines : List ProofLineValue) (said : SatAnswer) (middle now : Files) (left : IsLeft q part x f lines said middle now) where
+  formula_left : now (file_of Cnf part x) ≡ Some (cnf_text (formula_for q x))
+  formula_left = left.kept ∙ left.text ∙ ap (λ g. Some (cnf_text g)) left.same
 
-has_refutation : (q : QuestionValue) (part : Part) (x : Candidate) (f : FormulaValue) (lines : List ProofLineValue) (said : SatAnswer) (middle now : Files) → IsLeft q part x f lines said middle now
-    → said ≡ answer.Refuted → now (file_of Lrat part x) ≡ middle (file_of Lrat part x) → HasRefutation part q now x
-has_refutation q part x f lines said middle now left refuted stays =
-    let closes = left.search.refuted refuted in
-    let few = closes.few in
-    let limited = left.limited in
-    record {
-      formula = has_formula q part x f lines said middle now left;
-      lines = map Addition lines;
-      holds = holds_lines f lines now (file_of Lrat part x) left.small (omega (arith, few, limited)) left.implied left.search.numbered left.search.short (stays ∙ left.has.whole);
-      refutes = subst (Refutes (map Addition lines)) left.same closes.refutes;
-    }
+  lines_left : (kind : FileKind) → length lines ≤ q.limits.conflicts + 1 → now (file_of kind part x) ≡ Some (log_text lines) → HoldsLines now (file_of kind part x) (map Addition lines)
+  lines_left kind few found = grind (arith, nat_tests, holds_lines)
 
-has_log : (q : QuestionValue) (part : Part) (x : Candidate) (f : FormulaValue) (lines : List ProofLineValue) (said : SatAnswer) (middle now : Files) → IsLeft q part x f lines said middle now
-    → said ≡ answer.Spent → now (file_of Partial part x) ≡ middle (file_of Partial part x) → HasLog part q now (record { candidate = x; conflicts = q.limits.conflicts })
-has_log q part x f lines said middle now left spent stays =
-    let over = left.search.spent spent in
-    let count = over.spent.count in
-    let limited = left.limited in
-    let all = all_learned lines (start_of f) (learned_in_turn lines (start_of f) over.spent.learned).1 in
-    record {
-      lines = lines;
-      holds = holds_lines f lines now (file_of Partial part x) left.small (omega (arith, count, limited)) left.implied left.search.numbered left.search.short (stays ∙ left.has.log ∙ ap (λ ls. Some (log_text ls)) all);
-      spent = (subst (λ g. SpentOn g lines q.limits.conflicts) left.same over).spent;
-    }
-
-pub has_files : (q : QuestionValue) (part : Part) (x : Candidate) (e : Encoding) (f : FormulaValue) (lines : List ProofLineValue) (said : SatAnswer) (out : Outcome) (middle now : Files) → IsLeft q part x f lines said middle now
-    → Says e said q.limits.conflicts out → IsTidy (kind_of out) part x middle now → HasFiles part q now (x, kind_of out)
-has_files q part x e f lines said (outcome.Solved s) middle now left says tidy = record { formula = has_formula q part x f lines said middle now left; no_proof = tidy.0; no_log = tidy.1 }
-has_files q part x e f lines said outcome.Refuted middle now left says tidy = record { refutation = has_refutation q part x f lines said middle now left (says.refuted refl) tidy.0; no_log = tidy.1 }
-has_files q part x e f lines said (outcome.Unknown n) middle now left says tidy = record {
-  formula = has_formula q part x f lines said middle now left;
-  no_proof = tidy.0;
-  log = has_log q part x f lines said middle now left (says.unknown n refl).0 tidy.1;
-}
-
--- what is said of a result twice
-pub both_ok : {T E : Type 0} (r : Result T E) (P Q R : T → Type 0) → ((x : T) → P x → Q x → R x) → IfOk r P → IfOk r Q → IfOk r R
-both_ok (Ok x) P Q R h p q = h x p q
-both_ok (Err e) P Q R h p q = tt
+  pub has_files : (e : Encoding) (out : Outcome) → Says e said q.limits.conflicts out → IsTidy (kind_of out) part x middle now → HasFiles part q now (x, kind_of out)
+  has_files e (outcome.Solved s) says tidy = grind (arith, nat_tests, formula_left)
+  has_files e outcome.Refuted says tidy = grind (arith, nat_tests, formula_left, lines_left)
+  has_files e (outcome.Unknown n) says tidy = grind (arith, nat_tests, all_learned, learned_in_turn, formula_left, lines_left)

@@ -2,7 +2,6 @@
 #![tactic(auto)]
 
 mod attempt;
-mod copying;
 mod files;
 mod kept;
 mod laws;

@@ -1,18 +1,18 @@
-//! The search for a candidate's schedule by its formula, whose lines are kept on a shelf.
+//! The search for a candidate's schedule by its formula, which is kept on a shelf with its lines.
 
 ghost use Rattle.std.specs.Prelude.{◌≡◌, ◌≢◌, [], IsTrue, IfOk};
 ghost use Rattle.outer_ports.specs.Port.{HasCause, Tells};
 ghost use Rattle.conflict_ledger.specs.{Beside.beside, Shelved.{ShelfAgrees, ShelfMoves}};
-ghost use Rattle.candidate_formula.specs.Files.{file_of};
-ghost use Rattle.candidate_solver.specs.{inner.Faults.of_solving, Trying.{BeginsOwn, HasLines, IsSearch}};
+ghost use Rattle.candidate_solver.specs.{inner.Faults.of_solving, Trying.{BeginsOwn, HasLines, HasText, IsSearch}};
 ghost use Rattle.proof_rules.specs.{Held.start_of, Learning.AllImplied};
 
 use crate::attempt::Found;
+use crate::files::write_formula;
 use candidate_order::Candidate;
 use cnf_formula::Formula;
 use conflict_ledger::{CheckedLedger, Ledger, LedgerView, PairLedger, ShelfLedger};
 use engine_rules::EngineFault;
-use outer_ports::{FileKind, Part, Shelf};
+use outer_ports::{Part, Shelf};
 use sat_core::{SolveFault, solve};
 use std::alloc::Global;
 
@@ -42,11 +42,13 @@ fn search_plain<'a, H: Shelf>(
     ensures cause { HasCause EngineFault.ShelfFailed (H.faults store.old) (H.faults store.new) result }
 {
     let mut ledger = ledger;
-    let answer = solve(alloc, formula, &mut ledger, store).map_err(engine_fault)?;
-    Ok(Found {
-        answer,
-        lines: ledger.into_log(),
-    })
+    match solve(alloc, formula, &mut ledger, store) {
+        Ok(answer) => {
+            let lines = ledger.into_log();
+            Ok(Found { answer, lines })
+        }
+        Err(fault) => Err(engine_fault(fault)),
+    }
 }
 
 /// A search each of whose lines is checked before it is kept.
@@ -67,15 +69,17 @@ fn search_checked<'a, H: Shelf>(
     ensures cause { HasCause EngineFault.ShelfFailed (H.faults store.old) (H.faults store.new) result }
 {
     let mut pair = PairLedger::new(CheckedLedger::new(alloc, formula, limit)?, ledger);
-    let answer = solve(alloc, formula, &mut pair, store).map_err(engine_fault)?;
-    Ok(Found {
-        answer,
-        lines: pair.into_second().into_log(),
-    })
+    match solve(alloc, formula, &mut pair, store) {
+        Ok(answer) => {
+            let lines = pair.into_second().into_log();
+            Ok(Found { answer, lines })
+        }
+        Err(fault) => Err(engine_fault(fault)),
+    }
 }
 
-/// Searches for a model of a candidate's formula, or a refutation, and learns at most so many
-/// lines. The candidate's two files of lines hold those of the search.
+/// Writes the formula of a candidate, searches for a model of it, or a refutation, and learns at
+/// most so many lines. The candidate's two files of lines hold those of the search.
 pub(crate) fn search<H: Shelf>(
     alloc: Global,
     formula: &Formula,
@@ -88,12 +92,13 @@ pub(crate) fn search<H: Shelf>(
     requires { part ≢ Part.Joined }
     ensures told { Tells (H.tells store.old) (H.tells store.new) }
     ensures begins { IsTrue (H.tells store.new) → BeginsOwn formula.now part candidate (H.file store.old) (H.file store.new) }
-    ensures formula { IsTrue (H.tells store.new) → H.file store.new (file_of FileKind.Cnf part candidate) ≡ H.file store.old (file_of FileKind.Cnf part candidate) }
+    ensures text { IsTrue (H.tells store.new) → IfOk result (λ _. HasText formula.now part candidate (H.file store.new)) }
     ensures lines { IsTrue (H.tells store.new) → IfOk result (λ found. HasLines part candidate found.lines (H.file store.new)) }
     ensures implied { IfOk result (λ found. AllImplied (start_of formula.now) found.lines) }
     ensures search { IfOk result (λ found. IsSearch formula.now limit found.lines found.answer) }
     ensures cause { HasCause EngineFault.ShelfFailed (H.faults store.old) (H.faults store.new) result }
 {
+    write_formula(alloc, formula, store, part, candidate)?;
     let place = (candidate.s, candidate.r, candidate.c);
     let ledger = ShelfLedger::new(alloc, formula, limit, store, part, place)?;
     if checked {

@@ -1,5 +1,5 @@
 -- What a try at a candidate says, by the formula with the clauses of the order.
-use Rattle.std.proofs.Common.{◌≡◌, ℕ, Bool, true, false, List, refl, sym, subst}
+use Rattle.std.proofs.Common.{◌≡◌, ℕ, Bool, true, false, List, refl}
 use Rattle.schedule.specs.Sends.{ScheduleValue}
 use Rattle.collective_spec.specs.Collectives.{adds_up}
 use Rattle.cnf_formula.specs.{Formulas.{FormulaValue, Satisfies}, Lines.ProofLineValue}
@@ -8,7 +8,6 @@ use Rattle.sat_core.specs.declared.solving.SatAnswer.{SatAnswer}
 use Rattle.candidate_order.specs.{declared.{candidate.Candidate.Candidate, outcome.Outcome.Outcome}, Ranges.LimitsValue}
 use Rattle.candidate_order.specs.Frontiers.{QuestionValue, Achieves, instance_for}
 use Rattle.candidate_formula.specs.{Encodings.schedule_said, Formulas.{ordered_formula_for, OrderedFor}, Questions.IsSmallQuestion}
-use Rattle.engine_rules.specs.Outcomes.{SpentOn}
 use Rattle.candidate_solver.{specs.Trying.{IsSearch, Says}, proofs.Tried.outcome_by}
 use Rattle.chunk_symmetry.specs.Trying.{IsOrderedOutcome}
 
@@ -55,7 +54,3 @@ ordered_by q x e f lines said limit out small same limited is ordered found says
       };
       ordered = λ s o. by.suits s o refl;
     }
-
--- the same lines are a log of the same formula
-pub spent_same : (f : FormulaValue) (lines now : List ProofLineValue) (n : ℕ) → now ≡ lines → SpentOn f lines n → SpentOn f now n
-spent_same f lines now n same spent = subst (λ ls. SpentOn f ls n) (sym same) spent

@@ -1,7 +1,8 @@
 -- What is made of each element of a list is made of each of its permutation.
-use Rattle.std.proofs.Common.{◌≡◌, ℕ, zero, suc, ◌<◌, Bool, true, false, cond, List, [], ◌∷◌, ◌++◌, length, get_or, set, refl, sym, subst, ⊎_elim, arith, Option, None, Some, filter}
+use Rattle.std.proofs.Common.{◌≡◌, ℕ, zero, suc, ◌<◌, Bool, true, false, cond, List, [], ◌∷◌, ◌++◌, length, get_or, set, refl, subst, ⊎_elim, arith, Option, None, Some, filter}
 use Rattle.std.{specs.List.{filter_map, flat_map, swap, Sorted.IsPermutation}, proofs.lemmas.{Bool.cases_Bool, List.{append_assoc, Edits.swap_is}}}
 use Rattle.std.proofs.lemmas.List.Sorted.{IsPermutation-append_comm, IsPermutation-append_left, IsPermutation-append_right, IsPermutation-keeps, IsPermutation-refl, IsPermutation-trans}
+use Rattle.std.proofs.lemmas.Bool.Decides.{nat_tests}
 
 module _ {X Y : Type 0} (g : X → List Y) where
   -- the first two of three parts change places
@@ -28,8 +29,7 @@ module _ {X Y : Type 0} (g : X → List Y) where
   exchanged (x ∷ xs) zero zero d first second = IsPermutation-refl (flat_map g (x ∷ xs))
   exchanged (x ∷ xs) zero (suc j) d first second = replaced xs j x d (omega (arith, second))
   exchanged (x ∷ xs) (suc i) zero d first second = replaced xs i x d (omega (arith, first))
-  exchanged (x ∷ xs) (suc i) (suc j) d first second =
-      IsPermutation-append_right (g x) (flat_map g xs) (flat_map g (set (set xs i (get_or xs j d)) j (get_or xs i d))) (exchanged xs i j d (omega (arith, first)) (omega (arith, second)))
+  exchanged (x ∷ xs) (suc i) (suc j) d first second = grind (arith, nat_tests, IsPermutation-append_right, exchanged xs i j d)
 
   swapped : (xs : List X) (i j : ℕ) → i < length xs → j < length xs → IsPermutation (flat_map g xs) (flat_map g (swap xs i j))
   swapped [] i j first second = absurd (omega (arith, first))
@@ -49,11 +49,7 @@ one (Some x) = x ∷ []
 
 filter_map-is : {X Y : Type 0} (h : X → Option Y) (xs : List X) → filter_map h xs ≡ flat_map (λ x. one (h x)) xs
 filter_map-is h [] = refl
-filter_map-is {X} {Y} h (x ∷ xs) = at (filter_map-is h xs) (h x) refl
-  where
-    at : filter_map h xs ≡ flat_map (λ y. one (h y)) xs → (o : Option Y) → h x ≡ o → filter_map h (x ∷ xs) ≡ flat_map (λ y. one (h y)) (x ∷ xs)
-    at rest None is = rw (is, rest) refl
-    at rest (Some y) is = rw (is, rest) refl
+filter_map-is {X} {Y} h (x ∷ xs) = grind (arith, nat_tests, filter_map-is h xs)
 
 filter-is : {X : Type 0} (p : X → Bool) (xs : List X) → filter p xs ≡ flat_map (λ x. cond (p x) (x ∷ []) []) xs
 filter-is p [] = refl
@@ -65,11 +61,7 @@ filter-is p (x ∷ xs) =
     (cases_Bool (p x))
 
 pub IsPermutation-filter_map : {X Y : Type 0} (h : X → Option Y) (xs ys : List X) → IsPermutation xs ys → IsPermutation (filter_map h xs) (filter_map h ys)
-IsPermutation-filter_map h xs ys moved =
-    subst (λ l. IsPermutation l (filter_map h ys)) (sym (filter_map-is h xs))
-    (subst (λ l. IsPermutation (flat_map (λ x. one (h x)) xs) l) (sym (filter_map-is h ys)) (IsPermutation-flat_map (λ x. one (h x)) xs ys moved))
+IsPermutation-filter_map h xs ys moved = grind (arith, nat_tests, filter_map-is, IsPermutation-flat_map)
 
 pub IsPermutation-filter : {X : Type 0} (p : X → Bool) (xs ys : List X) → IsPermutation xs ys → IsPermutation (filter p xs) (filter p ys)
-IsPermutation-filter p xs ys moved =
-    subst (λ l. IsPermutation l (filter p ys)) (sym (filter-is p xs))
-    (subst (λ l. IsPermutation (flat_map (λ x. cond (p x) (x ∷ []) []) xs) l) (sym (filter-is p ys)) (IsPermutation-flat_map (λ x. cond (p x) (x ∷ []) []) xs ys moved))
+IsPermutation-filter p xs ys moved = grind (arith, nat_tests, filter-is, IsPermutation-flat_map)

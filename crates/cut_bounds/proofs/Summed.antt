@@ -3,6 +3,7 @@ use Rattle.std.proofs.Common.{◌≡◌, ℕ, zero, suc, ◌+◌, ◌*◌, ◌<�
 use Rattle.std.{specs.List.AllByRecursion, proofs.lemmas.List.{Elements.{All-from_recursion, recursion_from_All}, FromFn.get_or-map-range_with_len}}
 use Rattle.std.proofs.lemmas.Bool.{cases_Bool, and_parts, and_from, both_ways, not_from_false, not-true, eqb-true, eq-eqb, le-leb, lt-ltb}
 use Rattle.std.proofs.lemmas.List.Sums.{sum_by-cons}
+use Rattle.std.proofs.lemmas.Bool.Decides.{nat_tests}
 use Rattle.schedule.specs.{declared.hop.Hop.Hop, Links.{GroupValue, TopologyValue, has_link, is_usable, reversed_group, reversed_of}, Rows.everywhere}
 use Rattle.schedule.specs.{Sends.{ScheduleValue, link_of}, Placed.{PlacementValue, all_pairs, holds, same_pair}, Fitting.{Fits, load, rounds_at}}
 use Rattle.schedule.specs.{Bags.{Bag, Bags, added, contributions, one_of_each}, Summing.{Sums, bags_after, goes_to}}
@@ -53,11 +54,7 @@ fits_turned t s fits = record {
 added_some : (a b : Bag) (m : ℕ) → 0 < get_or (added a b) m 0 → (0 < get_or a m 0) ⊎ (0 < get_or b m 0)
 added_some [] b m some = absurd (omega arith)
 added_some (x ∷ a) [] m some = absurd (omega arith)
-added_some (x ∷ a) (y ∷ b) zero some = one_some x y some
-  where
-    one_some : (x y : ℕ) → 0 < x + y → (0 < x) ⊎ (0 < y)
-    one_some zero y some = inr (omega (arith, some))
-    one_some (suc x) y some = inl (omega arith)
+added_some (x ∷ a) (y ∷ b) zero some = grind (arith, nat_tests)
 added_some (x ∷ a) (y ∷ b) (suc m) some = added_some a b m some
 
 -- one of the sends brings a bag that counts the node
@@ -81,12 +78,7 @@ module _ (u : NodeSet) (s : ScheduleValue) (nodes m : ℕ) (inside : m < nodes) 
 
   -- at the start a node counts only itself
   itself : (chunk node : ℕ) → 0 < counted 0 chunk node → m ≡ node
-  itself chunk node some =
-      let is : counted 0 chunk node ≡ one_if (m == node) = get_or-map-range_with_len (λ other. cond (other == node) 1 0) 0 nodes m m 0 inside (omega arith) in
-      ⊎_elim
-      (λ (same : (m == node) ≡ true). eqb-true m node same)
-      (λ (other : (m == node) ≡ false). let none : one_if (m == node) ≡ 0 = ap one_if other in absurd (omega (arith, is, none, some)))
-      (cases_Bool (m == node))
+  itself chunk node some = grind (arith, nat_tests, one_if, get_or-map-range_with_len, eqb-true, cases_Bool)
 
   pub sent_out : (n chunk node : ℕ) → u node ≡ false → 0 < counted n chunk node → Enters u (with_turned s) n chunk
   sent_out zero chunk node outside some = absurd (both_ways (u node) outside (ap u (sym (itself chunk node some)) ∙ member))

@@ -1,5 +1,6 @@
 -- A reduction has the cuts of the collective of which it is the inverse.
 use Rattle.std.proofs.Common.{◌≡◌, ℕ, ◌<◌, true, refl, sym, ap, ◌∙◌, arith, ◌*◌, filter, map}
+use Rattle.std.proofs.lemmas.Bool.Decides.{nat_tests}
 use Rattle.schedule.specs.Links.{TopologyValue}
 use Rattle.collective_spec.specs.{declared.{instance.Instance.Instance, kind.Kind.Kind, spec.Spec.Spec}, Collectives.{IsSpec, adds_up, kind_in, spec_instance}}
 use Rattle.collective_spec.specs.declared.kind.Kind.TheVariants as kind
@@ -38,10 +39,7 @@ floor_at sets t least i = first_greatest (filter has_need (map (fraction_at sets
 -- what is made of the least chunk count and its instance is the same
 least_alike_in : {X : Type 0} (f : ℕ → Instance → X) (s : Spec) (nodes : ℕ) → let copied = least_count (kind_in (copied_spec s)) nodes in let own = least_count (kind_in s) nodes in
     f copied (spec_instance (copied_spec s) nodes copied) ≡ f own (spec_instance s nodes own)
-least_alike_in f s nodes =
-    let least : ℕ = least_count (kind_in (copied_spec s)) nodes in
-    ap (f least) (same_instance s nodes least)
-    ∙ ap (λ n. f n (spec_instance s nodes n)) (least_same s nodes)
+least_alike_in f s nodes = grind (arith, nat_tests, same_instance, least_same)
 
 pub floor_same : (sets : Sets) (t : TopologyValue) (s : Spec) → floor_of sets t (copied_spec s) ≡ floor_of sets t s
 floor_same sets t s = least_alike_in (floor_at sets t) s t.nodes
@@ -52,9 +50,7 @@ abbrev table_at : Sets → TopologyValue → Floor → ℕ → Instance → Tabl
 table_at sets t floor least i = record { sets = sets; topology = t; least = least; measures = map (measure_of sets t i.pre i.post) (node_sets sets t.nodes); floor = floor }
 
 table_alike : (sets : Sets) (t : TopologyValue) (s : Spec) → table_of sets t (copied_spec s) ≡ table_of sets t s
-table_alike sets t s =
-    least_alike_in (table_at sets t (floor_of sets t (copied_spec s))) s t.nodes
-    ∙ ap (λ (floor : Floor). let least = least_count (kind_in s) t.nodes in table_at sets t floor least (spec_instance s t.nodes least)) (floor_same sets t s)
+table_alike sets t s = grind (arith, nat_tests, least_alike_in, floor_same)
 
 pub table_same : (sets : Sets) (t : TopologyValue) (s : Spec) (table : TableValue) → IsTableOf sets t s table → IsTableOf sets t (copied_spec s) table
 table_same sets t s table is = is ∙ sym (table_alike sets t s)

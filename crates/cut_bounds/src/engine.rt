@@ -2,8 +2,7 @@
 
 ghost use Rattle.std.specs.Prelude.{◌≡◌, ◌<◌, true, false, [], None, Some, Contains, IfOk};
 ghost use Rattle.collective_spec.specs.Collectives.{IsSpec};
-ghost use Rattle.proof_rules.specs.Refuting.{Exhausted};
-ghost use Rattle.candidate_order.specs.{declared.candidate.Candidate.Candidate, Copied.copied_spec, Frontiers.{IsSolvable, IsWithin}};
+ghost use Rattle.candidate_order.specs.{declared.candidate.Candidate.Candidate, Copied.copied_spec, Frontiers.IsWithin};
 ghost use Rattle.engine_rules.specs.{declared.settled.Settled.Settled, Searches.IsSameSearch};
 ghost use Rattle.engine_rules.specs.declared.settled.Settled.TheVariants as settled;
 ghost use Rattle.node_cuts.specs.{Cutting.{cut_for, is_cut}, Floors.floor_of, Tables.IsTableOf};
@@ -32,8 +31,6 @@ pub struct CutEngine<E: EngineView> {
     pub ghost stops: { (x : Candidate) → E.stopped inner ≡ Some x → tried.stopped ≡ Some x },
     pub ghost uncut: { (x : Candidate) → E.stopped inner ≡ Some x → is_cut sets (E.question inner) x ≡ false },
     ghost refutes: { (x : Candidate) (kind : Settled) → Contains tried.entries (x, kind) → is_cut sets (E.question inner) x ≡ true → kind ≡ settled.Refuted },
-    ghost right: { (x : Candidate) → Contains tried.entries (x, settled.Refuted) → IsSolvable (E.question inner) x → ⊥ },
-    ghost exhausted: { (x : Candidate) → Contains tried.entries (x, settled.Unknown) → Exhausted (E.formula inner x) (E.question inner).limits.conflicts },
 }
 
 impl<E: EngineView + Drop> CutEngine<E> {
@@ -114,6 +111,8 @@ impl<E: EngineView> CutEngine<E> {
 }
 
 impl<E: EngineView> EngineView for CutEngine<E> {
+    ghost use Rattle.cut_bounds.specs.Laws.{exhausted_by, right_by};
+
     ghost question = { λ e. E.question e.inner };
 
     ghost entries = { λ e. e.tried.entries };
@@ -134,9 +133,9 @@ impl<E: EngineView> EngineView for CutEngine<E> {
 
     ghost exact = { λ e x within. E.exact e.inner x within };
 
-    ghost right = { λ e x refuted. e.right x refuted };
+    ghost right = { λ e x refuted. right_by e.sets (E.question e.inner) e.tried.entries (E.entries e.inner) e.kept (E.copies e.inner) (E.right e.inner) x refuted };
 
-    ghost exhausted = { λ e x unknown. e.exhausted x unknown };
+    ghost exhausted = { λ e x unknown. exhausted_by e.sets (E.question e.inner) e.tried.entries (E.entries e.inner) e.kept (E.formula e.inner) e.refutes (E.exhausted e.inner) x unknown };
 }
 
 impl<T, E: Engine<T>> Engine<T> for CutEngine<E> {

@@ -1,5 +1,5 @@
 use Rattle.candidate_formula.proofs.Copying.{copies}
-use Rattle.cut_bounds.proofs.Noting.{cut_refuted}
+use Rattle.cut_bounds.specs.Laws.{cut_refuted}
 use Rattle.candidate_order.specs.Copied.{copied_question}
 use Rattle.cut_bounds.proofs.laws.cut_candidates_have_no_schedule.Goals as goal
 

@@ -1,6 +1,6 @@
-use Rattle.std.proofs.{Common.{ℕ, List, get_or, All}, lemmas.List.Elements.{All-contains, Contains-get_or}}
+use Rattle.std.proofs.{Common.{ℕ, List, ◌++◌, get_or, sym, ap, ◌∙◌, All}, lemmas.List.{at_drop_more, Elements.{All-contains, Contains-get_or}}}
 use Rattle.candidate_order.specs.{declared.candidate.Candidate.Candidate, Frontiers.IsWithin}
-use Rattle.cut_bounds.proofs.Parted.{cuts_more, others_more}
+use Rattle.cut_bounds.{specs.Parting.{cuts_among, uncut_among}, proofs.Parted.{cuts_on, others_on}}
 use Rattle.cut_bounds.proofs.parting.part_refuted.Goals as goal
 
 pub first_cut-requires : goal.first_cut-requires
@@ -14,11 +14,17 @@ first_cut-requires g c =
 
 pub loop-candidate-preserved : goal.loop-candidate-preserved
 loop-candidate-preserved g c =
+    let sets = c.args.engine.now.sets in
     let q = g.E.EngineView.question c.args.engine.now.inner in
     let xs : List Candidate = c.refuted-candidate-items.result.now in
     let i : ℕ = c.loop-candidate.candidate-index in
     let d : Candidate = record { s = 0; r = 0; c = 0 } in
+    let before = c.loop-candidate.parts in
+    let now = c.add.new.self in
+    let below = c.loop-candidate-test.true in
     record {
-      cuts = cuts_more c.args.engine.now.sets q xs i d c.in_ok-cut.cut c.loop-candidate.parts.cuts.items c.add.new.self.cuts.items c.loop-candidate-test.true c.in_ok-cut.ensures c.loop-candidate.invariant.cuts c.in_ok-add.ensures.cuts;
-      others = others_more c.args.engine.now.sets q xs i d c.in_ok-cut.cut c.loop-candidate.parts.others.items c.add.new.self.others.items c.loop-candidate-test.true c.in_ok-cut.ensures c.loop-candidate.invariant.others c.in_ok-add.ensures.others;
+      cuts = cuts_on sets q (get_or xs i d) _ c.in_ok-cut.cut before.cuts.items now.cuts.items c.in_ok-cut.ensures c.in_ok-add.ensures.cuts
+          ∙ ap (λ cs. before.cuts.items ++ cs) (sym (at_drop_more (cuts_among sets q) xs i d below)) ∙ c.loop-candidate.invariant.cuts;
+      others = others_on sets q (get_or xs i d) _ c.in_ok-cut.cut before.others.items now.others.items c.in_ok-cut.ensures c.in_ok-add.ensures.others
+          ∙ ap (λ ys. before.others.items ++ ys) (sym (at_drop_more (uncut_among sets q) xs i d below)) ∙ c.loop-candidate.invariant.others;
     }

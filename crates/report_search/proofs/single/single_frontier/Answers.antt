@@ -1,4 +1,5 @@
-use Rattle.std.proofs.Common.{◌≡◌, ◌∙◌, ap, subst}
+use Rattle.std.proofs.Common.{arith, ◌≡◌, ◌∙◌, ap, subst}
+use Rattle.std.proofs.lemmas.Grind.{common_steps}
 use Rattle.candidate_order.specs.Frontiers.{QuestionValue}
 use Rattle.node_cuts.specs.Cutting.{sets_for}
 use Rattle.candidate_formula.specs.Formulas.{Suits}
@@ -27,60 +28,33 @@ returns-clause-keeps g c = λ is_kept told.
     keeps_single q _ _ c.args.part _ _ made c.requires.single (ap (λ e. e.part) c.in_ok-engine.ensures.inner ∙ c.in_ok-inner.ensures.part)
     (ap (λ e. e.kept) c.in_ok-engine.ensures.inner ∙ (c.in_ok-inner.ensures.kept ∙ is_kept)) c.frontier_by.ensures.moves.0 told
 
-pub returns-in-Ok-clause-found : goal.returns-in-Ok-clause-found
-returns-in-Ok-clause-found g c =
+pub returns-in-Ok : goal.returns-in-Ok
+returns-in-Ok g c =
     let q : QuestionValue = record { topology = c.args.topology.now; spec = c.args.spec.now; limits = c.args.limits } in
-    let made = made_for q _ _ c.in_ok-inner.ensures.question c.deref.ensures c.in_ok-links.ensures.links in
-    found_with _ _ _ _ (λ x. c.frontier_by.ensures.same.formula x ∙ (c.in_ok-engine.ensures.same.formula x ∙ (c.in_ok-inner.ensures.formula x ∙ alike q _ made c.requires.single x)))
-    (λ x s suited. subst (λ p. Suits p x s) made ((c.in_ok-inner.ensures.suits x s).0 ((c.in_ok-engine.ensures.same.suits x s).0 ((c.frontier_by.ensures.same.suits x s).0 suited)))) c.in-Ok.ensures.found
-
-pub returns-in-Ok-clause-uncut : goal.returns-in-Ok-clause-uncut
-returns-in-Ok-clause-uncut g c =
-    let q : QuestionValue = record { topology = c.args.topology.now; spec = c.args.spec.now; limits = c.args.limits } in
-    let made = c.in_ok-engine.ensures.same.question ∙ made_for q _ _ c.in_ok-inner.ensures.question c.deref.ensures c.in_ok-links.ensures.links in
+    let below = made_for q _ _ c.in_ok-inner.ensures.question c.deref.ensures c.in_ok-links.ensures.links in
+    let made = c.in_ok-engine.ensures.same.question ∙ below in
     let engine = c.frontier_by.new.engine in
     let own : QuestionValue = asked engine.inner.inner.question in
-    let sets : engine.sets ≡ sets_for q.limits.pruning = c.frontier_by.ensures.moves.1 ∙ (c.in_ok-engine.ensures.sets ∙ (c.of-sets.ensures ∙ ap sets_for c.pruning.ensures)) in
-    unknown_uncut q own engine.sets (cut_in_place q own engine.sets (c.frontier_by.ensures.same.question ∙ made) sets) c.in-Ok.frontier c.cuts_are_refuted.ensures.points c.cuts_are_refuted.ensures.unknown
-
-pub returns-in-Ok-clause-shelved : goal.returns-in-Ok-clause-shelved
-returns-in-Ok-clause-shelved g c = λ told.
-    let q : QuestionValue = record { topology = c.args.topology.now; spec = c.args.spec.now; limits = c.args.limits } in
-    let made = c.in_ok-engine.ensures.same.question ∙ made_for q _ _ c.in_ok-inner.ensures.question c.deref.ensures c.in_ok-links.ensures.links in
-    let engine = c.frontier_by.new.engine in
-    let own : QuestionValue = asked engine.inner.inner.question in
-    let moves = c.frontier_by.ensures.moves in
+    let searched = c.frontier_by.ensures in
+    let found = c.in-Ok.ensures in
+    let cut = c.cuts_are_refuted.ensures in
+    let moves = searched.moves in
     let sets : engine.sets ≡ sets_for q.limits.pruning = moves.1 ∙ (c.in_ok-engine.ensures.sets ∙ (c.of-sets.ensures ∙ ap sets_for c.pruning.ensures)) in
-    let filed = filed_for q moves.0.moves made c.requires.single c.cuts_are_refuted.ensures.inner c.in-Ok.ensures.goes_on.agrees (runs_below engine.stops c.in-Ok.ensures.goes_on.running) (ap (λ e. e.part) c.in_ok-engine.ensures.inner ∙ c.in_ok-inner.ensures.part) told in
-    shelved_uncut q own engine.sets (cut_in_place q own engine.sets (c.frontier_by.ensures.same.question ∙ made) sets) c.in-Ok.frontier c.cuts_are_refuted.ensures.points c.cuts_are_refuted.ensures.unknown filed
-
-pub returns-in-Ok-clause-takes : goal.returns-in-Ok-clause-takes
-returns-in-Ok-clause-takes g c = λ is_kept told.
-    let q : QuestionValue = record { topology = c.args.topology.now; spec = c.args.spec.now; limits = c.args.limits } in
-    let made = c.in_ok-engine.ensures.same.question ∙ made_for q _ _ c.in_ok-inner.ensures.question c.deref.ensures c.in_ok-links.ensures.links in
-    let engine = c.frontier_by.new.engine in
-    let own : QuestionValue = asked engine.inner.inner.question in
-    let moves = c.frontier_by.ensures.moves in
-    let sets : engine.sets ≡ sets_for q.limits.pruning = moves.1 ∙ (c.in_ok-engine.ensures.sets ∙ (c.of-sets.ensures ∙ ap sets_for c.pruning.ensures)) in
-    takes_single q _ _ _ c.in-Ok.frontier c.args.part _ _ engine.sets made c.requires.single c.frontier_by.ensures.same.question sets c.cuts_are_refuted.ensures.inner
-    (ap (λ e. e.part) c.in_ok-engine.ensures.inner ∙ c.in_ok-inner.ensures.part) (ap (λ e. e.tried.entries) c.in_ok-engine.ensures.inner ∙ c.in_ok-inner.ensures.entries)
-    (ap (λ e. e.kept) c.in_ok-engine.ensures.inner ∙ (c.in_ok-inner.ensures.kept ∙ is_kept)) moves.0 told
-
-pub returns-in-Ok-clause-keeps : goal.returns-in-Ok-clause-keeps
-returns-in-Ok-clause-keeps g c = λ is_kept told.
-    let q : QuestionValue = record { topology = c.args.topology.now; spec = c.args.spec.now; limits = c.args.limits } in
-    let made = c.in_ok-engine.ensures.same.question ∙ made_for q _ _ c.in_ok-inner.ensures.question c.deref.ensures c.in_ok-links.ensures.links in
-    keeps_single q _ _ c.args.part _ _ made c.requires.single (ap (λ e. e.part) c.in_ok-engine.ensures.inner ∙ c.in_ok-inner.ensures.part)
-    (ap (λ e. e.kept) c.in_ok-engine.ensures.inner ∙ (c.in_ok-inner.ensures.kept ∙ is_kept)) c.frontier_by.ensures.moves.0 told
-
-pub returns-in-Ok-clause-begun : goal.returns-in-Ok-clause-begun
-returns-in-Ok-clause-begun g c =
-    let q : QuestionValue = record { topology = c.args.topology.now; spec = c.args.spec.now; limits = c.args.limits } in
-    let made = c.in_ok-engine.ensures.same.question ∙ made_for q _ _ c.in_ok-inner.ensures.question c.deref.ensures c.in_ok-links.ensures.links in
-    let engine = c.frontier_by.new.engine in
-    let own : QuestionValue = asked engine.inner.inner.question in
-    let moves = c.frontier_by.ensures.moves in
-    let sets : engine.sets ≡ sets_for q.limits.pruning = moves.1 ∙ (c.in_ok-engine.ensures.sets ∙ (c.of-sets.ensures ∙ ap sets_for c.pruning.ensures)) in
-    begun_for q moves.0.moves made c.requires.single (stays_below engine.sets c.frontier_by.ensures.within c.frontier_by.ensures.same.question engine.kept engine.stops)
-    (reached_uncut q own engine.sets _ engine.kept engine.uncut (cut_in_place q own engine.sets (c.frontier_by.ensures.same.question ∙ made) sets))
-    (ap (λ e. e.part) c.in_ok-engine.ensures.inner ∙ c.in_ok-inner.ensures.part)
+    let in_place = cut_in_place q own engine.sets (searched.same.question ∙ made) sets in
+    let part = ap (λ e. e.part) c.in_ok-engine.ensures.inner ∙ c.in_ok-inner.ensures.part in
+    let kept = ap (λ e. e.kept) c.in_ok-engine.ensures.inner ∙ c.in_ok-inner.ensures.kept in
+    record {
+      found = found_with _ _ _ _ (λ x. searched.same.formula x ∙ (c.in_ok-engine.ensures.same.formula x ∙ (c.in_ok-inner.ensures.formula x ∙ alike q _ below c.requires.single x)))
+          (λ x s suited. subst (λ p. Suits p x s) below ((c.in_ok-inner.ensures.suits x s).0 ((c.in_ok-engine.ensures.same.suits x s).0 ((searched.same.suits x s).0 suited)))) found.found;
+      uncut = unknown_uncut q own engine.sets in_place c.in-Ok.frontier cut.points cut.unknown;
+      told = moves.0.moves.tells;
+      shelved = λ told.
+          shelved_uncut q own engine.sets in_place c.in-Ok.frontier cut.points cut.unknown
+          (filed_for q moves.0.moves made c.requires.single cut.inner found.goes_on.agrees (runs_below engine.stops found.goes_on.running) part told);
+      takes = λ is_kept told.
+          takes_single q _ _ _ c.in-Ok.frontier c.args.part _ _ engine.sets made c.requires.single searched.same.question sets cut.inner part
+          (ap (λ e. e.tried.entries) c.in_ok-engine.ensures.inner ∙ c.in_ok-inner.ensures.entries) (kept ∙ is_kept) moves.0 told;
+      keeps = λ is_kept told. keeps_single q _ _ c.args.part _ _ made c.requires.single part (kept ∙ is_kept) moves.0 told;
+      begun = begun_for q moves.0.moves made c.requires.single (stays_below engine.sets searched.within searched.same.question engine.kept engine.stops) (reached_uncut q own engine.sets _ engine.kept engine.uncut in_place) part;
+      cause = grind (arith, common_steps);
+    }

@@ -1,11 +1,10 @@
-use Rattle.std.proofs.Common.{◌≡◌, [], ◌∷◌, ◌++◌, refl, sym, ap, ◌∙◌, subst, Contains}
+use Rattle.std.proofs.Common.{◌≡◌, [], ◌∷◌, ◌++◌, refl, sym, ap, ◌∙◌, subst}
 use Rattle.candidate_order.specs.{declared.candidate.Candidate.Candidate, Frontiers.QuestionValue}
 use Rattle.candidate_order.specs.declared.outcome.Outcome.TheVariants as outcome
 use Rattle.candidate_formula.{specs.Formulas.{formula_for, Suits}, proofs.{Exact.formula_exact, BegunFiles.begun_refl}}
 use Rattle.candidate_solver.specs.{Questions.asked, Beside.beside, Kept.{EngineState, HasFiles}}
 use Rattle.candidate_solver.proofs.{Settling.{IsSettled, settled_moves, settled_agrees, failed_moves}, Noting.{proved_by, not_solvable}}
-use Rattle.engine_rules.specs.{declared.settled.Settled.Settled, Outcomes.{RecordValue, SpentOn}}
-use Rattle.engine_rules.specs.declared.settled.Settled.TheVariants as settled
+use Rattle.engine_rules.specs.{declared.settled.Settled.Settled, Outcomes.SpentOn}
 use Rattle.candidate_solver.proofs.kept.SatEngineEngine.settle.Goals as goal
 
 pub returns-in_err-prepare-clause-moves : goal.returns-in_err-prepare-clause-moves
@@ -29,14 +28,7 @@ returns-in-Err-clause-moves g c =
 pub invariant_of-self-in-Ok-1 : goal.invariant_of-self-in-Ok-1
 invariant_of-self-in-Ok-1 g c =
     let e = c.args.self.now in
-    let now : RecordValue = c.prepare.new.self.entries in
-    let same : now ≡ e.tried.entries = c.prepare.ensures.entries in
-    record {
-      named = e.named;
-      right = λ x at. e.right x (subst (λ r. Contains r (x, settled.Refuted)) same at);
-      exhausted = λ x at. e.exhausted x (subst (λ r. Contains r (x, settled.Unknown)) same at);
-      proved = λ before x is. e.proved before x (sym same ∙ is);
-    }
+    rw c.prepare.ensures.entries (record { named = e.named; right = e.right; exhausted = e.exhausted; proved = e.proved })
 
 pub note-requires-clause-proved : goal.note-requires-clause-proved
 note-requires-clause-proved g c =
@@ -117,21 +109,9 @@ returns-in-Ok-clause-goes_on g c =
 pub invariant_of-self : goal.invariant_of-self
 invariant_of-self g c =
     let e = c.args.self.now in
-    let same : c.prepare.new.self.entries ≡ e.tried.entries = c.prepare.ensures.entries in
-    record {
-      named = e.named;
-      right = λ x at. e.right x (subst (λ r. Contains r (x, settled.Refuted)) same at);
-      exhausted = λ x at. e.exhausted x (subst (λ r. Contains r (x, settled.Unknown)) same at);
-      proved = λ before x is. e.proved before x (sym same ∙ is);
-    }
+    rw c.prepare.ensures.entries (record { named = e.named; right = e.right; exhausted = e.exhausted; proved = e.proved })
 
 pub invariant_of-self-in-Err : goal.invariant_of-self-in-Err
 invariant_of-self-in-Err g c =
     let e = c.args.self.now in
-    let same : c.stop.new.self.entries ≡ e.tried.entries = c.stop.ensures.entries ∙ c.prepare.ensures.entries in
-    record {
-      named = e.named;
-      right = λ x at. e.right x (subst (λ r. Contains r (x, settled.Refuted)) same at);
-      exhausted = λ x at. e.exhausted x (subst (λ r. Contains r (x, settled.Unknown)) same at);
-      proved = λ before x is. e.proved before x (sym same ∙ is);
-    }
+    rw (c.stop.ensures.entries, c.prepare.ensures.entries) (record { named = e.named; right = e.right; exhausted = e.exhausted; proved = e.proved })

@@ -26,6 +26,4 @@ invariant_of-result g c =
       stops = λ x at. absurd (none-some x (sym c.requires.running ∙ at));
       uncut = λ x at. absurd (none-some x (sym c.requires.running ∙ at));
       refutes = λ x kind at cut. nothing_holds entries (x, kind) none at;
-      right = λ x at solvable. nothing_holds entries (x, _) none at;
-      exhausted = λ x at. nothing_holds entries (x, _) none at;
     }
