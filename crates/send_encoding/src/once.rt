@@ -35,44 +35,8 @@ fn once_at(
     at_most_one(formula, into)
 }
 
-#[tactic(auto, using(cnf_formula::proofs::Growing::grows_more))]
-fn node_once(
-    into: &mut Vec<Lit>,
-    formula: &mut Formula,
-    map: &SendMap,
-    chunk: u16,
-    node: u8,
-) -> Result<(), OutOfMemory>
-    requires vars { arrivals map.now + sends map.now ≤ formula.old.vars }
-    requires chunk { chunk < map.now.chunks }
-    requires node { node < map.now.nodes }
-    ensures { OnOk result (formula.new ≡ with_clauses formula.old (node_once map.now (chunk, node))) }
-{
-    for index in 0..map.steps() {
-        once_at(into, formula, map, chunk, node, index + 1)?;
-    }
-    Ok(())
-}
-
-#[tactic(auto, using(cnf_formula::proofs::Growing::grows_more))]
-fn chunk_once(
-    into: &mut Vec<Lit>,
-    formula: &mut Formula,
-    map: &SendMap,
-    chunk: u16,
-) -> Result<(), OutOfMemory>
-    requires vars { arrivals map.now + sends map.now ≤ formula.old.vars }
-    requires chunk { chunk < map.now.chunks }
-    ensures { OnOk result (formula.new ≡ with_clauses formula.old (flat_map (λ n. node_once map.now (chunk, n)) (range_with_len 0 map.now.nodes))) }
-{
-    for node in 0..map.nodes() {
-        node_once(into, formula, map, chunk, node)?;
-    }
-    Ok(())
-}
-
 /// A node is sent a chunk at most once in a step.
-#[tactic(auto, using(cnf_formula::proofs::Growing::grows_more, crate::proofs::Picking::pairs_of_loops))]
+#[tactic(auto, using(cnf_formula::proofs::Growing::grows_more))]
 pub(crate) fn arrives_once(
     alloc: Global,
     formula: &mut Formula,
@@ -83,7 +47,11 @@ pub(crate) fn arrives_once(
 {
     let mut into = Vec::new(alloc);
     for chunk in 0..map.chunks() {
-        chunk_once(&mut into, formula, map, chunk)?;
+        for node in 0..map.nodes() {
+            for index in 0..map.steps() {
+                once_at(&mut into, formula, map, chunk, node, index + 1)?;
+            }
+        }
     }
     Ok(())
 }
