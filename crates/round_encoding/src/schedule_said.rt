@@ -89,12 +89,9 @@ fn rounds_of(
     ensures { IfOk result (λ v. v.items ≡ rounds_of (record { map = map.now; extra = extra }) assignment.now) }
 {
     let left = (map.steps() + extra).saturating_sub(all_said(map, extra, assignment));
-    let mut rounds = Vec::new(alloc);
-    for index in 0..map.steps() {
-        let rounds_here = rounds_at(map, extra, assignment, index + 1, left);
-        rounds.push(rounds_here)?;
-    }
-    Ok(rounds)
+    (1..map.steps() + 1)
+        .map(|step| rounds_at(map, extra, assignment, step, left))
+        .collect(alloc)
 }
 
 /// The schedule that a satisfying assignment says: the sends that are true, and each step's rounds,
