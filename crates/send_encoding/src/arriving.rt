@@ -71,32 +71,7 @@ pub(crate) fn push_sends_into(
     Ok(())
 }
 
-/// A node that has a chunk after a step had it before, or was sent it. What `clause` held is left
-/// out.
-fn arrives_at(
-    clause: &mut Vec<Lit>,
-    formula: &mut Formula,
-    map: &SendMap,
-    chunk: u16,
-    node: u8,
-    step: u8,
-) -> Result<(), OutOfMemory>
-    requires vars { arrivals map.now + sends map.now ≤ formula.old.vars }
-    requires chunk { chunk < map.now.chunks }
-    requires node { node < map.now.nodes }
-    requires step { IsStep map.now.steps step }
-    ensures { OnOk result (formula.new ≡ with_clauses formula.old ((arrival map.now chunk node (step - 1) ∷ negation (arrival map.now chunk node step) ∷ sends_into map.now chunk node step) ∷ [])) }
-{
-    let before = map.arrival(chunk, node, step - 1);
-    let after = map.arrival(chunk, node, step);
-    clause.clear();
-    clause.push(before)?;
-    clause.push(after.negated())?;
-    push_sends_into(clause, map, chunk, node, step)?;
-    formula.add(clause)
-}
-
-/// The clauses of every arrival.
+/// A node that has a chunk after a step had it before, or was sent it.
 #[tactic(auto, using(cnf_formula::proofs::Growing::grows_by_one, cnf_formula::proofs::Growing::grows_more))]
 pub(crate) fn arrives_by_sends(
     alloc: Global,
@@ -110,7 +85,13 @@ pub(crate) fn arrives_by_sends(
     for chunk in 0..map.chunks() {
         for node in 0..map.nodes() {
             for index in 0..map.steps() {
-                arrives_at(&mut clause, formula, map, chunk, node, index + 1)?;
+                let before = map.arrival(chunk, node, index);
+                let after = map.arrival(chunk, node, index + 1);
+                clause.clear();
+                clause.push(before)?;
+                clause.push(after.negated())?;
+                push_sends_into(&mut clause, map, chunk, node, index + 1)?;
+                formula.add(&clause)?;
             }
         }
     }

@@ -13,28 +13,6 @@ use cardinality::at_most_one;
 use cnf_formula::{Formula, Lit};
 use std::alloc::Global;
 
-/// A node is sent a chunk at a step at most once. What `into` held is left out.
-#[tactic(auto, using(crate::proofs::Within::into_within))]
-fn once_at(
-    into: &mut Vec<Lit>,
-    formula: &mut Formula,
-    map: &SendMap,
-    chunk: u16,
-    node: u8,
-    step: u8,
-) -> Result<(), OutOfMemory>
-    requires vars { arrivals map.now + sends map.now ≤ formula.old.vars }
-    requires chunk { chunk < map.now.chunks }
-    requires node { node < map.now.nodes }
-    requires step { IsStep map.now.steps step }
-    ensures { OnOk result (formula.new ≡ with_clauses formula.old (at_most_one_of (sends_into map.now chunk node step))) }
-{
-    let _known = map.steps();
-    into.clear();
-    push_sends_into(into, map, chunk, node, step)?;
-    at_most_one(formula, into)
-}
-
 /// A node is sent a chunk at most once in a step.
 #[tactic(auto, using(cnf_formula::proofs::Growing::grows_more))]
 pub(crate) fn arrives_once(
@@ -49,7 +27,9 @@ pub(crate) fn arrives_once(
     for chunk in 0..map.chunks() {
         for node in 0..map.nodes() {
             for index in 0..map.steps() {
-                once_at(&mut into, formula, map, chunk, node, index + 1)?;
+                into.clear();
+                push_sends_into(&mut into, map, chunk, node, index + 1)?;
+                at_most_one(formula, &into)?;
             }
         }
     }
