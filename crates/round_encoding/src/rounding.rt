@@ -13,26 +13,6 @@ use cnf_formula::{Formula, Lit};
 use send_encoding::SendMap;
 use std::alloc::Global;
 
-/// A step with an extra round has the one before it.
-fn order_at(
-    formula: &mut Formula,
-    variables: &SendMap,
-    extra: u8,
-    step: u8,
-    number: u8,
-) -> Result<(), OutOfMemory>
-    requires vars { own_variables (record { map = variables.now; extra = extra }) ≤ formula.old.vars }
-    requires small { formula.old.vars < 2147483648 }
-    requires step { IsStep variables.now.steps step }
-    requires from { 0 < number }
-    requires to { number < extra }
-    requires few { extra ≤ 8 }
-    ensures { OnOk result (formula.new ≡ with_clauses formula.old ((negation (extra_round (record { map = variables.now; extra = extra }) step (number + 1)) ∷ extra_round (record { map = variables.now; extra = extra }) step number ∷ []) ∷ [])) }
-{
-    let next = extra_round(variables, extra, step, number + 1);
-    formula.add(&[next.negated(), extra_round(variables, extra, step, number)])
-}
-
 /// The extra rounds of each step are used in their order.
 #[tactic(auto, using(cnf_formula::proofs::Growing::grows_by_one, cnf_formula::proofs::Growing::grows_more))]
 pub(crate) fn extra_in_order(
@@ -47,7 +27,12 @@ pub(crate) fn extra_in_order(
 {
     for index in 0..variables.steps() {
         for before in 0..extra.saturating_sub(1) {
-            order_at(formula, variables, extra, index + 1, before + 1)?;
+            let number = before + 1;
+            let next = extra_round(variables, extra, index + 1, number + 1);
+            formula.add(&[
+                next.negated(),
+                extra_round(variables, extra, index + 1, number),
+            ])?;
         }
     }
     Ok(())
