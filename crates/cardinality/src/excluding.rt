@@ -1,7 +1,7 @@
 //! No two literals of a list are true.
 
-ghost use Rattle.std.specs.Prelude.{◌≡◌, ◌≤◌, Bool, List, ◌∷◌, [], map, Decides, OnOk};
-ghost use Rattle.cnf_formula.specs.{Literals.{negation, all_hold}, Formulas.{IsAbout, IsClause, with_clauses}};
+ghost use Rattle.std.specs.Prelude.{◌≡◌, ◌≤◌, Bool, List, Decides, OnOk};
+ghost use Rattle.cnf_formula.specs.{Literals.all_hold, Formulas.{IsClause, with_clauses}};
 ghost use Rattle.cardinality.specs.Counting.{true_inputs, at_most_one_of};
 
 use cnf_formula::{Formula, Lit, OutOfMemory};

@@ -1,9 +1,9 @@
 //! What a group of links carries in a step.
 
-ghost use Rattle.std.specs.{Prelude.{◌≡◌, ◌+◌, ◌-◌, ◌*◌, ◌<◌, ◌≤◌, ◌∷◌, ◌++◌, [], All, length, map, OnOk, IfOk}, List.{flat_map, range_with_len}};
+ghost use Rattle.std.specs.{Prelude.{◌≡◌, ◌+◌, ◌*◌, ◌<◌, ◌≤◌, All, length, map, OnOk, IfOk}, List.{flat_map, range_with_len}};
 ghost use Rattle.schedule.specs.Sends.{IsStep};
-ghost use Rattle.cnf_formula.specs.{Literals.negation, Formulas.{IsAbout, IsClause, with_clauses}};
-ghost use Rattle.send_encoding.specs.Variables.{sends, sent, link_number};
+ghost use Rattle.cnf_formula.specs.Formulas.{IsClause, with_clauses};
+ghost use Rattle.send_encoding.specs.Variables.{sent, link_number};
 ghost use Rattle.round_encoding.specs.{Frames.{extra_round, own_variables}, Rounding.{count_of_group, output_at, with_count}, inner.Counts.said_of_group};
 
 use crate::OutOfMemory;

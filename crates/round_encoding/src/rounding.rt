@@ -1,7 +1,6 @@
 //! Extra rounds: in their order, and together no more than there are.
 
-ghost use Rattle.std.specs.{Prelude.{◌≡◌, ◌+◌, ◌-◌, ◌*◌, ◌<◌, ◌≤◌, ◌∷◌, ◌++◌, [], if◌then◌else◌, length, map, nat_lt, OnOk, IfOk}, List.range_with_len};
-ghost use Rattle.schedule.specs.Sends.{IsStep};
+ghost use Rattle.std.specs.Prelude.{◌≡◌, ◌+◌, ◌*◌, ◌<◌, ◌≤◌, ◌∷◌, [], if◌then◌else◌, length, map, nat_lt, OnOk, IfOk};
 ghost use Rattle.cnf_formula.specs.{Literals.negation, Formulas.{IsClause, with_clauses}};
 ghost use Rattle.round_encoding.specs.{Frames.{extra_round, own_variables}, Rounding.{extra_in_order, count_of_rounds, output_at, with_count}};
 ghost use Rattle.round_encoding.specs.inner.Counts.{with_counts};

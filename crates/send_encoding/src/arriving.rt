@@ -1,10 +1,9 @@
 //! The clauses that tie sends and arrivals.
 
-ghost use Rattle.std.specs.{Prelude.{◌≡◌, ◌+◌, ◌<◌, ◌≤◌, ◌-◌, ◌∷◌, ◌++◌, [], length, OnOk}, List.{enumerate_from, flat_map, range_with_len}};
+ghost use Rattle.std.specs.Prelude.{◌≡◌, ◌+◌, ◌<◌, ◌≤◌, ◌++◌, length, OnOk};
 ghost use Rattle.schedule.specs.{Links.IsBelow, Sends.IsStep};
-ghost use Rattle.cnf_formula.specs.{Literals.negation, Formulas.with_clauses};
-ghost use Rattle.send_encoding.specs.Variables.{arrival, arrivals, sends, steps_of};
-ghost use Rattle.send_encoding.specs.inner.Parts.{node_arrives};
+ghost use Rattle.cnf_formula.specs.Formulas.{with_clauses};
+ghost use Rattle.send_encoding.specs.Variables.{arrivals, sends};
 ghost use Rattle.send_encoding.specs.Sending.{send_over, sends_arrive, sends_into, arrives_by_sends};
 
 use crate::OutOfMemory;

@@ -1,6 +1,6 @@
 //! The sends that an assignment says.
 
-ghost use Rattle.std.specs.{Prelude.{◌≡◌, ◌+◌, ◌<◌, ◌≤◌, ◌++◌, length, OnOk, IfOk}, List.{range_with_len, flat_map, enumerate_from}};
+ghost use Rattle.std.specs.Prelude.{◌≡◌, ◌+◌, ◌<◌, ◌≤◌, ◌++◌, length, OnOk, IfOk};
 ghost use Rattle.schedule.specs.{declared.hop.Hop.Hop, Sends.IsStep};
 ghost use Rattle.send_encoding.specs.{Variables.{arrivals, sends}, Sent.{sends_of, hop_over}};
 

@@ -1,10 +1,8 @@
 //! A node is sent a chunk at most once in a step.
 
-ghost use Rattle.std.specs.{Prelude.{◌≡◌, ◌+◌, ◌<◌, ◌≤◌, OnOk}, List.{flat_map, range_with_len}};
-ghost use Rattle.schedule.specs.Sends.{IsStep};
+ghost use Rattle.std.specs.Prelude.{◌≡◌, ◌+◌, ◌≤◌, OnOk};
 ghost use Rattle.cnf_formula.specs.Formulas.{with_clauses};
-ghost use Rattle.cardinality.specs.Counting.{at_most_one_of};
-ghost use Rattle.send_encoding.specs.{Variables.{arrivals, sends}, Sending.{sends_into, arrives_once}, inner.Parts.node_once};
+ghost use Rattle.send_encoding.specs.{Variables.{arrivals, sends}, Sending.arrives_once};
 
 use crate::OutOfMemory;
 use crate::arriving::push_sends_into;

@@ -1,10 +1,9 @@
 //! The clauses of what the nodes have: at the start, from step to step, and at the end.
 
-ghost use Rattle.std.specs.{Prelude.{◌≡◌, ◌+◌, ◌<◌, ◌≤◌, ◌-◌, ◌∷◌, [], OnOk}, List.{flat_map, range_with_len}};
-ghost use Rattle.schedule.specs.{Placed.holds, Sends.IsStep};
-ghost use Rattle.cnf_formula.specs.{Literals.negation, Formulas.with_clauses};
-ghost use Rattle.send_encoding.specs.{Variables.{arrival, arrivals, sends}, Sending.{at_start, keeps, at_end}};
-ghost use Rattle.send_encoding.specs.inner.Parts.{node_starts, node_keeps, node_ends};
+ghost use Rattle.std.specs.Prelude.{◌≡◌, ◌+◌, ◌<◌, ◌≤◌, OnOk};
+ghost use Rattle.cnf_formula.specs.Formulas.{with_clauses};
+ghost use Rattle.send_encoding.specs.{Variables.{arrivals, sends}, Sending.{at_start, keeps, at_end}};
+ghost use Rattle.send_encoding.specs.inner.Parts.{node_starts, node_ends};
 
 use crate::OutOfMemory;
 use crate::send_map::SendMap;
