@@ -1,5 +1,5 @@
 -- A candidate's formula is about its own variables and those of its counters.
-use Rattle.std.proofs.Common.{◌≡◌, ℕ, ◌+◌, ◌-◌, ◌*◌, ◌<◌, ◌≤◌, Bool, true, false, List, [], ◌∷◌, ◌++◌, length, map, get_or, refl, ◌∙◌, arith, if◌then◌else◌, flat_map, nat_lt, All}
+use Rattle.std.proofs.Common.{◌≡◌, ℕ, ◌+◌, ◌*◌, ◌<◌, ◌≤◌, Bool, true, false, List, [], ◌∷◌, ◌++◌, length, map, get_or, refl, ◌∙◌, arith, if◌then◌else◌, flat_map, nat_lt, All}
 use Rattle.std.{specs.List.{list_any, range_with_len}, proofs.lemmas.{Bool.ltb-true, List.Elements.{All-nil, All-cons, All-head, All-tail, All-append}}}
 use Rattle.std.proofs.{lemmas.List.{Folds.list_any_at, FromFn.length-map-range_with_len}, Math.Nat.mul-le-mul_left}
 use Rattle.std.proofs.lemmas.Bool.Decides.{nat_tests}

@@ -1,9 +1,9 @@
 //! What a group of links carries in a step.
 
-ghost use Rattle.std.specs.{Prelude.{◌≡◌, ◌+◌, ◌-◌, ◌*◌, ◌<◌, ◌≤◌, ◌∷◌, ◌++◌, [], All, length, map, OnOk, IfOk}, List.{flat_map, range_with_len}};
+ghost use Rattle.std.specs.{Prelude.{◌≡◌, ◌+◌, ◌*◌, ◌<◌, ◌≤◌, All, length, map, OnOk, IfOk}, List.{flat_map, range_with_len}};
 ghost use Rattle.schedule.specs.Sends.{IsStep};
-ghost use Rattle.cnf_formula.specs.{Literals.negation, Formulas.{IsAbout, IsClause, with_clauses}};
-ghost use Rattle.send_encoding.specs.Variables.{sends, sent, link_number};
+ghost use Rattle.cnf_formula.specs.Formulas.{IsClause, with_clauses};
+ghost use Rattle.send_encoding.specs.Variables.{sent, link_number};
 ghost use Rattle.round_encoding.specs.{Frames.{extra_round, own_variables}, Rounding.{count_of_group, output_at, with_count}, inner.Counts.said_of_group};
 
 use crate::OutOfMemory;
@@ -13,25 +13,6 @@ use cnf_formula::{Formula, Lit};
 use schedule::Group;
 use send_encoding::SendMap;
 use std::alloc::Global;
-
-/// The sends of a chunk over these links at a step, after other literals.
-fn push_sends(
-    inputs: &mut Vec<Lit>,
-    variables: &SendMap,
-    links: &[(u8, u8)],
-    chunk: u16,
-    step: u8,
-) -> Result<(), OutOfMemory>
-    requires chunk { chunk < variables.now.chunks }
-    requires step { IsStep variables.now.steps step }
-    requires links { All (λ link. link_number variables.now link < length variables.now.links) links.now }
-    ensures { OnOk result (inputs.new.items ≡ inputs.old.items ++ map (λ link. sent variables.now chunk (link_number variables.now link) step) links.now) }
-{
-    for link in links {
-        inputs.push(variables.sent_over(chunk, variables.number(*link), step))?;
-    }
-    Ok(())
-}
 
 /// The sends over a group's links at a step.
 fn sends_over_group(
@@ -46,29 +27,11 @@ fn sends_over_group(
 {
     let mut inputs = Vec::new(alloc);
     for chunk in 0..variables.chunks() {
-        push_sends(&mut inputs, variables, group.links(), chunk, step)?;
+        for link in group.links() {
+            inputs.push(variables.sent_over(chunk, variables.number(*link), step))?;
+        }
     }
     Ok(inputs)
-}
-
-/// Where the output is true, the step has this extra round.
-fn push_needed(
-    formula: &mut Formula,
-    full: Lit,
-    variables: &SendMap,
-    extra: u8,
-    step: u8,
-    number: u8,
-) -> Result<(), OutOfMemory>
-    requires vars { own_variables (record { map = variables.now; extra = extra }) ≤ formula.old.vars }
-    requires small { formula.old.vars < 2147483648 }
-    requires full { IsAbout formula.old.vars full }
-    requires step { IsStep variables.now.steps step }
-    requires number { IsStep extra number }
-    requires few { extra ≤ 8 }
-    ensures { OnOk result (formula.new ≡ with_clauses formula.old ((negation full ∷ extra_round (record { map = variables.now; extra = extra }) step number ∷ []) ∷ [])) }
-{
-    formula.add(&[full.negated(), extra_round(variables, extra, step, number)])
 }
 
 /// The width suffices for the step's first round, and for each extra round that it has: what is
@@ -91,7 +54,10 @@ fn push_said(
 {
     for index in 0..extra {
         let full = outputs[width as usize * (index as usize + 1)];
-        push_needed(formula, full, variables, extra, step, index + 1)?;
+        formula.add(&[
+            full.negated(),
+            extra_round(variables, extra, step, index + 1),
+        ])?;
     }
     formula.add(&[outputs[width as usize * (1 + extra as usize)].negated()])
 }

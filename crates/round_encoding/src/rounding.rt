@@ -1,7 +1,6 @@
 //! Extra rounds: in their order, and together no more than there are.
 
-ghost use Rattle.std.specs.{Prelude.{◌≡◌, ◌+◌, ◌-◌, ◌*◌, ◌<◌, ◌≤◌, ◌∷◌, ◌++◌, [], if◌then◌else◌, length, map, nat_lt, OnOk, IfOk}, List.range_with_len};
-ghost use Rattle.schedule.specs.Sends.{IsStep};
+ghost use Rattle.std.specs.Prelude.{◌≡◌, ◌+◌, ◌*◌, ◌<◌, ◌≤◌, ◌∷◌, [], if◌then◌else◌, length, map, nat_lt, OnOk, IfOk};
 ghost use Rattle.cnf_formula.specs.{Literals.negation, Formulas.{IsClause, with_clauses}};
 ghost use Rattle.round_encoding.specs.{Frames.{extra_round, own_variables}, Rounding.{extra_in_order, count_of_rounds, output_at, with_count}};
 ghost use Rattle.round_encoding.specs.inner.Counts.{with_counts};
@@ -13,47 +12,8 @@ use cnf_formula::{Formula, Lit};
 use send_encoding::SendMap;
 use std::alloc::Global;
 
-/// A step with an extra round has the one before it.
-fn order_at(
-    formula: &mut Formula,
-    variables: &SendMap,
-    extra: u8,
-    step: u8,
-    number: u8,
-) -> Result<(), OutOfMemory>
-    requires vars { own_variables (record { map = variables.now; extra = extra }) ≤ formula.old.vars }
-    requires small { formula.old.vars < 2147483648 }
-    requires step { IsStep variables.now.steps step }
-    requires from { 0 < number }
-    requires to { number < extra }
-    requires few { extra ≤ 8 }
-    ensures { OnOk result (formula.new ≡ with_clauses formula.old ((negation (extra_round (record { map = variables.now; extra = extra }) step (number + 1)) ∷ extra_round (record { map = variables.now; extra = extra }) step number ∷ []) ∷ [])) }
-{
-    let next = extra_round(variables, extra, step, number + 1);
-    formula.add(&[next.negated(), extra_round(variables, extra, step, number)])
-}
-
-#[tactic(auto, using(cnf_formula::proofs::Growing::grows_by_one))]
-fn step_in_order(
-    formula: &mut Formula,
-    variables: &SendMap,
-    extra: u8,
-    step: u8,
-) -> Result<(), OutOfMemory>
-    requires vars { own_variables (record { map = variables.now; extra = extra }) ≤ formula.old.vars }
-    requires small { formula.old.vars < 2147483648 }
-    requires step { IsStep variables.now.steps step }
-    requires few { extra ≤ 8 }
-    ensures { OnOk result (formula.new ≡ with_clauses formula.old (map (λ j. negation (extra_round (record { map = variables.now; extra = extra }) step (j + 1)) ∷ extra_round (record { map = variables.now; extra = extra }) step j ∷ []) (range_with_len 1 (extra - 1)))) }
-{
-    for index in 0..extra.saturating_sub(1) {
-        order_at(formula, variables, extra, step, index + 1)?;
-    }
-    Ok(())
-}
-
 /// The extra rounds of each step are used in their order.
-#[tactic(auto, using(cnf_formula::proofs::Growing::grows_more))]
+#[tactic(auto, using(cnf_formula::proofs::Growing::grows_by_one, cnf_formula::proofs::Growing::grows_more))]
 pub(crate) fn extra_in_order(
     formula: &mut Formula,
     variables: &SendMap,
@@ -65,38 +25,29 @@ pub(crate) fn extra_in_order(
     ensures { OnOk result (formula.new ≡ with_clauses formula.old (extra_in_order (record { map = variables.now; extra = extra }))) }
 {
     for index in 0..variables.steps() {
-        step_in_order(formula, variables, extra, index + 1)?;
-    }
-    Ok(())
-}
-
-/// The extra rounds of a step, after other literals.
-#[tactic(auto, using(send_encoding::proofs::Picking::pushes_after))]
-fn push_extra(
-    inputs: &mut Vec<Lit>,
-    variables: &SendMap,
-    extra: u8,
-    step: u8,
-) -> Result<(), OutOfMemory>
-    requires step { IsStep variables.now.steps step }
-    requires few { extra ≤ 8 }
-    ensures { OnOk result (inputs.new.items ≡ inputs.old.items ++ map (extra_round (record { map = variables.now; extra = extra }) step) (range_with_len 1 extra)) }
-{
-    for index in 0..extra {
-        inputs.push(extra_round(variables, extra, step, index + 1))?;
+        for before in 0..extra.saturating_sub(1) {
+            let number = before + 1;
+            let next = extra_round(variables, extra, index + 1, number + 1);
+            formula.add(&[
+                next.negated(),
+                extra_round(variables, extra, index + 1, number),
+            ])?;
+        }
     }
     Ok(())
 }
 
 /// The extra rounds of all steps.
-#[tactic(auto, using(cnf_formula::proofs::Growing::appends_more))]
+#[tactic(auto, using(send_encoding::proofs::Picking::pushes_after, cnf_formula::proofs::Growing::appends_more))]
 fn all_extra(alloc: Global, variables: &SendMap, extra: u8) -> Result<Vec<Lit>, OutOfMemory>
     requires few { extra ≤ 8 }
     ensures { IfOk result (λ v. v.items ≡ (count_of_rounds (record { map = variables.now; extra = extra })).inputs) }
 {
     let mut inputs = Vec::new(alloc);
     for index in 0..variables.steps() {
-        push_extra(&mut inputs, variables, extra, index + 1)?;
+        for number in 0..extra {
+            inputs.push(extra_round(variables, extra, index + 1, number + 1))?;
+        }
     }
     Ok(inputs)
 }

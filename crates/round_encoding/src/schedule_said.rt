@@ -1,6 +1,6 @@
 //! The schedule that an assignment says.
 
-ghost use Rattle.std.specs.Prelude.{◌≡◌, ◌+◌, ◌==◌, ◌<◌, ◌≤◌, ℕ, if◌then◌else◌, length, IfOk};
+ghost use Rattle.std.specs.Prelude.{◌≡◌, ◌+◌, ◌==◌, ◌≤◌, ℕ, if◌then◌else◌, length, IfOk};
 ghost use Rattle.schedule.specs.{Links.TopologyValue, Placed.PlacementValue, Sends.IsStep};
 ghost use Rattle.cnf_formula.specs.{Literals.is_true, Formulas.Satisfies};
 ghost use Rattle.round_encoding.specs.{Frames.{extra_round, own_variables}, Decoding.{rounds_said, rounds_of, decoded, total_said}};
@@ -89,12 +89,9 @@ fn rounds_of(
     ensures { IfOk result (λ v. v.items ≡ rounds_of (record { map = map.now; extra = extra }) assignment.now) }
 {
     let left = (map.steps() + extra).saturating_sub(all_said(map, extra, assignment));
-    let mut rounds = Vec::new(alloc);
-    for index in 0..map.steps() {
-        let rounds_here = rounds_at(map, extra, assignment, index + 1, left);
-        rounds.push(rounds_here)?;
-    }
-    Ok(rounds)
+    (1..map.steps() + 1)
+        .map(|step| rounds_at(map, extra, assignment, step, left))
+        .collect(alloc)
 }
 
 /// The schedule that a satisfying assignment says: the sends that are true, and each step's rounds,

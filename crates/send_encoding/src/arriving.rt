@@ -1,10 +1,9 @@
 //! The clauses that tie sends and arrivals.
 
-ghost use Rattle.std.specs.{Prelude.{◌≡◌, ◌+◌, ◌<◌, ◌≤◌, ◌-◌, ◌∷◌, ◌++◌, [], length, OnOk}, List.{enumerate_from, flat_map, range_with_len}};
+ghost use Rattle.std.specs.Prelude.{◌≡◌, ◌+◌, ◌<◌, ◌≤◌, ◌++◌, length, OnOk};
 ghost use Rattle.schedule.specs.{Links.IsBelow, Sends.IsStep};
-ghost use Rattle.cnf_formula.specs.{Literals.negation, Formulas.with_clauses};
-ghost use Rattle.send_encoding.specs.Variables.{arrival, arrivals, sends, steps_of};
-ghost use Rattle.send_encoding.specs.inner.Parts.{node_arrives};
+ghost use Rattle.cnf_formula.specs.Formulas.{with_clauses};
+ghost use Rattle.send_encoding.specs.Variables.{arrivals, sends};
 ghost use Rattle.send_encoding.specs.Sending.{send_over, sends_arrive, sends_into, arrives_by_sends};
 
 use crate::OutOfMemory;
@@ -35,37 +34,6 @@ fn send_over(
     formula.add(&[idle, map.arrival(chunk, to, step)])
 }
 
-#[tactic(auto, using(cnf_formula::proofs::Growing::grows_more))]
-fn sends_over(
-    formula: &mut Formula,
-    map: &SendMap,
-    chunk: u16,
-    number: usize,
-    link: (u8, u8),
-) -> Result<(), OutOfMemory>
-    requires vars { arrivals map.now + sends map.now ≤ formula.old.vars }
-    requires chunk { chunk < map.now.chunks }
-    requires number { number < length map.now.links }
-    requires link { IsBelow map.now.nodes link }
-    ensures { OnOk result (formula.new ≡ with_clauses formula.old (flat_map (send_over map.now chunk (number, link)) (steps_of map.now))) }
-{
-    for index in 0..map.steps() {
-        send_over(formula, map, chunk, number, link, index + 1)?;
-    }
-    Ok(())
-}
-
-fn sends_of_chunk(formula: &mut Formula, map: &SendMap, chunk: u16) -> Result<(), OutOfMemory>
-    requires vars { arrivals map.now + sends map.now ≤ formula.old.vars }
-    requires chunk { chunk < map.now.chunks }
-    ensures { OnOk result (formula.new ≡ with_clauses formula.old (flat_map (λ link. flat_map (send_over map.now chunk link) (steps_of map.now)) (enumerate_from 0 map.now.links))) }
-{
-    for (number, link) in map.links().iter().enumerate() {
-        sends_over(formula, map, chunk, number, *link)?;
-    }
-    Ok(())
-}
-
 /// The clauses of every send.
 #[tactic(auto, using(cnf_formula::proofs::Growing::grows_more))]
 pub(crate) fn sends_arrive(formula: &mut Formula, map: &SendMap) -> Result<(), OutOfMemory>
@@ -73,7 +41,11 @@ pub(crate) fn sends_arrive(formula: &mut Formula, map: &SendMap) -> Result<(), O
     ensures { OnOk result (formula.new ≡ with_clauses formula.old (sends_arrive map.now)) }
 {
     for chunk in 0..map.chunks() {
-        sends_of_chunk(formula, map, chunk)?;
+        for (number, link) in map.links().iter().enumerate() {
+            for index in 0..map.steps() {
+                send_over(formula, map, chunk, number, *link, index + 1)?;
+            }
+        }
     }
     Ok(())
 }
@@ -98,69 +70,8 @@ pub(crate) fn push_sends_into(
     Ok(())
 }
 
-/// A node that has a chunk after a step had it before, or was sent it. What `clause` held is left
-/// out.
-fn arrives_at(
-    clause: &mut Vec<Lit>,
-    formula: &mut Formula,
-    map: &SendMap,
-    chunk: u16,
-    node: u8,
-    step: u8,
-) -> Result<(), OutOfMemory>
-    requires vars { arrivals map.now + sends map.now ≤ formula.old.vars }
-    requires chunk { chunk < map.now.chunks }
-    requires node { node < map.now.nodes }
-    requires step { IsStep map.now.steps step }
-    ensures { OnOk result (formula.new ≡ with_clauses formula.old ((arrival map.now chunk node (step - 1) ∷ negation (arrival map.now chunk node step) ∷ sends_into map.now chunk node step) ∷ [])) }
-{
-    let before = map.arrival(chunk, node, step - 1);
-    let after = map.arrival(chunk, node, step);
-    clause.clear();
-    clause.push(before)?;
-    clause.push(after.negated())?;
-    push_sends_into(clause, map, chunk, node, step)?;
-    formula.add(clause)
-}
-
-#[tactic(auto, using(cnf_formula::proofs::Growing::grows_by_one))]
-fn arrives_at_node(
-    clause: &mut Vec<Lit>,
-    formula: &mut Formula,
-    map: &SendMap,
-    chunk: u16,
-    node: u8,
-) -> Result<(), OutOfMemory>
-    requires vars { arrivals map.now + sends map.now ≤ formula.old.vars }
-    requires chunk { chunk < map.now.chunks }
-    requires node { node < map.now.nodes }
-    ensures { OnOk result (formula.new ≡ with_clauses formula.old (node_arrives map.now (chunk, node))) }
-{
-    for index in 0..map.steps() {
-        arrives_at(clause, formula, map, chunk, node, index + 1)?;
-    }
-    Ok(())
-}
-
-#[tactic(auto, using(cnf_formula::proofs::Growing::grows_more))]
-fn chunk_arrives(
-    clause: &mut Vec<Lit>,
-    formula: &mut Formula,
-    map: &SendMap,
-    chunk: u16,
-) -> Result<(), OutOfMemory>
-    requires vars { arrivals map.now + sends map.now ≤ formula.old.vars }
-    requires chunk { chunk < map.now.chunks }
-    ensures { OnOk result (formula.new ≡ with_clauses formula.old (flat_map (λ n. node_arrives map.now (chunk, n)) (range_with_len 0 map.now.nodes))) }
-{
-    for node in 0..map.nodes() {
-        arrives_at_node(clause, formula, map, chunk, node)?;
-    }
-    Ok(())
-}
-
-/// The clauses of every arrival.
-#[tactic(auto, using(cnf_formula::proofs::Growing::grows_more, crate::proofs::Picking::pairs_of_loops))]
+/// A node that has a chunk after a step had it before, or was sent it.
+#[tactic(auto, using(cnf_formula::proofs::Growing::grows_by_one, cnf_formula::proofs::Growing::grows_more))]
 pub(crate) fn arrives_by_sends(
     alloc: Global,
     formula: &mut Formula,
@@ -171,7 +82,17 @@ pub(crate) fn arrives_by_sends(
 {
     let mut clause = Vec::new(alloc);
     for chunk in 0..map.chunks() {
-        chunk_arrives(&mut clause, formula, map, chunk)?;
+        for node in 0..map.nodes() {
+            for index in 0..map.steps() {
+                let before = map.arrival(chunk, node, index);
+                let after = map.arrival(chunk, node, index + 1);
+                clause.clear();
+                clause.push(before)?;
+                clause.push(after.negated())?;
+                push_sends_into(&mut clause, map, chunk, node, index + 1)?;
+                formula.add(&clause)?;
+            }
+        }
     }
     Ok(())
 }

@@ -1,6 +1,6 @@
 //! The sends that an assignment says.
 
-ghost use Rattle.std.specs.{Prelude.{◌≡◌, ◌+◌, ◌<◌, ◌≤◌, ◌++◌, length, OnOk, IfOk}, List.{range_with_len, flat_map, enumerate_from}};
+ghost use Rattle.std.specs.Prelude.{◌≡◌, ◌+◌, ◌<◌, ◌≤◌, ◌++◌, length, OnOk, IfOk};
 ghost use Rattle.schedule.specs.{declared.hop.Hop.Hop, Sends.IsStep};
 ghost use Rattle.send_encoding.specs.{Variables.{arrivals, sends}, Sent.{sends_of, hop_over}};
 
@@ -41,43 +41,8 @@ fn push_send(
     Ok(())
 }
 
-fn push_sends_of(
-    hops: &mut Vec<Hop>,
-    map: &SendMap,
-    assignment: &Assignment,
-    step: u8,
-    chunk: u16,
-) -> Result<(), OutOfMemory>
-    requires vars { arrivals map.now + sends map.now ≤ length assignment.now }
-    requires chunk { chunk < map.now.chunks }
-    requires step { IsStep map.now.steps step }
-    ensures { OnOk result (hops.new.items ≡ hops.old.items ++ flat_map (hop_over map.now assignment.now step chunk) (enumerate_from 0 map.now.links)) }
-{
-    for (number, link) in map.links().iter().enumerate() {
-        push_send(hops, map, assignment, step, chunk, number, *link)?;
-    }
-    Ok(())
-}
-
-#[tactic(auto, using(crate::proofs::Picking::appends_after))]
-fn push_sends_at(
-    hops: &mut Vec<Hop>,
-    map: &SendMap,
-    assignment: &Assignment,
-    step: u8,
-) -> Result<(), OutOfMemory>
-    requires vars { arrivals map.now + sends map.now ≤ length assignment.now }
-    requires step { IsStep map.now.steps step }
-    ensures { OnOk result (hops.new.items ≡ hops.old.items ++ flat_map (λ c. flat_map (hop_over map.now assignment.now step c) (enumerate_from 0 map.now.links)) (range_with_len 0 map.now.chunks)) }
-{
-    for chunk in 0..map.chunks() {
-        push_sends_of(hops, map, assignment, step, chunk)?;
-    }
-    Ok(())
-}
-
 /// The sends that are true, by step, chunk and link.
-#[tactic(auto, using(cnf_formula::proofs::Growing::appends_more))]
+#[tactic(auto, using(cnf_formula::proofs::Growing::appends_more, crate::proofs::Picking::appends_after))]
 pub fn sends_of(
     alloc: Global,
     map: &SendMap,
@@ -88,7 +53,11 @@ pub fn sends_of(
 {
     let mut hops = Vec::new(alloc);
     for index in 0..map.steps() {
-        push_sends_at(&mut hops, map, assignment, index + 1)?;
+        for chunk in 0..map.chunks() {
+            for (number, link) in map.links().iter().enumerate() {
+                push_send(&mut hops, map, assignment, index + 1, chunk, number, *link)?;
+            }
+        }
     }
     Ok(hops)
 }

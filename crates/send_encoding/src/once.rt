@@ -1,10 +1,8 @@
 //! A node is sent a chunk at most once in a step.
 
-ghost use Rattle.std.specs.{Prelude.{◌≡◌, ◌+◌, ◌<◌, ◌≤◌, OnOk}, List.{flat_map, range_with_len}};
-ghost use Rattle.schedule.specs.Sends.{IsStep};
+ghost use Rattle.std.specs.Prelude.{◌≡◌, ◌+◌, ◌≤◌, OnOk};
 ghost use Rattle.cnf_formula.specs.Formulas.{with_clauses};
-ghost use Rattle.cardinality.specs.Counting.{at_most_one_of};
-ghost use Rattle.send_encoding.specs.{Variables.{arrivals, sends}, Sending.{sends_into, arrives_once}, inner.Parts.node_once};
+ghost use Rattle.send_encoding.specs.{Variables.{arrivals, sends}, Sending.arrives_once};
 
 use crate::OutOfMemory;
 use crate::arriving::push_sends_into;
@@ -13,66 +11,8 @@ use cardinality::at_most_one;
 use cnf_formula::{Formula, Lit};
 use std::alloc::Global;
 
-/// A node is sent a chunk at a step at most once. What `into` held is left out.
-#[tactic(auto, using(crate::proofs::Within::into_within))]
-fn once_at(
-    into: &mut Vec<Lit>,
-    formula: &mut Formula,
-    map: &SendMap,
-    chunk: u16,
-    node: u8,
-    step: u8,
-) -> Result<(), OutOfMemory>
-    requires vars { arrivals map.now + sends map.now ≤ formula.old.vars }
-    requires chunk { chunk < map.now.chunks }
-    requires node { node < map.now.nodes }
-    requires step { IsStep map.now.steps step }
-    ensures { OnOk result (formula.new ≡ with_clauses formula.old (at_most_one_of (sends_into map.now chunk node step))) }
-{
-    let _known = map.steps();
-    into.clear();
-    push_sends_into(into, map, chunk, node, step)?;
-    at_most_one(formula, into)
-}
-
-#[tactic(auto, using(cnf_formula::proofs::Growing::grows_more))]
-fn node_once(
-    into: &mut Vec<Lit>,
-    formula: &mut Formula,
-    map: &SendMap,
-    chunk: u16,
-    node: u8,
-) -> Result<(), OutOfMemory>
-    requires vars { arrivals map.now + sends map.now ≤ formula.old.vars }
-    requires chunk { chunk < map.now.chunks }
-    requires node { node < map.now.nodes }
-    ensures { OnOk result (formula.new ≡ with_clauses formula.old (node_once map.now (chunk, node))) }
-{
-    for index in 0..map.steps() {
-        once_at(into, formula, map, chunk, node, index + 1)?;
-    }
-    Ok(())
-}
-
-#[tactic(auto, using(cnf_formula::proofs::Growing::grows_more))]
-fn chunk_once(
-    into: &mut Vec<Lit>,
-    formula: &mut Formula,
-    map: &SendMap,
-    chunk: u16,
-) -> Result<(), OutOfMemory>
-    requires vars { arrivals map.now + sends map.now ≤ formula.old.vars }
-    requires chunk { chunk < map.now.chunks }
-    ensures { OnOk result (formula.new ≡ with_clauses formula.old (flat_map (λ n. node_once map.now (chunk, n)) (range_with_len 0 map.now.nodes))) }
-{
-    for node in 0..map.nodes() {
-        node_once(into, formula, map, chunk, node)?;
-    }
-    Ok(())
-}
-
 /// A node is sent a chunk at most once in a step.
-#[tactic(auto, using(cnf_formula::proofs::Growing::grows_more, crate::proofs::Picking::pairs_of_loops))]
+#[tactic(auto, using(cnf_formula::proofs::Growing::grows_more))]
 pub(crate) fn arrives_once(
     alloc: Global,
     formula: &mut Formula,
@@ -83,7 +23,13 @@ pub(crate) fn arrives_once(
 {
     let mut into = Vec::new(alloc);
     for chunk in 0..map.chunks() {
-        chunk_once(&mut into, formula, map, chunk)?;
+        for node in 0..map.nodes() {
+            for index in 0..map.steps() {
+                into.clear();
+                push_sends_into(&mut into, map, chunk, node, index + 1)?;
+                at_most_one(formula, &into)?;
+            }
+        }
     }
     Ok(())
 }

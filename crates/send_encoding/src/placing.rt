@@ -1,10 +1,9 @@
 //! The clauses of what the nodes have: at the start, from step to step, and at the end.
 
-ghost use Rattle.std.specs.{Prelude.{◌≡◌, ◌+◌, ◌<◌, ◌≤◌, ◌-◌, ◌∷◌, [], OnOk}, List.{flat_map, range_with_len}};
-ghost use Rattle.schedule.specs.{Placed.holds, Sends.IsStep};
-ghost use Rattle.cnf_formula.specs.{Literals.negation, Formulas.with_clauses};
-ghost use Rattle.send_encoding.specs.{Variables.{arrival, arrivals, sends}, Sending.{at_start, keeps, at_end}};
-ghost use Rattle.send_encoding.specs.inner.Parts.{node_starts, node_keeps, node_ends};
+ghost use Rattle.std.specs.Prelude.{◌≡◌, ◌+◌, ◌<◌, ◌≤◌, OnOk};
+ghost use Rattle.cnf_formula.specs.Formulas.{with_clauses};
+ghost use Rattle.send_encoding.specs.{Variables.{arrivals, sends}, Sending.{at_start, keeps, at_end}};
+ghost use Rattle.send_encoding.specs.inner.Parts.{node_starts, node_ends};
 
 use crate::OutOfMemory;
 use crate::send_map::SendMap;
@@ -34,25 +33,6 @@ fn node_starts(
     }
 }
 
-#[tactic(auto, using(cnf_formula::proofs::Growing::grows_more))]
-fn chunk_starts(
-    formula: &mut Formula,
-    map: &SendMap,
-    pre: &Placement,
-    chunk: u16,
-) -> Result<(), OutOfMemory>
-    requires vars { arrivals map.now + sends map.now ≤ formula.old.vars }
-    requires chunk { chunk < map.now.chunks }
-    requires chunks { pre.now.chunks ≡ map.now.chunks }
-    requires nodes { pre.now.nodes ≡ map.now.nodes }
-    ensures { OnOk result (formula.new ≡ with_clauses formula.old (flat_map (λ n. node_starts map.now pre.now (chunk, n)) (range_with_len 0 map.now.nodes))) }
-{
-    for node in 0..map.nodes() {
-        node_starts(formula, map, pre, chunk, node)?;
-    }
-    Ok(())
-}
-
 /// At the start the nodes have what they have before.
 #[tactic(auto, using(cnf_formula::proofs::Growing::grows_more))]
 pub(crate) fn at_start(
@@ -66,62 +46,26 @@ pub(crate) fn at_start(
     ensures { OnOk result (formula.new ≡ with_clauses formula.old (at_start map.now pre.now)) }
 {
     for chunk in 0..map.chunks() {
-        chunk_starts(formula, map, pre, chunk)?;
-    }
-    Ok(())
-}
-
-/// What a node has before a step it has after it.
-fn keeps_at(
-    formula: &mut Formula,
-    map: &SendMap,
-    chunk: u16,
-    node: u8,
-    step: u8,
-) -> Result<(), OutOfMemory>
-    requires vars { arrivals map.now + sends map.now ≤ formula.old.vars }
-    requires chunk { chunk < map.now.chunks }
-    requires node { node < map.now.nodes }
-    requires step { IsStep map.now.steps step }
-    ensures { OnOk result (formula.new ≡ with_clauses formula.old ((negation (arrival map.now chunk node (step - 1)) ∷ arrival map.now chunk node step ∷ []) ∷ [])) }
-{
-    let before = map.arrival(chunk, node, step - 1);
-    formula.add(&[before.negated(), map.arrival(chunk, node, step)])
-}
-
-#[tactic(auto, using(cnf_formula::proofs::Growing::grows_by_one))]
-fn node_keeps(formula: &mut Formula, map: &SendMap, chunk: u16, node: u8) -> Result<(), OutOfMemory>
-    requires vars { arrivals map.now + sends map.now ≤ formula.old.vars }
-    requires chunk { chunk < map.now.chunks }
-    requires node { node < map.now.nodes }
-    ensures { OnOk result (formula.new ≡ with_clauses formula.old (node_keeps map.now (chunk, node))) }
-{
-    for index in 0..map.steps() {
-        keeps_at(formula, map, chunk, node, index + 1)?;
-    }
-    Ok(())
-}
-
-#[tactic(auto, using(cnf_formula::proofs::Growing::grows_more))]
-fn chunk_keeps(formula: &mut Formula, map: &SendMap, chunk: u16) -> Result<(), OutOfMemory>
-    requires vars { arrivals map.now + sends map.now ≤ formula.old.vars }
-    requires chunk { chunk < map.now.chunks }
-    ensures { OnOk result (formula.new ≡ with_clauses formula.old (flat_map (λ n. node_keeps map.now (chunk, n)) (range_with_len 0 map.now.nodes))) }
-{
-    for node in 0..map.nodes() {
-        node_keeps(formula, map, chunk, node)?;
+        for node in 0..map.nodes() {
+            node_starts(formula, map, pre, chunk, node)?;
+        }
     }
     Ok(())
 }
 
 /// What a node has it keeps.
-#[tactic(auto, using(cnf_formula::proofs::Growing::grows_more, crate::proofs::Picking::pairs_of_loops))]
+#[tactic(auto, using(cnf_formula::proofs::Growing::grows_by_one, cnf_formula::proofs::Growing::grows_more, crate::proofs::Picking::pairs_of_loops))]
 pub(crate) fn keeps(formula: &mut Formula, map: &SendMap) -> Result<(), OutOfMemory>
     requires vars { arrivals map.now + sends map.now ≤ formula.old.vars }
     ensures { OnOk result (formula.new ≡ with_clauses formula.old (keeps map.now)) }
 {
     for chunk in 0..map.chunks() {
-        chunk_keeps(formula, map, chunk)?;
+        for node in 0..map.nodes() {
+            for index in 0..map.steps() {
+                let before = map.arrival(chunk, node, index);
+                formula.add(&[before.negated(), map.arrival(chunk, node, index + 1)])?;
+            }
+        }
     }
     Ok(())
 }
@@ -147,25 +91,6 @@ fn node_ends(
     Ok(())
 }
 
-#[tactic(auto, using(cnf_formula::proofs::Growing::grows_more))]
-fn chunk_ends(
-    formula: &mut Formula,
-    map: &SendMap,
-    post: &Placement,
-    chunk: u16,
-) -> Result<(), OutOfMemory>
-    requires vars { arrivals map.now + sends map.now ≤ formula.old.vars }
-    requires chunk { chunk < map.now.chunks }
-    requires chunks { post.now.chunks ≡ map.now.chunks }
-    requires nodes { post.now.nodes ≡ map.now.nodes }
-    ensures { OnOk result (formula.new ≡ with_clauses formula.old (flat_map (λ n. node_ends map.now post.now (chunk, n)) (range_with_len 0 map.now.nodes))) }
-{
-    for node in 0..map.nodes() {
-        node_ends(formula, map, post, chunk, node)?;
-    }
-    Ok(())
-}
-
 /// At the end the nodes have what they have after.
 #[tactic(auto, using(cnf_formula::proofs::Growing::grows_more, crate::proofs::Picking::pairs_of_loops, crate::proofs::Picking::picked_flat))]
 pub(crate) fn at_end(
@@ -179,7 +104,9 @@ pub(crate) fn at_end(
     ensures { OnOk result (formula.new ≡ with_clauses formula.old (at_end map.now post.now)) }
 {
     for chunk in 0..map.chunks() {
-        chunk_ends(formula, map, post, chunk)?;
+        for node in 0..map.nodes() {
+            node_ends(formula, map, post, chunk, node)?;
+        }
     }
     Ok(())
 }

@@ -1,4 +1,4 @@
-use Rattle.std.proofs.{Common.{◌≡◌, ◌-◌, ◌≤◌, arith, sym, subst, rules}, lemmas.Nat.mul-le}
+use Rattle.std.proofs.{Common.{◌≡◌, ◌≤◌, arith, sym, subst, rules}, lemmas.Nat.mul-le}
 use Rattle.round_encoding.{specs.Frames.{extra_round, own_variables}, proofs.Extras.extra_within}
 use Rattle.round_encoding.proofs.extra.extra_round.Goals as goal
 

@@ -5,3 +5,6 @@ use Rattle.send_encoding.proofs.placing.at_end.Given as goal
 
 abbrev pub invariant-loop-chunk : goal.invariant-loop-chunk
 invariant-loop-chunk l = l.formula ≡ with_clauses l.initial.formula (flat_map (λ c. flat_map (λ n. node_ends l.map l.post (c, n)) (range_with_len 0 l.map.nodes)) (range_with_len 0 l.chunk))
+
+abbrev pub invariant-loop-node : goal.invariant-loop-node
+invariant-loop-node l = l.formula ≡ with_clauses l.initial.formula (flat_map (λ n. node_ends l.map l.post (l.chunk, n)) (range_with_len 0 l.node))

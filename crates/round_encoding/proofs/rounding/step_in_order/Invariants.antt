@@ -1,7 +1,0 @@
-use Rattle.std.{proofs.Common.{◌≡◌, ◌+◌, ◌∷◌, [], map}, specs.List.range_with_len}
-use Rattle.cnf_formula.specs.{Literals.negation, Formulas.with_clauses}
-use Rattle.round_encoding.specs.Frames.{extra_round}
-use Rattle.round_encoding.proofs.rounding.step_in_order.Given as goal
-
-abbrev pub invariant-loop-index : goal.invariant-loop-index
-invariant-loop-index l = l.formula ≡ with_clauses l.initial.formula (map (λ j. negation (extra_round (record { map = l.variables; extra = l.extra }) l.step (j + 1)) ∷ extra_round (record { map = l.variables; extra = l.extra }) l.step j ∷ []) (range_with_len 1 l.index))

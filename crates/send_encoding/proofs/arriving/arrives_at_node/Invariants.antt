@@ -1,7 +1,0 @@
-use Rattle.std.{proofs.Common.{◌≡◌, ◌-◌, ◌∷◌, map}, specs.List.range_with_len}
-use Rattle.cnf_formula.specs.{Literals.negation, Formulas.with_clauses}
-use Rattle.send_encoding.specs.{Variables.arrival, Sending.sends_into}
-use Rattle.send_encoding.proofs.arriving.arrives_at_node.Given as goal
-
-abbrev pub invariant-loop-index : goal.invariant-loop-index
-invariant-loop-index l = l.formula ≡ with_clauses l.initial.formula (map (λ s. arrival l.map l.chunk l.node (s - 1) ∷ negation (arrival l.map l.chunk l.node s) ∷ sends_into l.map l.chunk l.node s) (range_with_len 1 l.index))
