@@ -70,6 +70,7 @@ fn met_twice(
 }
 
 /// The first pair of a placement of so many chunks.
+#[tactic(auto, using(schedule::proofs::Grids::find_here, schedule::proofs::Grids::find_later, schedule::proofs::Grids::find_nowhere, schedule::proofs::Grids::rows_start))]
 fn first_pair(placement: &Placement, chunks: u16) -> Option<(u16, u8)>
     requires { placement.now.chunks ≡ chunks }
     ensures { result ≡ find (holds placement.now) (all_pairs chunks placement.now.nodes) }

@@ -22,6 +22,7 @@ pub fn each_joined_point_joins_two()
 
 /// The verdict is `Sums` exactly where the schedule fits, never clashes, and sums every chunk at
 /// every node.
+#[tactic(auto, using(crate::proofs::Told::all_summed_exactly))]
 pub fn joined_sums_are_told_exactly()
     ensures { (t : TopologyValue) (chunks : ℕ) (s : ScheduleValue) (adding : ℕ) → IsSchedule s → IsInRange chunks t.nodes s
         → (joined_verdict_of t chunks s adding ≡ SumVerdict.Sums) ↔ AllSummed t chunks s adding }

@@ -11,6 +11,7 @@ use collective_spec::Kind;
 use node_cuts::laws::cuts_refute;
 
 /// No schedule solves a candidate that is cut away, where what is asked for copies.
+#[tactic(auto, using(candidate_order::proofs::Achieved::achieved, crate::proofs::CutAway::copied_cut))]
 pub fn what_is_cut_away_has_no_schedule()
     ensures { (q : QuestionValue) (x : Candidate) → adds_up q.spec ≡ false → is_cut_away q x ≡ true → IsSolvable q x → ⊥ }
 {
@@ -19,6 +20,7 @@ pub fn what_is_cut_away_has_no_schedule()
 
 /// Nothing is cut away where the question has no cuts made. What copies has its candidates cut over
 /// its own links, and a reduction has those of the copying collective of which it is the inverse.
+#[tactic(auto, using(crate::proofs::CutAway::never_cut_away, crate::proofs::CutAway::copied_cut, crate::proofs::CutAway::reduced_cut))]
 pub fn what_is_searched_is_cut()
     ensures unasked { (q : QuestionValue) (x : Candidate) → q.limits.pruning.cuts ≡ false → is_cut_away q x ≡ false }
     ensures copies { (q : QuestionValue) (x : Candidate) → adds_up q.spec ≡ false → is_cut_away q x ≡ is_cut (sets_for q.limits.pruning) q x }

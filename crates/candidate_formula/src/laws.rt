@@ -15,29 +15,34 @@ use collective_spec::Kind;
 
 /// The formula of a candidate within the limits of a small question is satisfiable exactly where
 /// some schedule solves the candidate, whether or not only ordered schedules are sought.
+#[tactic(auto, using(crate::proofs::Exact::formula_exact))]
 pub fn formulas_are_exact()
     ensures { (q : QuestionValue) (x : Candidate) → IsSmallQuestion q → IsWithin q x → Satisfiable (formula_for q x) ↔ IsSolvable q x }
 {}
 
 /// So is the formula with the clauses of the order, whatever the question has sought.
+#[tactic(auto, using(crate::proofs::Exact::ordered_exact))]
 pub fn questions_have_exact_ordered_formulas()
     ensures { (q : QuestionValue) (x : Candidate) → IsSmallQuestion q → IsWithin q x → Satisfiable (ordered_formula_for q x) ↔ IsSolvable q x }
 {}
 
 /// A candidate within the limits of a small question that some schedule solves is solved by one
 /// that has what the question asks beside solving.
+#[tactic(auto, using(crate::proofs::Suited::suited_suffice))]
 pub fn suited_schedules_suffice()
     ensures { (q : QuestionValue) (x : Candidate) → IsSmallQuestion q → IsWithin q x → IsSolvable q x ↔ HasSuited q x }
 {}
 
 /// A candidate within the limits of a small question is a candidate for the question's instance,
 /// and no larger than the question.
+#[tactic(auto, using(crate::proofs::Sought::candidate_is, crate::proofs::Bounded::candidate_small))]
 pub fn candidates_are_small()
     ensures candidate { (q : QuestionValue) (x : Candidate) → IsSmallQuestion q → IsWithin q x → IsCandidate q.topology (instance_for q x).pre (instance_for q x).post x.s x.r }
     ensures size { (q : QuestionValue) (x : Candidate) → IsSmallQuestion q → IsWithin q x → candidate_size q.topology (instance_for q x).pre x.s x.r ≤ size_limit }
 {}
 
 /// A schedule that solves the instance of a candidate and wastes no send solves the candidate.
+#[tactic(auto, using(crate::proofs::Exact::tight_solves))]
 pub fn tight_solutions_solve()
     ensures { (q : QuestionValue) (x : Candidate) (schedule : ScheduleValue) → adds_up q.spec ≡ false
         → IsTightSolution q.topology (instance_for q x).pre (instance_for q x).post schedule x.s x.r → IsSolvedBy q x schedule }

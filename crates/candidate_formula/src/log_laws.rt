@@ -16,12 +16,14 @@ pub fn proof_texts_are_read_as_they_are_spelled()
 {}
 
 /// The text of lines whose numbers a reader takes says just these lines.
+#[tactic(auto, using(crate::proofs::ReadBack::text_says))]
 pub fn logs_are_read_back()
     ensures { (lines : List LratLine) → All IsReadable lines → lines_of_text (lrat_text lines) ≡ Ok lines }
 {}
 
 /// The text of at most 100,001 additions, each with at most 2,097,152 literals and at most one hint
 /// more, is not too long for a file of proof lines.
+#[tactic(auto, using(crate::proofs::Short::log_short))]
 pub fn logs_are_short()
     ensures { (lines : List ProofLineValue) → All IsReadable (map Addition lines) → All IsShortLine lines → length lines ≤ most_lines → length (lrat_text (map Addition lines)) ≤ longest_proof }
 {}

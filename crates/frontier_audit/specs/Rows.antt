@@ -11,6 +11,7 @@ use Rattle.collective_spec.specs.declared.kind.Kind.{Kind, TheVariants.{Broadcas
 use Rattle.topology_text.specs.{declared.family_kind.FamilyKind.TheVariants.Ring, Family.family_of, Value.NamedTopologyValue}
 use Rattle.report_form.specs.{Reports.{WordsValue, ReportValue, question_of}, Rows.{point, two_nodes, relay_report, allreduce_report}}
 use Rattle.candidate_formula.specs.Files.{file_of}
+unfoldable pub use Rattle.std.specs.Fmt.{digits}
 
 abbrev pub same_name : ProofName → ProofName → Bool
 same_name a b = kind_number a.kind == kind_number b.kind && part_number a.part == part_number b.part && a.s == b.s && a.r == b.r && a.c == b.c

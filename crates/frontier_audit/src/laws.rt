@@ -59,6 +59,7 @@ pub fn candidates_are_those_within()
 
 /// Two lists in the order of the search that have the same candidates are one list, and so are two
 /// lists of sends in their order that have the same sends.
+#[tactic(auto, using(candidate_order::proofs::Unique::one_list_of_candidates, crate::proofs::Unique::one_list_of_sends))]
 pub fn ascending_lists_are_told_by_their_members()
     ensures candidates { (xs ys : List Candidate) → AllPairs Before xs → AllPairs Before ys → ((x : Candidate) → Contains xs x ↔ Contains ys x) → xs ≡ ys }
     ensures sends { (xs ys : List Hop) → AllPairs (λ a b. hop_before a b ≡ true) xs → AllPairs (λ a b. hop_before a b ≡ true) ys → ((h : Hop) → Contains xs h ↔ Contains ys h) → xs ≡ ys }

@@ -44,6 +44,7 @@ impl<'a> Model for PartQuestion<'a> {
 
 impl<'a> PartQuestion<'a> {
     /// What a report asks for in one of its parts. The only error is `OutOfMemory`.
+    #[tactic(auto, using(crate::proofs::Asking::made_of, crate::proofs::Asking::part_asked))]
     pub(crate) fn of(
         alloc: Global,
         report: &'a Report,
@@ -96,6 +97,7 @@ impl<'a> PartQuestion<'a> {
 
     /// Whether a set of nodes refutes a candidate within the limits, where the words of the report
     /// have candidates left out for that. It costs a comparison.
+    #[tactic(auto, using(crate::proofs::Asking::cut_is))]
     pub(crate) fn is_cut_away(&self, candidate: Candidate) -> bool
         requires { IsWithin self.now candidate }
         ensures { result ≡ is_cut_away self.now candidate }

@@ -14,6 +14,7 @@ use schedule::{Verdict, solves};
 use std::alloc::Global;
 
 /// The first point whose schedule does not do what is asked. The only error is `OutOfMemory`.
+#[tactic(auto, using(std::proofs::lemmas::Bool::Decides::nat_tests, crate::proofs::Walking::denied_here, crate::proofs::Walking::passed_here))]
 pub(crate) fn points_denied(
     alloc: Global,
     asked: &PartQuestion<'_>,

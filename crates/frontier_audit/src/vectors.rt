@@ -1,4 +1,5 @@
 //! What the definitions give on small reports, files and texts.
+#![tactic(auto, unfolding(crate::specs::Rows::digits))]
 
 ghost use Rattle.std.specs.Prelude.{◌≡◌, [], ◌∷◌, ◌++◌, Ok, Err, codes, pos};
 ghost use Rattle.schedule.specs.Rows.{send};

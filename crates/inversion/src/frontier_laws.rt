@@ -27,6 +27,7 @@ pub fn a_reduction_is_solvable_where_its_copy_is()
 {}
 
 /// The collective that copies has the instance, the chunks and the chunk counts of the reduction.
+#[tactic(auto, using(crate::proofs::Copied::same_instance, crate::proofs::Copied::same_sizes))]
 pub fn the_copy_has_the_same_instance()
     ensures instance { (q : QuestionValue) (x : Candidate) → kind_in q.spec ≢ Kind.Allreduce → instance_for (copied_question q) x ≡ instance_for q x }
     ensures counts { (spec : Spec) (nodes c : ℕ) → (chunks_in (copied_spec spec) nodes c ≡ chunks_in spec nodes c) × (allows (kind_in (copied_spec spec)) nodes c ≡ allows (kind_in spec) nodes c) }

@@ -55,6 +55,7 @@ pub fn sums_by_last(
 }
 
 /// The first send without a usable link, or else the first step and group over the bandwidth.
+#[tactic(auto, using(schedule::proofs::Overfull::group_read, schedule::proofs::Overfull::group_tabled, schedule::proofs::Verdicts::overfull_below, crate::proofs::Misfits::misfit_overfull))]
 pub fn first_misfit(topology: &Topology, schedule: &Schedule) -> Option<SumVerdict>
     requires { IsInRange 65536 topology.now.nodes schedule.now }
     ensures misfit { result ≡ misfit_of topology.now schedule.now }

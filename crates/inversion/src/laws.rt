@@ -8,6 +8,7 @@ use crate::verdict::SumVerdict;
 
 /// The verdict is `Sums` exactly where the schedule sums what is demanded, in its own number of
 /// steps and of rounds.
+#[tactic(auto, using(crate::proofs::Told::sums_exactly))]
 pub fn sums_are_told_exactly()
     ensures { (t : TopologyValue) (demand : PlacementValue) (s : ScheduleValue)
         → (sum_verdict_of t demand s ≡ SumVerdict.Sums) ↔ Sums t demand s (length s.rounds) (sum s.rounds) }

@@ -1,4 +1,5 @@
 //! What the definitions give on small texts.
+#![tactic(auto, unfolding(crate::specs::inner::Vectors::digits))]
 
 ghost use Rattle.std.specs.Prelude.{◌≡◌, ◌++◌, true, false, [], ◌∷◌, Some, None, Ok, Err, pos, negsuc, codes};
 ghost use Rattle.text_lines.specs.Text.{rows_of};

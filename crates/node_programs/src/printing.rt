@@ -35,6 +35,7 @@ pub fn print_programs(
 }
 
 /// The lines of a node: its name, and its operations.
+#[tactic(auto, using(std::proofs::lemmas::List::take_all, topology_text::proofs::Printed::appended, crate::proofs::Printed::node_is))]
 fn push_node(out: &mut Vec<u8>, names: &[Name], name: &Name, ops: &[Op]) -> Result<(), OutOfMemory>
     ensures { OnOk result (out.new.items ≡ out.old.items ++ text_of (node_lines names.now (name.now, ops.now))) }
 {

@@ -50,6 +50,7 @@ impl Programs {
 
     /// How many operations there are in all. `None` comes exactly where the number is 2^64 or
     /// greater.
+    #[tactic(auto, using(std::proofs::lemmas::List::take_all, std::proofs::lemmas::List::Sums::sum_by_more_le, crate::proofs::Ends::counted))]
     pub fn operations(&self) -> Option<usize>
         ensures { MatchOption result (2 ^ 64 ≤ sum (map (λ ops. length ops) self.now)) (λ count. count ≡ sum (map (λ ops. length ops) self.now)) }
     {

@@ -1,4 +1,5 @@
 //! Worked programs and runs.
+#![tactic(auto, unfolding(crate::specs::inner::Vectors::digits, crate::specs::Printing::programs_text))]
 
 ghost use Rattle.std.specs.{Prelude.{◌≡◌, ◌/◌, ◌^◌, [], ◌∷◌, true, false, Some, is_some, slice_get, codes}, Option.option_map};
 ghost use Rattle.schedule.specs.Rows.{pair_allreduce, plan, send};

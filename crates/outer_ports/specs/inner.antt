@@ -1,3 +1,4 @@
 -- What no contract of a public call says: contracts and proofs inside this crate alone cite it.
 pub mod OpenFiles
 pub mod Keeping
+pub mod Vectors

@@ -1,4 +1,5 @@
 //! What the definitions give on small names.
+#![tactic(auto, unfolding(crate::specs::inner::Vectors::digits))]
 
 ghost use Rattle.std.specs.Prelude.{◌≡◌, codes};
 ghost use Rattle.outer_ports.specs.Files.{candidate_word, file_word};

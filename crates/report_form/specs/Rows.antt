@@ -7,6 +7,7 @@ use Rattle.candidate_order.specs.{declared.mark.Mark.Mark, Ranges.unpruned, Fron
 use Rattle.candidate_order.specs.declared.mark.Mark.TheVariants as mark
 use Rattle.topology_text.specs.Value.{NamedTopologyValue}
 use Rattle.report_form.specs.Reports.{WordsValue, ReportValue}
+unfoldable pub use Rattle.std.specs.Fmt.{digits}
 
 -- two nodes in a row
 abbrev pub two_nodes : NamedTopologyValue

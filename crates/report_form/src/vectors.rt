@@ -1,4 +1,5 @@
 //! What the definitions give on small reports.
+#![tactic(auto, unfolding(crate::specs::Rows::digits, crate::specs::Reading::report_of, topology_text::specs::Reading::pattern_at, crate::specs::Reading::body_of, crate::specs::Reading::frontier_at, crate::specs::Points::frontier_point_at, crate::specs::Points::joined_point_at, crate::specs::Points::schedule_at, crate::specs::Spelling::report_text))]
 
 ghost use Rattle.std.specs.Prelude.{◌≡◌, ◌++◌, [], Ok, Err, codes};
 ghost use Rattle.report_form.specs.{Spelling.report_text, Reading.report_of};

@@ -1,0 +1,2 @@
+-- What examples compute.
+unfoldable pub use Rattle.std.specs.Fmt.{digits}
