@@ -1,8 +1,8 @@
-ghost use Rattle.std.specs.{Prelude.{◌≡◌, ◌<◌, ◌^◌, All, count_by, find, length}, List.range_with_len};
-ghost use Rattle.schedule.specs.{Links.{IsBelow, has_link}, Sends.{IsInRange, IsStep, link_of}, Fitting.load, Judging.{is_overfull, first_overfull}};
+ghost use Rattle.std.specs.{Prelude.{◌≡◌, ◌<◌, All, find, length}, List.range_with_len};
+ghost use Rattle.schedule.specs.{Links.IsBelow, Sends.{IsInRange, IsStep}, Fitting.load, Judging.{is_overfull, first_overfull}};
 
-use crate::group::{Group, has_link};
-use crate::hop::Hop;
+use crate::group::Group;
+use crate::links::LinkTable;
 use crate::schedule::Schedule;
 use crate::topology::Topology;
 
@@ -52,16 +52,5 @@ pub fn load_of(group: &Group, schedule: &Schedule, step: u8) -> u32
     requires links { All (IsBelow 16) group.now.links }
     ensures { result ≡ load group.now step schedule.now.sends }
 {
-    count_linked(group, schedule.sends_of(step))
-}
-
-/// How many of the sends have their link in the group.
-fn count_linked(group: &Group, sends: &[Hop]) -> u32
-    requires { length sends.now < 2 ^ 32 }
-    ensures { result ≡ count_by (λ h. has_link group.now (link_of h)) sends.now }
-{
-    sends
-        .iter()
-        .filter(|hop| has_link(group.links(), (hop.from, hop.to)))
-        .count() as u32
+    LinkTable::of(group).count(schedule.sends_of(step))
 }

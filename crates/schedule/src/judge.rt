@@ -6,10 +6,11 @@ ghost use Rattle.schedule.specs.{Failing.{TellsSolves, TellsNoLink, TellsOverful
 use crate::OutOfMemory;
 use crate::bandwidth::{first_overfull, load_of};
 use crate::hop::Hop;
+use crate::links::LinkTable;
 use crate::placement::Placement;
 use crate::run::run_steps;
 use crate::schedule::Schedule;
-use crate::topology::{Topology, is_usable};
+use crate::topology::Topology;
 use crate::verdict::Verdict;
 use std::alloc::Global;
 
@@ -76,10 +77,13 @@ pub fn first_unlinked(topology: &Topology, sends: &[Hop]) -> Option<Hop>
     requires { All (λ h. is_hop_below 65536 topology.now.nodes h ≡ true) sends.now }
     ensures { result ≡ find (λ h. not (is_usable topology.now (link_of h))) sends.now }
 {
-    sends
-        .iter()
-        .copied()
-        .find(|hop| !is_usable(topology, (hop.from, hop.to)))
+    let usable = LinkTable::usable(topology);
+    for hop in sends {
+        if !usable.has(hop) {
+            return Some(*hop);
+        }
+    }
+    None
 }
 
 /// The first pair that is demanded and not held, of so many chunks.

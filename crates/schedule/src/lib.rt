@@ -6,6 +6,7 @@ mod group;
 mod hop;
 mod judge;
 pub mod laws;
+mod links;
 mod placement;
 mod range;
 mod run;

@@ -1,9 +1,9 @@
-ghost use Rattle.std.specs.{Prelude.{◌≡◌, IfOk, filter, map}, List.range_with_len};
-ghost use Rattle.schedule.specs.Links.{TopologyValue, IsTopology, is_usable, usable_links, reversed_of};
+ghost use Rattle.std.specs.Prelude.{◌≡◌, IfOk};
+ghost use Rattle.schedule.specs.Links.{TopologyValue, IsTopology, usable_links, reversed_of};
 
 use crate::OutOfMemory;
-use crate::group::{Group, has_link};
-use std::alloc::Global;
+use crate::group::Group;
+use crate::links::LinkTable;
 use std::marker::Model;
 
 /// Nodes, numbered from 0, and groups of directed links between them. A link may stand in several
@@ -51,16 +51,11 @@ impl Topology {
 
     /// The usable links, each once, ascending by the node that they leave and then the one that
     /// they enter. The only error is `OutOfMemory`.
-    #[tactic(auto, using(crate::proofs::Usable::rows_more))]
+    #[tactic(auto, using(crate::proofs::Usable::marked_usable))]
     pub fn links(&self) -> Result<Vec<(u8, u8)>, OutOfMemory>
         ensures { IfOk result (λ links. links.items ≡ usable_links self.now) }
     {
-        let alloc = *self.groups.allocator();
-        let mut links = Vec::new(alloc);
-        for from in 0..self.nodes {
-            links.append(&mut links_from(alloc, self, from)?)?;
-        }
-        Ok(links)
+        LinkTable::usable(self).between(*self.groups.allocator(), self.nodes)
     }
 
     /// The topology with each link turned round in its place. The only error is `OutOfMemory`.
@@ -77,24 +72,4 @@ impl Topology {
             groups,
         })
     }
-}
-
-/// Whether a link stands in some group.
-pub(crate) fn is_usable(topology: &Topology, link: (u8, u8)) -> bool
-    ensures { result ≡ is_usable topology.now link }
-{
-    topology
-        .groups()
-        .iter()
-        .any(|group| has_link(group.links(), link))
-}
-
-/// The usable links from a node, ascending by the one that they enter.
-fn links_from(alloc: Global, topology: &Topology, from: u8) -> Result<Vec<(u8, u8)>, OutOfMemory>
-    ensures { IfOk result (λ links. links.items ≡ filter (is_usable topology.now) (map (λ to. (from, to)) (range_with_len 0 topology.now.nodes))) }
-{
-    (0..topology.nodes())
-        .map(|to| (from, to))
-        .filter(|&link| is_usable(topology, link))
-        .collect(alloc)
 }
