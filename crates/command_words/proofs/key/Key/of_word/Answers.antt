@@ -1,6 +1,5 @@
 use Rattle.std.proofs.Common.{rules}
-use Rattle.topology_text.proofs.Named.{none_named}
-use Rattle.command_words.specs.Tables.{key_word, keys}
+use Rattle.command_words.{specs.Tables.{key_word, keys}, proofs.Naming.none_named}
 use Rattle.command_words.proofs.key.Key.of_word.Goals as goal
 
 pub returns-in_default : goal.returns-in_default

@@ -1,6 +1,5 @@
 use Rattle.std.proofs.Common.{rules}
-use Rattle.topology_text.proofs.Named.{none_named}
-use Rattle.command_words.specs.Tables.{verb_word, verbs}
+use Rattle.command_words.{specs.Tables.{verb_word, verbs}, proofs.Naming.none_named}
 use Rattle.command_words.proofs.verb.Verb.of_word.Goals as goal
 
 pub returns-in_default : goal.returns-in_default
