@@ -2,7 +2,7 @@
 use Rattle.std.specs.Prelude.{ℕ, List, [], ◌∷◌, Option, find, bytes_eq, codes}
 use Rattle.topology_text.specs.declared.family_kind.FamilyKind.{FamilyKind, TheVariants.{Line, Ring, Complete, Cube, Shared, Torus, Mesh, Switch, Boxes}}
 
--- the kinds of families
+-- the kinds of families, in the order of their numbers
 abbrev pub families : List FamilyKind
 families = Line ∷ Ring ∷ Complete ∷ Shared ∷ Cube ∷ Torus ∷ Mesh ∷ Switch ∷ Boxes ∷ []
 
