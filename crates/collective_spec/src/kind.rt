@@ -1,5 +1,7 @@
 ghost use Rattle.std.specs.Prelude.{◌≡◌, IfSome};
-ghost use Rattle.collective_spec.specs.Kinds.{word_of, takes_root, is_custom, allows};
+ghost use Rattle.collective_spec.specs.Kinds.{number_of, word_of, kind_rows, takes_root, is_custom, allows};
+
+use case_table::{Table, table};
 
 /// A collective operation.
 #[derive(Clone, Copy, Debug, PartialEq, Eq)]
@@ -24,22 +26,39 @@ pub enum Kind {
     Custom,
 }
 
+#[tactic(auto, using(crate::proofs::KindRows::number_found, crate::proofs::KindRows::word_found))]
 impl Kind {
+    /// The number of the kind, from 0 to 8 in the order of the variants.
+    pub fn number(self) -> u32
+        ensures { result ≡ number_of self }
+    {
+        self as u32
+    }
+
+    /// The kind with this number; `None` exactly where the number is above 8.
+    pub fn of_number(number: u32) -> Option<Kind>
+        ensures numbered { IfSome result (λ kind. number_of kind ≡ number) }
+        ensures known { (kind : Kind) → number_of kind ≡ number → result ≡ Some kind }
+    {
+        match number {
+            0 => Some(Kind::Broadcast),
+            1 => Some(Kind::Gather),
+            2 => Some(Kind::Allgather),
+            3 => Some(Kind::Scatter),
+            4 => Some(Kind::Alltoall),
+            5 => Some(Kind::Reduce),
+            6 => Some(Kind::Reducescatter),
+            7 => Some(Kind::Allreduce),
+            8 => Some(Kind::Custom),
+            _ => None,
+        }
+    }
+
     /// The name of the kind, in lower case.
     pub fn word(self) -> &'static str
         ensures { result.now ≡ word_of self }
     {
-        match self {
-            Kind::Broadcast => "broadcast",
-            Kind::Gather => "gather",
-            Kind::Allgather => "allgather",
-            Kind::Scatter => "scatter",
-            Kind::Alltoall => "alltoall",
-            Kind::Reduce => "reduce",
-            Kind::Reducescatter => "reducescatter",
-            Kind::Allreduce => "allreduce",
-            Kind::Custom => "custom",
-        }
+        words().word_of(self.number()).unwrap()
     }
 
     /// The kind with this name; `None` exactly where no kind has it.
@@ -47,19 +66,28 @@ impl Kind {
         ensures named { IfSome result (λ kind. word_of kind ≡ word.now) }
         ensures known { (kind : Kind) → word_of kind ≡ word.now → result ≡ Some kind }
     {
-        match word {
-            "broadcast" => Some(Kind::Broadcast),
-            "gather" => Some(Kind::Gather),
-            "allgather" => Some(Kind::Allgather),
-            "scatter" => Some(Kind::Scatter),
-            "alltoall" => Some(Kind::Alltoall),
-            "reduce" => Some(Kind::Reduce),
-            "reducescatter" => Some(Kind::Reducescatter),
-            "allreduce" => Some(Kind::Allreduce),
-            "custom" => Some(Kind::Custom),
-            _ => None,
+        match words().find(word) {
+            Some(number) => Kind::of_number(number),
+            None => None,
         }
     }
+}
+
+/// The names of the kinds, and their numbers.
+fn words() -> Table
+    ensures { result ≡ kind_rows }
+{
+    table![
+        "broadcast" => 0,
+        "gather" => 1,
+        "allgather" => 2,
+        "scatter" => 3,
+        "alltoall" => 4,
+        "reduce" => 5,
+        "reducescatter" => 6,
+        "allreduce" => 7,
+        "custom" => 8,
+    ]
 }
 
 /// Whether one node is the root of such a collective.

@@ -14,4 +14,4 @@ pub mod FamilyGroups
 pub mod FamilyLaws
 pub mod SteadyParts
 pub mod FirstFault
-pub mod Named
+mod Words

@@ -5,6 +5,18 @@ use Rattle.schedule.specs.{Links.{GroupValue, turned}, Placed.same_pair}
 use Rattle.topology_text.specs.declared.family_kind.FamilyKind.{FamilyKind, TheVariants.{Line, Ring, Complete, Cube, Shared, Torus, Mesh, Switch, Boxes}}
 use Rattle.topology_text.specs.Value.{NamedTopologyValue, named_with}
 
+-- the numbers of the kinds (this project's own)
+abbrev pub kind_number : FamilyKind → ℕ
+kind_number Line = 0
+kind_number Ring = 1
+kind_number Complete = 2
+kind_number Shared = 3
+kind_number Cube = 4
+kind_number Torus = 5
+kind_number Mesh = 6
+kind_number Switch = 7
+kind_number Boxes = 8
+
 -- the sizes that a kind of family has; a kind without a line here has those from 1 to 16
 abbrev pub is_allowed : FamilyKind → ℕ → Bool
 is_allowed Ring size = nat_le 3 size && nat_le size 16

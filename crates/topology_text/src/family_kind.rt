@@ -1,7 +1,7 @@
 //! The kinds of families.
 
 ghost use Rattle.std.specs.Prelude.{◌≡◌, ◌<◌, ◌≤◌};
-ghost use Rattle.topology_text.specs.Family.{are_next, columns, is_allowed, is_family_link, is_inside, is_torus_link, rows};
+ghost use Rattle.topology_text.specs.Family.{are_next, columns, is_allowed, is_family_link, is_inside, is_torus_link, kind_number, rows};
 
 /// What the nodes of a family are joined to.
 #[derive(Clone, Copy, Debug, PartialEq, Eq)]
@@ -26,6 +26,26 @@ pub enum FamilyKind {
     /// Boxes of four nodes: in a box every two nodes by links of their own, and each box to every
     /// other by a cable that the links between them share.
     Boxes,
+}
+
+impl FamilyKind {
+    /// The number of the kind: 0 line, 1 ring, 2 complete, 3 shared, 4 cube, 5 torus, 6 mesh,
+    /// 7 switch, 8 boxes.
+    pub fn number(self) -> u32
+        ensures { result ≡ kind_number self }
+    {
+        match self {
+            FamilyKind::Line => 0,
+            FamilyKind::Ring => 1,
+            FamilyKind::Complete => 2,
+            FamilyKind::Shared => 3,
+            FamilyKind::Cube => 4,
+            FamilyKind::Torus => 5,
+            FamilyKind::Mesh => 6,
+            FamilyKind::Switch => 7,
+            FamilyKind::Boxes => 8,
+        }
+    }
 }
 
 /// Whether the kind has a family of this size, in nodes: 1 to 16, for `Ring` at least 3, for
