@@ -4,7 +4,7 @@ use Rattle.std.proofs.lemmas.Bool.{le-ltb, lt-ltb}
 use Rattle.text_lines.specs.Check.{◌>>=◌, need, refuse}
 use Rattle.schedule.specs.Links.{GroupValue}
 use Rattle.collective_spec.specs.declared.kind.Kind.{Kind}
-use Rattle.collective_spec.specs.declared.kind.Kind.TheVariants.{Broadcast, Gather, Allgather, Scatter, Alltoall, Reduce, Reducescatter, Allreduce, Custom}
+use Rattle.collective_spec.specs.declared.kind.Kind.TheVariants.{Allreduce}
 use Rattle.command_words.specs.declared.fault.WordCode.TheVariants.{NotNarrower, ReportNotTaken, UnknownGroup}
 use Rattle.report_form.specs.Reports.{ReportValue}
 use Rattle.run_rules.specs.{Refusals.{Refusal, refused_word}, Tasks.{fault_in, is_allreduce}}
@@ -15,15 +15,8 @@ none_there (x ∷ xs) zero h = absurd (omega arith)
 none_there (x ∷ xs) (suc i) h = none_there xs i (omega arith)
 
 one_search : (kind : Kind) → kind ≢ Allreduce → is_allreduce kind ≡ false
-one_search Broadcast other = refl
-one_search Gather other = refl
-one_search Allgather other = refl
-one_search Scatter other = refl
-one_search Alltoall other = refl
-one_search Reduce other = refl
-one_search Reducescatter other = refl
 one_search Allreduce other = absurd (other refl)
-one_search Custom other = refl
+one_search _ other = refl
 
 module _ (r : ReportValue) (group group_word width width_word : ℕ) (single : r.words.collective.kind ≢ Allreduce) where
   -- the checks of a group that is there or not

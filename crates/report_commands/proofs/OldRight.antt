@@ -15,15 +15,8 @@ use Rattle.run_rules.specs.Degraded.{old_refuted}
 
 -- all but an allreduce have it
 one_part : (k : Kind) → k ≢ kind.Allreduce → parts_of k ≡ Whole ∷ []
-one_part kind.Broadcast single = refl
-one_part kind.Gather single = refl
-one_part kind.Allgather single = refl
-one_part kind.Scatter single = refl
-one_part kind.Alltoall single = refl
-one_part kind.Reduce single = refl
-one_part kind.Reducescatter single = refl
 one_part kind.Allreduce single = absurd (single refl)
-one_part kind.Custom single = refl
+one_part _ single = refl
 
 -- each frontier is of it
 all_whole : (r : ReportValue) → IsReport r → r.words.collective.kind ≢ kind.Allreduce → All (λ (x : Part × FrontierValue). x.0 ≡ Whole) r.frontiers

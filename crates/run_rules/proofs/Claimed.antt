@@ -1,5 +1,5 @@
 -- What an audit answers is the verdict on the report and the files.
-use Rattle.std.proofs.Common.{◌≡◌, ◌≢◌, ◌⊎◌, ℕ, ◌&&◌, ⊎_elim, map, Bool, true, false, List, [], ◌∷◌, Option, None, Some, Ok, Err, inl, inr, refl, sym, ap, ◌∙◌, subst, arith, not, filter, if◌then◌else◌, bytes_eq, All, AllPairs, Contains}
+use Rattle.std.proofs.Common.{◌≡◌, ◌≢◌, ◌⊎◌, ℕ, ◌&&◌, ⊎_elim, map, Bool, true, false, Decides, List, [], ◌∷◌, Option, None, Some, Ok, Err, inl, inr, refl, sym, ap, ◌∙◌, subst, arith, not, filter, if◌then◌else◌, bytes_eq, All, AllPairs, Contains}
 use Rattle.std.proofs.lemmas.{Slice.Eq.bytes_eq-Decides, List.Elements.{All-nil, All-cons, All-head, All-tail, All-contains, Contains-append_cases, Contains-push_cases}}
 use Rattle.list_laws.proofs.{Members.Contains-cons, Pairs.{pairs_tail, pairs_head}}
 use Rattle.text_lines.specs.Check.{◌>>=◌, refuse, need}
@@ -22,7 +22,7 @@ use Rattle.frontier_audit.specs.{Denials.{Denial, Checked, each, in_part, verdic
 use Rattle.frontier_audit.specs.{Joining.{IsSummable, same_point, joins_checked, joined_checked}, Auditing.{refutation_checked, unknown_checked, frontier_checked, audit_of}}
 use Rattle.run_rules.specs.Claims.{Saying, Claim, Each, RefutationClaim, LogClaim, AnswerClaim, FrontierClaim, JoinsClaim, JoinedClaim, IsVerdict}
 use Rattle.frontier_audit.specs.inner.Steps.{is_answered, is_mark, is_join, point_checked, refuted_checked, candidate_checked, mark_checked, part_checked}
-use Rattle.frontier_audit.proofs.{Passing.{then_ok, ok_then, refused_not, not_refused}, Tried.candidates_exactly, InOrder.within_ascends}
+use Rattle.frontier_audit.proofs.{Passing.{then_ok, ok_then, each_ok, refused_not, not_refused}, Tried.candidates_exactly, InOrder.within_ascends}
 use Rattle.frontier_audit.proofs.{Beside.{has_refutation, passes_refutation, has_log_of, passes_log}, Marked.{answered_decides, optimal_decides, mark_by, by_mark}, Solved.{solved_by, by_solution}}
 use Rattle.frontier_audit.proofs.{Joined.{AreJoined, are_joined, joined_are}, Right.joinable}
 
@@ -33,120 +33,92 @@ abbrev behind : Part → Checked Denial → AuditVerdict → AuditVerdict
 behind part (Ok u) w = w
 behind part (Err denial) w = Denied denial.0 part denial.1
 
-behind_two : (part : Part) (first second : Checked Denial) (w : AuditVerdict) → behind part first (behind part second w) ≡ behind part (first >>= (λ _. second)) w
-behind_two part (Ok u) second w = refl
-behind_two part (Err denial) second w = refl
+-- what is claimed holds of the verdict of the check, where the rest holds of what comes behind a check that passes
+abbrev Meets : Part → Checked Denial → (Saying → Saying) → Type 1
+Meets part check Claimed = (w : AuditVerdict) (Rest : Saying) → (check ≡ Ok tt → Rest w) → Claimed Rest (behind part check w)
 
-claimed : (part : Part) (b : Bool) (Holds : Type 0) (denial : Denial) (next : Checked Denial) (w : AuditVerdict) (Rest : Saying) → (b ≡ true → Holds) → (Holds → b ≡ true) → (b ≡ true → Rest (behind part next w)) → Claim Holds (Denied denial.0 part denial.1) Rest (behind part (refuse (not b) denial >>= (λ _. next)) w)
-claimed part true Holds denial next w Rest to from rest = inl (to refl, rest refl)
-claimed part false Holds denial next w Rest to from rest = inr (λ h. absurd (let e = from h in cc), refl)
+tested : (part : Part) (b : Bool) (Holds : Type 0) (denial : Denial) → Decides b Holds → Meets part (refuse (not b) denial) (Claim Holds (Denied denial.0 part denial.1))
+tested part true Holds denial means w Rest rest = inl (means.0 refl, rest refl)
+tested part false Holds denial means w Rest rest = inr (λ h. absurd (let e = means.1 h in cc), refl)
 
-last_claimed : (part : Part) (b : Bool) (Holds : Type 0) (denial : Denial) (w : AuditVerdict) (Rest : Saying) → (b ≡ true → Holds) → (Holds → b ≡ true) → (b ≡ true → Rest w) → Claim Holds (Denied denial.0 part denial.1) Rest (behind part (refuse (not b) denial) w)
-last_claimed part true Holds denial w Rest to from rest = inl (to refl, rest refl)
-last_claimed part false Holds denial w Rest to from rest = inr (λ h. absurd (let e = from h in cc), refl)
+-- what has to stand there, and what is claimed of it then
+needed : (part : Part) (file : Option (List ℕ)) (denial : Denial) (next : List ℕ → Checked Denial) (Claimed : Saying → Saying) → ((bytes : List ℕ) → file ≡ Some bytes → Meets part (next bytes) Claimed)
+    → Meets part (need file denial >>= next) (λ Rest. Claim (file ≢ None) (Denied denial.0 part denial.1) (Claimed Rest))
+needed part None denial next Claimed there w Rest rest = inr (λ some. some refl, refl)
+needed part (Some bytes) denial next Claimed there w Rest rest = inl (λ none. absurd (cc), there bytes refl w Rest rest)
+
+-- a check and the next
+followed : (part : Part) (first next : Checked Denial) (Claimed : Saying → Saying) → Meets part first Claimed → (w : AuditVerdict) (Rest : Saying) → (first ≡ Ok tt → Rest (behind part next w)) → Claimed Rest (behind part (first >>= (λ _. next)) w)
+followed part (Ok u) next Claimed meets w Rest rest = meets (behind part next w) Rest rest
+followed part (Err denial) next Claimed meets w Rest rest = meets w Rest (λ e. absurd (cc))
 
 first_there : {X : Type 0} (x : X) (xs : List X) → Contains (x ∷ xs) x
 first_there x xs = (0, omega arith, refl)
 
-abbrev Follows : {X : Type 0} → Part → (X → Checked Denial) → (X → Saying → Saying) → X → Type 1
-Follows part check Claimed x = (w : AuditVerdict) (Rest : Saying) → (check x ≡ Ok tt → Rest w) → Claimed x Rest (behind part (check x) w)
-
-each_claimed : {X : Type 0} (part : Part) (check : X → Checked Denial) (Claimed : X → Saying → Saying) (xs : List X) → ((x : X) → Contains xs x → Follows part check Claimed x)
-    → (w : AuditVerdict) (Rest : Saying) → (All (λ x. check x ≡ Ok tt) xs → Rest w) → Each Claimed xs Rest (behind part (each check xs) w)
-each_claimed part check Claimed [] follows w Rest rest = rest (All-nil (λ x. check x ≡ Ok tt))
-each_claimed part check Claimed (x ∷ xs) follows w Rest rest =
-    subst (Claimed x (Each Claimed xs Rest)) (behind_two part (check x) (each check xs) w)
-    (follows x (first_there x xs) (behind part (each check xs) w) (Each Claimed xs Rest)
-    (λ ok. each_claimed part check Claimed xs (λ y at. follows y (Contains-cons x xs y at)) w Rest (λ all. rest (All-cons (λ y. check y ≡ Ok tt) x xs ok all))))
+each_meets : {X : Type 0} (part : Part) (check : X → Checked Denial) (Claimed : X → Saying → Saying) (xs : List X) → ((x : X) → Contains xs x → Meets part (check x) (Claimed x)) → Meets part (each check xs) (Each Claimed xs)
+each_meets part check Claimed [] meets w Rest rest = rest refl
+each_meets part check Claimed (x ∷ xs) meets w Rest rest =
+    followed part (check x) (each check xs) (Claimed x) (meets x (first_there x xs)) w (Each Claimed xs Rest)
+    (λ ok. each_meets part check Claimed xs (λ y at. meets y (Contains-cons x xs y at)) w Rest (λ all. rest (ok_then (check x) (each check xs) ok all)))
 
 -- ---- files
 
 module _ (part : Part) (q : QuestionValue) (files : Files) where
   module _ (x : Candidate) where
-    abbrev passes : Option (List ℕ) → Option (List ℕ) → Checked Denial
-    passes cnf lrat = need cnf (ProofMissing, x) >>= (λ formula. refuse (not (bytes_eq formula (cnf_text (formula_for q x)))) (CnfDiffers, x) >>= (λ _. need lrat (ProofMissing, x) >>= (λ proof. refuse (not (is_refutation (formula_for q x) proof)) (ProofRefused, x))))
+    abbrev proof_needed : Checked Denial
+    proof_needed = need (files (file_of Lrat part x)) (ProofMissing, x) >>= (λ proof. refuse (not (is_refutation (formula_for q x) proof)) (ProofRefused, x))
+
+    abbrev TextClaim : Saying → Saying
+    TextClaim = Claim (files (file_of Cnf part x) ≡ Some (cnf_text (formula_for q x))) (Denied CnfDiffers part x)
 
     abbrev ProofClaim : Saying → Saying
     ProofClaim Rest = Claim (files (file_of Lrat part x) ≢ None) (Denied ProofMissing part x) (Claim (HasRefutation part q files x) (Denied ProofRefused part x) Rest)
 
-    refutation_by : (cnf lrat : Option (List ℕ)) → files (file_of Cnf part x) ≡ cnf → files (file_of Lrat part x) ≡ lrat → refutation_checked part q files x ≡ passes cnf lrat
-        → (w : AuditVerdict) (Rest : Saying) → (passes cnf lrat ≡ Ok tt → Rest w) → RefutationClaim part q files x Rest (behind part (passes cnf lrat) w)
-    refutation_by None lrat there proof same w Rest rest = inr (λ some. some there, refl)
-    refutation_by (Some formula) None there proof same w Rest rest =
-        inl (
-          λ none. absurd (let e = sym there ∙ none in cc),
-          claimed part (bytes_eq formula (cnf_text (formula_for q x))) (files (file_of Cnf part x) ≡ Some (cnf_text (formula_for q x))) (CnfDiffers, x) (Err (ProofMissing, x)) w (ProofClaim Rest)
-              (λ e. there ∙ ap (λ b. Some b) ((bytes_eq-Decides formula (cnf_text (formula_for q x))).0 e))
-              (λ e. (bytes_eq-Decides formula (cnf_text (formula_for q x))).1 (let both = sym there ∙ e in cc))
-              (λ e. inr (λ some. some proof, refl)),
-        )
-    refutation_by (Some formula) (Some bytes) there proof same w Rest rest =
-        inl (
-          λ none. absurd (let e = sym there ∙ none in cc),
-          claimed part (bytes_eq formula (cnf_text (formula_for q x))) (files (file_of Cnf part x) ≡ Some (cnf_text (formula_for q x))) (CnfDiffers, x) (refuse (not (is_refutation (formula_for q x) bytes)) (ProofRefused, x)) w (ProofClaim Rest)
-              (λ e. there ∙ ap (λ b. Some b) ((bytes_eq-Decides formula (cnf_text (formula_for q x))).0 e))
-              (λ e. (bytes_eq-Decides formula (cnf_text (formula_for q x))).1 (let both = sym there ∙ e in cc))
-              (λ e. inl (
-                λ none. absurd (let both = sym proof ∙ none in cc),
-                last_claimed part (is_refutation (formula_for q x) bytes) (HasRefutation part q files x) (ProofRefused, x) w Rest
-                    (λ good. has_refutation part q files x (same ∙ all_good e good))
-                    (λ has. proof_good (sym same ∙ passes_refutation part q files x has))
-                    (λ good. rest (all_good e good)),
-              )),
-        )
-      where
-        all_good : bytes_eq formula (cnf_text (formula_for q x)) ≡ true → is_refutation (formula_for q x) bytes ≡ true → passes (Some formula) (Some bytes) ≡ Ok tt
-        all_good e good = ok_then (refuse (not (bytes_eq formula (cnf_text (formula_for q x)))) (CnfDiffers, x)) (refuse (not (is_refutation (formula_for q x) bytes)) (ProofRefused, x))
-            (not_refused (bytes_eq formula (cnf_text (formula_for q x))) (CnfDiffers, x) e) (not_refused (is_refutation (formula_for q x) bytes) (ProofRefused, x) good)
-
-        proof_good : passes (Some formula) (Some bytes) ≡ Ok tt → is_refutation (formula_for q x) bytes ≡ true
-        proof_good ok = let both = then_ok (refuse (not (bytes_eq formula (cnf_text (formula_for q x)))) (CnfDiffers, x)) (refuse (not (is_refutation (formula_for q x) bytes)) (ProofRefused, x)) ok in
-            refused_not (is_refutation (formula_for q x) bytes) (ProofRefused, x) both.1
-
-    refutation_follows : Follows part (refutation_checked part q files) (RefutationClaim part q files) x
-    refutation_follows w Rest rest = refutation_by (files (file_of Cnf part x)) (files (file_of Lrat part x)) refl refl refl w Rest rest
+    refutation_meets : Meets part (refutation_checked part q files x) (RefutationClaim part q files x)
+    refutation_meets =
+        let text = cnf_text (formula_for q x) in
+        needed part (files (file_of Cnf part x)) (ProofMissing, x) (λ formula. refuse (not (bytes_eq formula text)) (CnfDiffers, x) >>= (λ _. proof_needed)) (λ Rest. TextClaim (ProofClaim Rest)) (λ formula there w Rest rest.
+        let same = bytes_eq-Decides formula text in
+        let test = refuse (not (bytes_eq formula text)) (CnfDiffers, x) in
+        followed part test proof_needed TextClaim
+        (tested part (bytes_eq formula text) (files (file_of Cnf part x) ≡ Some text) (CnfDiffers, x) (λ e. there ∙ ap (λ b. Some b) (same.0 e), λ e. same.1 (let both = sym there ∙ e in cc))) w (ProofClaim Rest) (λ ok.
+        needed part (files (file_of Lrat part x)) (ProofMissing, x) (λ proof. refuse (not (is_refutation (formula_for q x) proof)) (ProofRefused, x)) (Claim (HasRefutation part q files x) (Denied ProofRefused part x)) (λ proof at.
+        let good = is_refutation (formula_for q x) proof in
+        let checked : refutation_checked part q files x ≡ refuse (not good) (ProofRefused, x) = rw (there, ok, at) refl in
+        tested part good (HasRefutation part q files x) (ProofRefused, x)
+        (λ e. has_refutation part q files x (checked ∙ not_refused good (ProofRefused, x) e), λ has. refused_not good (ProofRefused, x) (sym checked ∙ passes_refutation part q files x has)))
+        w Rest (λ passed. rest (ok_then test proof_needed ok passed))))
 
   -- of a candidate that is cut away nothing is claimed
-  refuted_claimed : (xs : List Candidate) (w : AuditVerdict) (Rest : Saying) → (All (λ x. refuted_checked part q files x ≡ Ok tt) xs → Rest w)
-      → Each (RefutationClaim part q files) (filter (λ x. not (is_cut_away q x)) xs) Rest (behind part (each (refuted_checked part q files) xs) w)
-  refuted_claimed [] w Rest rest = rest (All-nil (λ x. refuted_checked part q files x ≡ Ok tt))
-  refuted_claimed (x ∷ xs) w Rest rest = by_cut (λ ok. refuted_claimed xs w Rest (λ all. rest (All-cons (λ y. refuted_checked part q files y ≡ Ok tt) x xs ok all))) (is_cut_away q x) refl
+  refuted_meets : (xs : List Candidate) → Meets part (each (refuted_checked part q files) xs) (Each (RefutationClaim part q files) (filter (λ x. not (is_cut_away q x)) xs))
+  refuted_meets [] w Rest rest = rest refl
+  refuted_meets (x ∷ xs) w Rest rest = by_cut (λ more. refuted_meets xs w Rest more) (is_cut_away q x) rest
     where
+      later : Checked Denial
+      later = each (refuted_checked part q files) xs
+
       others : List Candidate
       others = filter (λ y. not (is_cut_away q y)) xs
 
-      over : Bool → Checked Denial
-      over b = if b then Ok tt else refutation_checked part q files x
+      by_cut : ((later ≡ Ok tt → Rest w) → Each (RefutationClaim part q files) others Rest (behind part later w)) → (b : Bool) → ((if b then Ok tt else refutation_checked part q files x) >>= (λ _. later) ≡ Ok tt → Rest w)
+          → Each (RefutationClaim part q files) (if not b then x ∷ others else others) Rest (behind part ((if b then Ok tt else refutation_checked part q files x) >>= (λ _. later)) w)
+      by_cut further true more = further more
+      by_cut further false more =
+          followed part (refutation_checked part q files x) later (RefutationClaim part q files x) (refutation_meets x) w (Each (RefutationClaim part q files) others Rest)
+          (λ ok. further (λ all. more (ok_then (refutation_checked part q files x) later ok all)))
 
-      by_cut : (refuted_checked part q files x ≡ Ok tt → Each (RefutationClaim part q files) others Rest (behind part (each (refuted_checked part q files) xs) w)) → (b : Bool) → is_cut_away q x ≡ b → Each (RefutationClaim part q files) (if not b then x ∷ others else others) Rest (behind part (over b >>= (λ _. each (refuted_checked part q files) xs)) w)
-      by_cut later true cut = later (ap over cut)
-      by_cut later false uncut =
-          subst (RefutationClaim part q files x (Each (RefutationClaim part q files) others Rest)) (behind_two part (refutation_checked part q files x) (each (refuted_checked part q files) xs) w)
-          (refutation_follows x (behind part (each (refuted_checked part q files) xs) w) (Each (RefutationClaim part q files) others Rest) (λ ok. later (ap over uncut ∙ ok)))
-
-  module _ (u : UnknownValue) (stated : u.conflicts ≡ q.limits.conflicts) where
-    abbrev logged : Option (List ℕ) → Checked Denial
-    logged log = need log (ProofMissing, u.candidate) >>= (λ bytes. refuse (not (is_spent_log (formula_for q u.candidate) u.conflicts bytes)) (PartialRefused, u.candidate))
-
-    log_by : (log : Option (List ℕ)) → files (file_of Partial part u.candidate) ≡ log → unknown_checked part q files u ≡ logged log
-        → (w : AuditVerdict) (Rest : Saying) → (logged log ≡ Ok tt → Rest w) → LogClaim part q files u Rest (behind part (logged log) w)
-    log_by None there same w Rest rest = inr (λ some. some there, refl)
-    log_by (Some bytes) there same w Rest rest =
-        let good : Bool = is_spent_log (formula_for q u.candidate) u.conflicts bytes in
-        inl (
-          λ none. absurd (let e = sym there ∙ none in cc),
-          last_claimed part good (HasLog part q files u) (PartialRefused, u.candidate) w Rest
-              (λ e. has_log_of part q files u stated (same ∙ not_refused good (PartialRefused, u.candidate) e))
-              (λ has. refused_not good (PartialRefused, u.candidate) (sym same ∙ passes_log part q files u stated has))
-              (λ e. rest (not_refused good (PartialRefused, u.candidate) e)),
-        )
-
-    log_follows : Follows part (unknown_checked part q files) (LogClaim part q files) u
-    log_follows w Rest rest = log_by (files (file_of Partial part u.candidate)) refl refl w Rest rest
+  log_meets : (u : UnknownValue) → u.conflicts ≡ q.limits.conflicts → Meets part (unknown_checked part q files u) (LogClaim part q files u)
+  log_meets u stated =
+      needed part (files (file_of Partial part u.candidate)) (ProofMissing, u.candidate) (λ bytes. refuse (not (is_spent_log (formula_for q u.candidate) u.conflicts bytes)) (PartialRefused, u.candidate)) (Claim (HasLog part q files u) (Denied PartialRefused part u.candidate))
+      (λ bytes there.
+      let good = is_spent_log (formula_for q u.candidate) u.conflicts bytes in
+      let checked : unknown_checked part q files u ≡ refuse (not good) (PartialRefused, u.candidate) = rw there refl in
+      tested part good (HasLog part q files u) (PartialRefused, u.candidate)
+      (λ e. has_log_of part q files u stated (checked ∙ not_refused good (PartialRefused, u.candidate) e), λ has. refused_not good (PartialRefused, u.candidate) (sym checked ∙ passes_log part q files u stated has)))
 
 -- ---- candidates
 
-module _ (f : FrontierValue) where
+module _ (part : Part) (f : FrontierValue) where
   -- the first of a list that is not answered
   record FirstOf (xs : List Candidate) (x : Candidate) : Type 0 where
     there : Contains xs x
@@ -156,117 +128,99 @@ module _ (f : FrontierValue) where
   member_cases : (x : Candidate) (xs : List Candidate) (y : Candidate) → Contains (x ∷ xs) y → (x ≡ y) ⊎ Contains xs y
   member_cases x xs y at = ⊎_elim (λ front. ⊎_elim (λ none. absurd (omega (arith, none.1))) (λ same. inl same) (Contains-push_cases [] x y front)) (λ rest. inr rest) (Contains-append_cases (x ∷ []) xs y at)
 
-  answers : (part : Part) (xs : List Candidate) → AllPairs Before xs → (w : AuditVerdict) (Rest : Saying) → (All (λ x. candidate_checked f x ≡ Ok tt) xs → Rest w)
-      → (All (λ x. candidate_checked f x ≡ Ok tt) xs × Rest (behind part (each (candidate_checked f) xs) w)) ⊎ ((x : Candidate) × (FirstOf xs x × (behind part (each (candidate_checked f) xs) w ≡ Denied CandidateMissing part x)))
-  answers part [] order w Rest rest = let none = All-nil (λ x. candidate_checked f x ≡ Ok tt) in inl (none, rest none)
-  answers part (x ∷ xs) order w Rest rest =
-      by_test (λ yes. answers part xs (pairs_tail Before x xs order) w Rest (λ all. rest (All-cons (λ y. candidate_checked f y ≡ Ok tt) x xs (not_refused (is_answered f x) (CandidateMissing, x) yes) all))) (is_answered f x) refl
-    where
-      Passes : Candidate → Type 0
-      Passes y = candidate_checked f y ≡ Ok tt
+  abbrev Answered : Candidate → Saying → Saying
+  Answered x = Claim (IsAnswered f x) (Denied CandidateMissing part x)
 
-      tested : Bool → Checked Denial
-      tested b = refuse (not b) (CandidateMissing, x)
-
-      by_test : (is_answered f x ≡ true → (All Passes xs × Rest (behind part (each (candidate_checked f) xs) w)) ⊎ ((y : Candidate) × (FirstOf xs y × (behind part (each (candidate_checked f) xs) w ≡ Denied CandidateMissing part y)))) → (b : Bool) → is_answered f x ≡ b → (All Passes (x ∷ xs) × Rest (behind part (tested b >>= (λ _. each (candidate_checked f) xs)) w)) ⊎ ((y : Candidate) × (FirstOf (x ∷ xs) y × (behind part (tested b >>= (λ _. each (candidate_checked f) xs)) w ≡ Denied CandidateMissing part y)))
-      by_test further true e = elim (further e) [
-        | inl all ↦ inl (All-cons Passes x xs (not_refused (is_answered f x) (CandidateMissing, x) e) all.0, all.1)
-        | inr late ↦ inr (
-          late.0,
-          (
-            record {
-              there = Contains-cons x xs late.0 late.1.0.there;
-              missing = late.1.0.missing;
-              first = λ y at before. ⊎_elim (λ same. subst (IsAnswered f) same ((answered_decides f x).0 e)) (λ at. late.1.0.first y at before) (member_cases x xs y at);
-            },
-            late.1.1,
-          ),
-        )
-      ]
-      by_test further false e = inr (
-        x,
-        (
-          record {
-            there = first_there x xs;
-            missing = λ a. absurd (let yes = sym e ∙ (answered_decides f x).1 a in cc);
-            first = λ y at before. ⊎_elim (λ same. absurd (Before-irrefl x (subst (λ z. Before z x) (sym same) before))) (λ at. absurd (candidates_apart x y (All-contains (Before x) xs y (pairs_head Before x xs order) at) before)) (member_cases x xs y at);
-          },
-          refl,
-        ),
-      )
-
-answer_claimed : (part : Part) (q : QuestionValue) (f : FrontierValue) (w : AuditVerdict) (Rest : Saying) → (All (λ x. candidate_checked f x ≡ Ok tt) (candidates_within q) → Rest w) → AnswerClaim part q f Rest (behind part (each (candidate_checked f) (candidates_within q)) w)
-answer_claimed part q f w Rest rest = elim (answers f part (candidates_within q) (within_ascends q) w Rest rest) [
-  | inl all ↦ inl (λ x within. (answered_decides f x).0 (refused_not (is_answered f x) (CandidateMissing, x) (All-contains (λ y. candidate_checked f y ≡ Ok tt) (candidates_within q) x all.0 ((candidates_exactly q x).1 within))), all.1)
-  | inr late ↦ inr (
-    late.0,
+  answers : (xs : List Candidate) → AllPairs Before xs → (Rest : Saying) (v : AuditVerdict) → Each Answered xs Rest v
+      → (((y : Candidate) → Contains xs y → IsAnswered f y) × Rest v) ⊎ ((x : Candidate) × (FirstOf xs x × (v ≡ Denied CandidateMissing part x)))
+  answers [] order Rest v said = inl (λ y at. absurd (omega (arith, at.1)), said)
+  answers (x ∷ xs) order Rest v (inl here) = elim (answers xs (pairs_tail Before x xs order) Rest v here.1) [
+    | inl all ↦ inl (λ y at. ⊎_elim (λ same. subst (IsAnswered f) same here.0) (λ at. all.0 y at) (member_cases x xs y at), all.1)
+    | inr late ↦ inr (
+      late.0,
+      (
+        record {
+          there = Contains-cons x xs late.0 late.1.0.there;
+          missing = late.1.0.missing;
+          first = λ y at before. ⊎_elim (λ same. subst (IsAnswered f) same here.0) (λ at. late.1.0.first y at before) (member_cases x xs y at);
+        },
+        late.1.1,
+      ),
+    )
+  ]
+  answers (x ∷ xs) order Rest v (inr past) = inr (
+    x,
     (
       record {
-        within = (candidates_exactly q late.0).0 late.1.0.there;
-        missing = late.1.0.missing;
-        first = λ y within before. late.1.0.first y ((candidates_exactly q y).1 within) before;
+        there = first_there x xs;
+        missing = past.0;
+        first = λ y at before. ⊎_elim (λ same. absurd (Before-irrefl x (subst (λ z. Before z x) (sym same) before))) (λ at. absurd (candidates_apart x y (All-contains (Before x) xs y (pairs_head Before x xs order) at) before)) (member_cases x xs y at);
       },
-      late.1.1,
+      past.1,
     ),
   )
-]
+
+  answer_meets : (q : QuestionValue) → Meets part (each (candidate_checked f) (candidates_within q)) (AnswerClaim part q f)
+  answer_meets q w Rest rest = elim (answers (candidates_within q) (within_ascends q) Rest _ (each_meets part (candidate_checked f) Answered (candidates_within q) (λ x at. tested part (is_answered f x) (IsAnswered f x) (CandidateMissing, x) (answered_decides f x)) w Rest rest)) [
+    | inl all ↦ inl (λ x within. all.0 x ((candidates_exactly q x).1 within), all.1)
+    | inr late ↦ inr (
+      late.0,
+      (
+        record {
+          within = (candidates_exactly q late.0).0 late.1.0.there;
+          missing = late.1.0.missing;
+          first = λ y within before. late.1.0.first y ((candidates_exactly q y).1 within) before;
+        },
+        late.1.1,
+      ),
+    )
+  ]
 
 -- ---- a part
 
 module _ (part : Part) (q : QuestionValue) (files : Files) (f : FrontierValue) (valid : IsFrontier q f) where
-  point_follows : (p : PointValue) → Contains f.points p → Follows part (point_checked q) (λ p. Claim (IsSolvedBy q p.candidate p.schedule) (Denied ScheduleWrong part p.candidate)) p
-  point_follows p at w Rest rest =
-      let point = All-contains (report.IsPrintedPoint q) f.points p valid.points at in
-      last_claimed part (is_solution q p) (IsSolvedBy q p.candidate p.schedule) (ScheduleWrong, p.candidate) w Rest (solved_by q p point.has) (by_solution q p) (λ e. rest (not_refused (is_solution q p) (ScheduleWrong, p.candidate) e))
-
-  mark_follows : All (λ p. point_checked q p ≡ Ok tt) f.points → (p : PointValue) → Contains f.points p → Follows part (mark_checked q f) (λ p. Claim (IsPoint q f.refuted p) (Denied MarkWrong part p.candidate)) p
-  mark_follows solved p at w Rest rest =
-      let point = All-contains (report.IsPrintedPoint q) f.points p valid.points at in
-      let solves = refused_not (is_solution q p) (ScheduleWrong, p.candidate) (All-contains (λ p. point_checked q p ≡ Ok tt) f.points p solved at) in
-      let optimal = is_optimal q f p.candidate in
-      let decides = optimal_decides q f p.candidate in
-      last_claimed part (is_mark optimal p.mark) (IsPoint q f.refuted p) (MarkWrong, p.candidate) w Rest
-      (λ e. let marked = mark_by optimal p.mark e in record {
-        within = point.within;
-        solves = solved_by q p point.has solves;
-        optimal = (λ e. decides.0 (marked.0.0 e), λ h. marked.0.1 (decides.1 h));
-        or_open = marked.1;
-      })
-      (λ h. by_mark optimal p.mark (λ e. decides.1 (h.optimal.0 e), λ e. h.optimal.1 (decides.0 e)) h.or_open)
-      (λ e. rest (not_refused (is_mark optimal p.mark) (MarkWrong, p.candidate) e))
-
   abbrev PointClaim : PointValue → Saying → Saying
   PointClaim p = Claim (IsSolvedBy q p.candidate p.schedule) (Denied ScheduleWrong part p.candidate)
 
   abbrev MarkClaim : PointValue → Saying → Saying
   MarkClaim p = Claim (IsPoint q f.refuted p) (Denied MarkWrong part p.candidate)
 
-  frontier_claimed : (w : AuditVerdict) (Rest : Saying) → Rest w → FrontierClaim part q files f Rest (behind part (frontier_checked part q files f) w)
-  frontier_claimed w Rest rest =
-      let points = each (point_checked q) f.points in
-      let refuted = each (refuted_checked part q files) f.refuted in
-      let unknown = each (unknown_checked part q files) f.unknown in
-      let candidates = each (candidate_checked f) (candidates_within q) in
+  point_meets : (p : PointValue) → Contains f.points p → Meets part (point_checked q p) (PointClaim p)
+  point_meets p at =
+      let point = All-contains (report.IsPrintedPoint q) f.points p valid.points at in
+      tested part (is_solution q p) (IsSolvedBy q p.candidate p.schedule) (ScheduleWrong, p.candidate) (solved_by q p point.has, by_solution q p)
+
+  mark_meets : each (point_checked q) f.points ≡ Ok tt → (p : PointValue) → Contains f.points p → Meets part (mark_checked q f p) (MarkClaim p)
+  mark_meets solved p at =
+      let point = All-contains (report.IsPrintedPoint q) f.points p valid.points at in
+      let solves = refused_not (is_solution q p) (ScheduleWrong, p.candidate) (All-contains (λ p. point_checked q p ≡ Ok tt) f.points p (each_ok (point_checked q) f.points solved) at) in
+      let optimal = is_optimal q f p.candidate in
+      let decides = optimal_decides q f p.candidate in
+      tested part (is_mark optimal p.mark) (IsPoint q f.refuted p) (MarkWrong, p.candidate) (
+        λ e. let marked = mark_by optimal p.mark e in record {
+          within = point.within;
+          solves = solved_by q p point.has solves;
+          optimal = (λ e. decides.0 (marked.0.0 e), λ h. marked.0.1 (decides.1 h));
+          or_open = marked.1;
+        },
+        λ h. by_mark optimal p.mark (λ e. decides.1 (h.optimal.0 e), λ e. h.optimal.1 (decides.0 e)) h.or_open,
+      )
+
+  frontier_meets : (w : AuditVerdict) (Rest : Saying) → Rest w → FrontierClaim part q files f Rest (behind part (frontier_checked part q files f) w)
+  frontier_meets w Rest rest =
       let marks = each (mark_checked q f) f.points in
-      let behind_candidates = behind part marks w in
-      let behind_unknown = behind part candidates behind_candidates in
-      let behind_refuted = behind part unknown behind_unknown in
-      let behind_points = behind part refuted behind_refuted in
+      let candidates = each (candidate_checked f) (candidates_within q) in
+      let unknown = each (unknown_checked part q files) f.unknown in
+      let refuted = each (refuted_checked part q files) f.refuted in
       let Marks : Saying = Each MarkClaim f.points Rest in
       let Answers : Saying = AnswerClaim part q f Marks in
       let Logs : Saying = Each (LogClaim part q files) f.unknown Answers in
-      let Proofs : Saying = Each (RefutationClaim part q files) (filter (λ x. not (is_cut_away q x)) f.refuted) Logs in
-      subst (FrontierClaim part q files f Rest)
-      (ap (λ v. behind part points (behind part refuted (behind part unknown v))) (behind_two part candidates marks w)
-      ∙ ap (λ v. behind part points (behind part refuted v)) (behind_two part unknown (candidates >>= (λ _. marks)) w)
-      ∙ ap (behind part points) (behind_two part refuted (unknown >>= (λ _. candidates >>= (λ _. marks))) w)
-      ∙ behind_two part points (refuted >>= (λ _. unknown >>= (λ _. candidates >>= (λ _. marks)))) w)
-      (each_claimed part (point_checked q) PointClaim f.points point_follows behind_points Proofs (λ solved.
-      refuted_claimed part q files f.refuted behind_refuted Logs (λ _.
-      each_claimed part (unknown_checked part q files) (LogClaim part q files) f.unknown
-      (λ u at. let is = All-contains (IsUnknown q) f.unknown u valid.unknown at in log_follows part q files u is.conflicts) behind_unknown Answers (λ _.
-      answer_claimed part q f behind_candidates Marks (λ _.
-      each_claimed part (mark_checked q f) MarkClaim f.points (mark_follows solved) w Rest (λ _. rest))))))
+      followed part (each (point_checked q) f.points) (refuted >>= (λ _. unknown >>= (λ _. candidates >>= (λ _. marks)))) (Each PointClaim f.points) (each_meets part (point_checked q) PointClaim f.points point_meets) w (Each (RefutationClaim part q files) (filter (λ x. not (is_cut_away q x)) f.refuted) Logs) (λ solved.
+      followed part refuted (unknown >>= (λ _. candidates >>= (λ _. marks))) (Each (RefutationClaim part q files) (filter (λ x. not (is_cut_away q x)) f.refuted)) (refuted_meets part q files f.refuted) w Logs (λ _.
+      followed part unknown (candidates >>= (λ _. marks)) (Each (LogClaim part q files) f.unknown)
+      (each_meets part (unknown_checked part q files) (LogClaim part q files) f.unknown (λ u at. let is = All-contains (IsUnknown q) f.unknown u valid.unknown at in log_meets part q files u is.conflicts)) w Answers (λ _.
+      followed part candidates marks (AnswerClaim part q f) (answer_meets part f q) w Marks (λ _.
+      each_meets part (mark_checked q f) MarkClaim f.points (mark_meets solved) w Rest (λ _. rest)))))
 
 -- ---- what is joined
 
@@ -279,28 +233,21 @@ joins_claimed t [] (p ∷ ps) ok = refl
 joins_claimed t (pair ∷ pairs) [] ok = refl
 joins_claimed t (pair ∷ pairs) (p ∷ ps) ok =
     let due = join_of pair.0 pair.1 in
-    let summable = All-head (IsSummable t) p ps ok in
     let passes = is_join t pair && same_point due p in
-    claimed part.Joined passes (IsJoin t pair × (p ≡ due)) (JoinWrong, due.candidate) (joins_checked t pairs ps) Verified (JoinsClaim t pairs ps)
-    (λ e.
-    let are = are_joined t (pair ∷ []) (p ∷ []) (All-cons (IsSummable t) p [] summable (All-nil (IsSummable t))) (ok_then (refuse (not passes) (JoinWrong, due.candidate)) (Ok tt) (not_refused passes (JoinWrong, due.candidate) e) refl) in
-    (All-head (IsJoin t) pair [] are.summed, first_same p due [] [] are.in_order))
-    (λ h.
-    let are : AreJoined t (pair ∷ []) (p ∷ []) = record { in_order = ap (λ x. x ∷ []) h.1; summed = All-cons (IsJoin t) pair [] h.0 (All-nil (IsJoin t)) } in
-    let ok = joined_are t (pair ∷ []) (p ∷ []) (All-cons (IsSummable t) p [] summable (All-nil (IsSummable t))) are in
-    refused_not passes (JoinWrong, due.candidate) (let both = then_ok (refuse (not passes) (JoinWrong, due.candidate)) (Ok tt) ok in both.0))
-    (λ e. joins_claimed t pairs ps (All-tail (IsSummable t) p ps ok))
+    let test = refuse (not passes) (JoinWrong, due.candidate) in
+    let alone : All (IsSummable t) (p ∷ []) = All-cons (IsSummable t) p [] (All-head (IsSummable t) p ps ok) (All-nil (IsSummable t)) in
+    followed part.Joined test (joins_checked t pairs ps) (Claim (IsJoin t pair × (p ≡ due)) (Denied JoinWrong part.Joined due.candidate))
+    (tested part.Joined passes (IsJoin t pair × (p ≡ due)) (JoinWrong, due.candidate) (
+      λ e. let are = are_joined t (pair ∷ []) (p ∷ []) alone (ok_then test (Ok tt) (not_refused passes (JoinWrong, due.candidate) e) refl) in (All-head (IsJoin t) pair [] are.summed, first_same p due [] [] are.in_order),
+      λ h.
+          let are : AreJoined t (pair ∷ []) (p ∷ []) = record { in_order = ap (λ x. x ∷ []) h.1; summed = All-cons (IsJoin t) pair [] h.0 (All-nil (IsJoin t)) } in
+          refused_not passes (JoinWrong, due.candidate) (let both = then_ok test (Ok tt) (joined_are t (pair ∷ []) (p ∷ []) alone are) in both.0),
+    ))
+    Verified (JoinsClaim t pairs ps) (λ _. joins_claimed t pairs ps (All-tail (IsSummable t) p ps ok))
 
 two_parts : (k : Kind) → part.Reduce ∷ part.Gather ∷ [] ≡ parts_of k → k ≡ kind.Allreduce
 two_parts kind.Allreduce e = refl
-two_parts kind.Broadcast e = absurd (cc)
-two_parts kind.Gather e = absurd (cc)
-two_parts kind.Allgather e = absurd (cc)
-two_parts kind.Scatter e = absurd (cc)
-two_parts kind.Alltoall e = absurd (cc)
-two_parts kind.Reduce e = absurd (cc)
-two_parts kind.Reducescatter e = absurd (cc)
-two_parts kind.Custom e = absurd (cc)
+two_parts _ e = absurd (cc)
 
 joined_verdict : (checked : Checked Denial) → behind part.Joined checked Verified ≡ verdict_from (in_part part.Joined checked)
 joined_verdict (Ok u) = refl
@@ -315,27 +262,23 @@ joined_claimed r _ parts ok = refl
 
 -- ---- a report
 
-in_part_verdict : (part : Part) (checked : Checked Denial) (rest : Checked (Part × Denial)) → behind part checked (verdict_from rest) ≡ verdict_from (in_part part checked >>= (λ _. rest))
-in_part_verdict part (Ok u) rest = refl
-in_part_verdict part (Err denial) rest = refl
-
-bound_twice : {E : Type 0} (a b c : Checked E) → (a >>= (λ _. b >>= (λ _. c))) ≡ ((a >>= (λ _. b)) >>= (λ _. c))
-bound_twice (Ok u) b c = refl
-bound_twice (Err x) b c = refl
+-- a part, others and what is joined
+part_followed : (part : Part) (first : Checked Denial) (others last : Checked (Part × Denial)) (Claimed : Saying → Saying) (Rest : Saying) → ((w : AuditVerdict) → Rest w → Claimed Rest (behind part first w)) → Rest (verdict_from (others >>= (λ _. last)))
+    → Claimed Rest (verdict_from ((in_part part first >>= (λ _. others)) >>= (λ _. last)))
+part_followed part (Ok u) others last Claimed Rest meets rest = meets (verdict_from (others >>= (λ _. last))) rest
+part_followed part (Err denial) others last Claimed Rest meets rest = meets (verdict_from (others >>= (λ _. last))) rest
 
 module _ (r : ReportValue) (files : Files) where
   abbrev PartClaim : Part × FrontierValue → Saying → Saying
   PartClaim x = FrontierClaim x.0 (question_of r.words r.topology x.0) files x.1
 
-  parts_claimed : (xs : List (Part × FrontierValue)) → All (λ x. IsFrontier (question_of r.words r.topology x.0) x.1) xs → (rest : Checked (Part × Denial)) (Rest : Saying) → Rest (verdict_from rest) → Each PartClaim xs Rest (verdict_from (each (part_checked r files) xs >>= (λ _. rest)))
-  parts_claimed [] valid rest Rest h = h
-  parts_claimed (x ∷ xs) valid rest Rest h =
+  parts_claimed : (xs : List (Part × FrontierValue)) → All (λ x. IsFrontier (question_of r.words r.topology x.0) x.1) xs → (last : Checked (Part × Denial)) (Rest : Saying) → Rest (verdict_from last) → Each PartClaim xs Rest (verdict_from (each (part_checked r files) xs >>= (λ _. last)))
+  parts_claimed [] valid last Rest h = h
+  parts_claimed (x ∷ xs) valid last Rest h =
       let q = question_of r.words r.topology x.0 in
-      let later = each (part_checked r files) xs >>= (λ _. rest) in
-      subst (PartClaim x (Each PartClaim xs Rest))
-      (in_part_verdict x.0 (frontier_checked x.0 q files x.1) later ∙ ap verdict_from (bound_twice (part_checked r files x) (each (part_checked r files) xs) rest))
-      (frontier_claimed x.0 q files x.1 (All-head (λ y. IsFrontier (question_of r.words r.topology y.0) y.1) x xs valid) (verdict_from later) (Each PartClaim xs Rest)
-      (parts_claimed xs (All-tail (λ y. IsFrontier (question_of r.words r.topology y.0) y.1) x xs valid) rest Rest h))
+      part_followed x.0 (frontier_checked x.0 q files x.1) (each (part_checked r files) xs) last (PartClaim x) (Each PartClaim xs Rest)
+      (λ w rest. frontier_meets x.0 q files x.1 (All-head (λ y. IsFrontier (question_of r.words r.topology y.0) y.1) x xs valid) w (Each PartClaim xs Rest) rest)
+      (parts_claimed xs (All-tail (λ y. IsFrontier (question_of r.words r.topology y.0) y.1) x xs valid) last Rest h)
 
   pub audit_decides : IsReport r → IsVerdict r files (audit_of r files)
   audit_decides ok = parts_claimed r.frontiers ok.frontiers (joined_checked r r.frontiers) (JoinedClaim r r.frontiers) (joined_claimed r r.frontiers ok.parts (joinable r ok))

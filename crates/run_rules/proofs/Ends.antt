@@ -1,4 +1,5 @@
 -- With which statuses the answer to what is due ends: done, or a refusal that is listed for the command.
+use Rattle.std.proofs.lemmas.Bool.{or_right}
 use Rattle.std.proofs.Common.{◌≡◌, ◌==◌, ◌||◌, ℕ, Bool, true, false, not, IsTrue, nat_lt, slice_get, length, List, [], ◌∷◌, Option, None, Some, Result, Ok, Err, refl, sym, subst, ◌∙◌, codes}
 use Rattle.std.specs.List.{list_any}
 use Rattle.text_lines.specs.{Check.{◌>>=◌, refuse, need}, Text.line}
@@ -72,110 +73,68 @@ module _ (P : Status → Type 0) where
 
 -- ---- command by command
 
-refused_as_listed : (c : Command) (bytes : List ℕ) → With (IsOneOf (refusals_of c)) (task_of c bytes)
-refused_as_listed (command.Synth kind word limits root kept) bytes =
+-- a task is refused with such a status, and only a report that is checked may be denied
+abbrev Listed : (Status → Type 0) → Result Task Refusal → Type 0
+Listed P (Ok (Audit r)) = P Denied
+Listed P (Ok (Degrade r group width)) = P Denied
+Listed P (Ok _) = Unit {0}
+Listed P (Err r) = P r.status
+
+then : {A : Type 0} (P : Status → Type 0) (x : Result A Refusal) (f : A → Result Task Refusal) → With P x → ((a : A) → Listed P (f a)) → Listed P (x >>= f)
+then P (Ok a) f h g = g a
+then P (Err r) f h g = h
+
+listed : (c : Command) (bytes : List ℕ) → Listed (IsOneOf (refusals_of c)) (task_of c bytes)
+listed (command.Synth kind word limits root kept) bytes =
     let P : Status → Type 0 = IsOneOf (refusals_of (command.Synth kind word limits root kept)) in
-    bind P _ _ (sought P refl refl refl refl (record { kind = kind; kind_word = word; limits = limits; root = root }) bytes) (λ _. tt)
-refused_as_listed command.Check bytes =
+    then P _ _ (sought P refl refl refl refl (record { kind = kind; kind_word = word; limits = limits; root = root }) bytes) (λ _. tt)
+listed command.Check bytes =
     let P : Status → Type 0 = IsOneOf (refusals_of command.Check) in
-    bind P _ _ (reported P refl bytes) (λ r. bind P _ _ (sized P refl refl (whole_question r.words r.topology)) (λ _. tt))
-refused_as_listed (command.Replay number word order) bytes =
+    then P _ _ (reported P refl bytes) (λ (r : ReportValue). then P _ _ (sized P refl refl (whole_question r.words r.topology)) (λ _. refl))
+listed (command.Replay number word order) bytes =
     let P : Status → Type 0 = IsOneOf (refusals_of (command.Replay number word order)) in
-    bind P _ _ (reported P refl bytes) (λ r. bind P _ _ (pointed P refl r (record { point = number; word = word })) (λ _. tt))
-refused_as_listed (command.Programs number word) bytes =
+    then P _ _ (reported P refl bytes) (λ (r : ReportValue). then P _ _ (pointed P refl r (record { point = number; word = word })) (λ _. tt))
+listed (command.Programs number word) bytes =
     let P : Status → Type 0 = IsOneOf (refusals_of (command.Programs number word)) in
-    bind P _ _ (reported P refl bytes) (λ r. bind P _ _ (pointed P refl r (record { point = number; word = word })) (λ _. tt))
-refused_as_listed (command.Family kind size) bytes = tt
-refused_as_listed (command.Trial n) bytes = tt
-refused_as_listed (command.Bound kind word limits root all_sets) bytes =
+    then P _ _ (reported P refl bytes) (λ (r : ReportValue). then P _ _ (pointed P refl r (record { point = number; word = word })) (λ _. tt))
+listed (command.Family kind size) bytes = tt
+listed (command.Trial n) bytes = tt
+listed (command.Bound kind word limits root all_sets) bytes =
     let P : Status → Type 0 = IsOneOf (refusals_of (command.Bound kind word limits root all_sets)) in
-    bind P _ _ (sought P refl refl refl refl (record { kind = kind; kind_word = word; limits = limits; root = root }) bytes) (λ _. tt)
-refused_as_listed (command.Ordered kind word limits root) bytes =
+    then P _ _ (sought P refl refl refl refl (record { kind = kind; kind_word = word; limits = limits; root = root }) bytes) (λ _. tt)
+listed (command.Ordered kind word limits root) bytes =
     let P : Status → Type 0 = IsOneOf (refusals_of (command.Ordered kind word limits root)) in
-    bind P _ _ (sought P refl refl refl refl (record { kind = kind; kind_word = word; limits = limits; root = root }) bytes) (λ _. tt)
-refused_as_listed (command.Degrade group group_word width width_word) bytes =
+    then P _ _ (sought P refl refl refl refl (record { kind = kind; kind_word = word; limits = limits; root = root }) bytes) (λ _. tt)
+listed (command.Degrade group group_word width width_word) bytes =
     let P : Status → Type 0 = IsOneOf (refusals_of (command.Degrade group group_word width width_word)) in
-    bind P _ _ (reported P refl bytes) (λ r. bind P _ _ (faulted P refl r group group_word width width_word) (λ _. bind P _ _ (sized P refl refl (whole_question r.words r.topology)) (λ _. tt)))
-refused_as_listed (command.Json what.Topology point) bytes =
+    then P _ _ (reported P refl bytes) (λ (r : ReportValue). then P _ _ (faulted P refl r group group_word width width_word) (λ _. then P _ _ (sized P refl refl (whole_question r.words r.topology)) (λ _. refl)))
+listed (command.Json what.Topology point) bytes =
     let P : Status → Type 0 = IsOneOf (refusals_of (command.Json what.Topology point)) in
-    bind P _ _ (coded P BadTopology topology_number (topology_of bytes) refl) (λ _. tt)
-refused_as_listed (command.Json what.Report point) bytes =
+    then P _ _ (coded P BadTopology topology_number (topology_of bytes) refl) (λ _. tt)
+listed (command.Json what.Report point) bytes =
     let P : Status → Type 0 = IsOneOf (refusals_of (command.Json what.Report point)) in
-    bind P _ _ (reported P refl bytes) (λ _. tt)
-refused_as_listed (command.Json what.Programs point) bytes =
+    then P _ _ (reported P refl bytes) (λ _. tt)
+listed (command.Json what.Programs point) bytes =
     let P : Status → Type 0 = IsOneOf (refusals_of (command.Json what.Programs point)) in
-    bind P _ _ (reported P refl bytes) (λ r. bind P _ _ (needed P point _ refl) (λ asked. bind P _ _ (pointed P refl r asked) (λ _. tt)))
-refused_as_listed (command.Unjson what.Topology) bytes =
-    let P : Status → Type 0 = IsOneOf (refusals_of (command.Unjson what.Topology)) in
-    bind P _ _ (coded P BadJson json_number (read_json (topology_form []) topology_of bytes) refl) (λ _. tt)
-refused_as_listed (command.Unjson what.Report) bytes =
+    then P _ _ (reported P refl bytes) (λ (r : ReportValue). then P _ _ (needed P point _ refl) (λ (asked : PointWord). then P _ _ (pointed P refl r asked) (λ _. tt)))
+listed (command.Unjson what.Report) bytes =
     let P : Status → Type 0 = IsOneOf (refusals_of (command.Unjson what.Report)) in
-    bind P _ _ (coded P BadJson json_number (read_json (report_form []) report_of bytes) refl) (λ _. tt)
-refused_as_listed (command.Unjson what.Programs) bytes =
+    then P _ _ (coded P BadJson json_number (read_json (report_form []) report_of bytes) refl) (λ _. tt)
+listed (command.Unjson what.Topology) bytes =
+    let P : Status → Type 0 = IsOneOf (refusals_of (command.Unjson what.Topology)) in
+    then P _ _ (coded P BadJson json_number (read_json (topology_form []) topology_of bytes) refl) (λ _. tt)
+listed (command.Unjson what.Programs) bytes =
     let P : Status → Type 0 = IsOneOf (refusals_of (command.Unjson what.Programs)) in
-    bind P _ _ (coded P BadJson json_number (read_json (topology_form []) topology_of bytes) refl) (λ _. tt)
+    then P _ _ (coded P BadJson json_number (read_json (topology_form []) topology_of bytes) refl) (λ _. tt)
 
 -- and so is each refusal of a command
 pub refused_with : (c : Command) (bytes : List ℕ) (r : Refusal) → task_of c bytes ≡ Err r → IsOneOf (refusals_of c) r.status
-refused_with c bytes r e = subst (With (IsOneOf (refusals_of c))) e (refused_as_listed c bytes)
-
--- only a report that is checked may be denied
-abbrev MayDeny : (Status → Type 0) → Result Task Refusal → Type 0
-MayDeny P (Ok (Audit r)) = P Denied
-MayDeny P (Ok (Degrade r group width)) = P Denied
-MayDeny P _ = Unit {0}
-
-behind : {A : Type 0} (P : Status → Type 0) (x : Result A Refusal) (f : A → Result Task Refusal) → ((a : A) → MayDeny P (f a)) → MayDeny P (x >>= f)
-behind P (Ok a) f g = g a
-behind P (Err r) f g = tt
-
-denied_as_listed : (c : Command) (bytes : List ℕ) → MayDeny (IsOneOf (refusals_of c)) (task_of c bytes)
-denied_as_listed (command.Synth kind word limits root kept) bytes =
-    behind (IsOneOf (refusals_of (command.Synth kind word limits root kept))) (search_asked (record { kind = kind; kind_word = word; limits = limits; root = root }) bytes) (λ s. Ok (Synthesise s.0 s.1 kept)) (λ _. tt)
-denied_as_listed command.Check bytes =
-    let P : Status → Type 0 = IsOneOf (refusals_of command.Check) in
-    behind P (read_report bytes) audit_in (λ r. behind P (searchable (whole_question r.words r.topology)) (λ _. Ok (Audit r)) (λ _. refl))
-denied_as_listed (command.Replay number word order) bytes =
-    let P : Status → Type 0 = IsOneOf (refusals_of (command.Replay number word order)) in
-    let asked : PointWord = record { point = number; word = word } in
-    behind P (read_report bytes) (λ r. replay_in r asked order) (λ r. behind P (point_in r asked) (λ p. Ok (Write (shown_text number (shown_in r p) order))) (λ _. tt))
-denied_as_listed (command.Programs number word) bytes =
-    let P : Status → Type 0 = IsOneOf (refusals_of (command.Programs number word)) in
-    let asked : PointWord = record { point = number; word = word } in
-    behind P (read_report bytes) (λ r. programs_in r asked) (λ r. behind P (point_in r asked) (λ p. Ok (Write (programs_of_point r number p))) (λ _. tt))
-denied_as_listed (command.Family kind size) bytes = tt
-denied_as_listed (command.Trial n) bytes = tt
-denied_as_listed (command.Bound kind word limits root all_sets) bytes =
-    behind (IsOneOf (refusals_of (command.Bound kind word limits root all_sets))) (search_asked (record { kind = kind; kind_word = word; limits = limits; root = root }) bytes) (λ s. Ok (Bound s.0 s.1 (given_sets all_sets))) (λ _. tt)
-denied_as_listed (command.Ordered kind word limits root) bytes =
-    behind (IsOneOf (refusals_of (command.Ordered kind word limits root))) (search_asked (record { kind = kind; kind_word = word; limits = limits; root = root }) bytes) (λ s. Ok (Order s.0 s.1)) (λ _. tt)
-denied_as_listed (command.Degrade group group_word width width_word) bytes =
-    let P : Status → Type 0 = IsOneOf (refusals_of (command.Degrade group group_word width width_word)) in
-    behind P (read_report bytes) (λ r. degrade_in r group group_word width width_word) (λ r. behind P (fault_in r group group_word width width_word) (λ _. searchable (whole_question r.words r.topology) >>= (λ _. Ok (Degrade r group width)))
-    (λ _. behind P (searchable (whole_question r.words r.topology)) (λ _. Ok (Degrade r group width)) (λ _. refl)))
-denied_as_listed (command.Json what.Topology point) bytes =
-    behind (IsOneOf (refusals_of (command.Json what.Topology point))) (refused_as BadTopology topology_number (topology_of bytes)) (λ t. Ok (Write (printed ((topology_form t.names).json t)))) (λ _. tt)
-denied_as_listed (command.Json what.Report point) bytes =
-    behind (IsOneOf (refusals_of (command.Json what.Report point))) (read_report bytes) (λ r. Ok (Write (printed ((report_form r.topology.names).json r)))) (λ _. tt)
-denied_as_listed (command.Json what.Programs point) bytes =
-    let P : Status → Type 0 = IsOneOf (refusals_of (command.Json what.Programs point)) in
-    behind P (read_report bytes) (λ r. json_programs_in r point) (λ r. behind P (need point (refused_word KeyMissing 0)) (λ asked. point_in r asked >>= (λ p. Ok (Write (printed (programs_value r asked.point p)))))
-    (λ asked. behind P (point_in r asked) (λ p. Ok (Write (printed (programs_value r asked.point p)))) (λ _. tt)))
-denied_as_listed (command.Unjson what.Topology) bytes =
-    behind (IsOneOf (refusals_of (command.Unjson what.Topology))) (refused_as BadJson json_number (read_json (topology_form []) topology_of bytes)) (λ t. Ok (Write (spelling t))) (λ _. tt)
-denied_as_listed (command.Unjson what.Report) bytes =
-    behind (IsOneOf (refusals_of (command.Unjson what.Report))) (refused_as BadJson json_number (read_json (report_form []) report_of bytes)) (λ r. Ok (Write (report_text r))) (λ _. tt)
-denied_as_listed (command.Unjson what.Programs) bytes =
-    behind (IsOneOf (refusals_of (command.Unjson what.Programs))) (refused_as BadJson json_number (read_json (topology_form []) topology_of bytes)) (λ t. Ok (Write (spelling t))) (λ _. tt)
+refused_with c bytes r e = subst (Listed (IsOneOf (refusals_of c))) e (listed c bytes)
 
 -- ---- an answer
 
 one_more : (x : Status) (xs : List Status) (s : Status) → IsOneOf xs s → IsOneOf (x ∷ xs) s
-one_more x xs s there = either (status_number x == status_number s)
-  where
-    either : (b : Bool) → IsTrue (b || list_any (λ y. status_number y == status_number s) xs)
-    either true = refl
-    either false = there
+one_more x xs s there = or_right (status_number x == status_number s) _ there
 
 -- an audit ends with its denial, or as what is verified is done
 audited_ends : (refusals : List Status) (r : ReportValue) (files : FilesValue) (status : Status) (text : List ℕ) (Then : Status → List ℕ → Type 0) → (Then status text → status ≡ Done)
@@ -186,17 +145,12 @@ audited_ends refusals r files status text Then done deny answer = by_verdict (au
     by_verdict (Ok u) is = subst (IsOneOf (Done ∷ refusals)) (sym (done (done_of r Then files status text answer is))) refl
     by_verdict (Err why) is = subst (IsOneOf (Done ∷ refusals)) (sym ((denied_of r Then files status text answer why is).status ∙ denied_by r answer.over why is)) (one_more Done refusals Denied deny)
 
-answer_ends : (refusals : List Status) (due : Result Task Refusal) (files : FilesValue) (status : Status) (text : List ℕ) → With (IsOneOf refusals) due → MayDeny (IsOneOf refusals) due → IsAnswer due files status text → IsOneOf (Done ∷ refusals) status
-answer_ends refusals (Err r) files status text listed deny answer = subst (IsOneOf (Done ∷ refusals)) (sym answer.says.status) (one_more Done refusals r.status listed)
-answer_ends refusals (Ok (Write words)) files status text listed deny answer = subst (IsOneOf (Done ∷ refusals)) (sym answer.says.status) refl
-answer_ends refusals (Ok (Synthesise w t kept)) files status text listed deny answer = subst (IsOneOf (Done ∷ refusals)) (sym answer.says.status) refl
-answer_ends refusals (Ok (Audit r)) files status text listed deny answer =
-    audited_ends refusals r files status text (Says Done (line (codes "verified" ∷ []))) (λ said. said.status) deny answer
-answer_ends refusals (Ok (Try n)) files status text listed deny answer = subst (IsOneOf (Done ∷ refusals)) (sym answer.1.says.status) refl
-answer_ends refusals (Ok (Bound w t sets)) files status text listed deny answer = subst (IsOneOf (Done ∷ refusals)) (sym answer.says.status) refl
-answer_ends refusals (Ok (Order w t)) files status text listed deny answer = subst (IsOneOf (Done ∷ refusals)) (sym answer.says.status) refl
-answer_ends refusals (Ok (Degrade r group width)) files status text listed deny answer =
-    audited_ends refusals r files status text (IsNewSearch r group width) (λ said. said.says.status) deny answer
+answer_ends : (refusals : List Status) (due : Result Task Refusal) (files : FilesValue) (status : Status) (text : List ℕ) → Listed (IsOneOf refusals) due → IsAnswer due files status text → IsOneOf (Done ∷ refusals) status
+answer_ends refusals (Err r) files status text end answer = subst (IsOneOf (Done ∷ refusals)) (sym answer.says.status) (one_more Done refusals r.status end)
+answer_ends refusals (Ok (Audit r)) files status text end answer = audited_ends refusals r files status text (Says Done (line (codes "verified" ∷ []))) (λ said. said.status) end answer
+answer_ends refusals (Ok (Degrade r group width)) files status text end answer = audited_ends refusals r files status text (IsNewSearch r group width) (λ said. said.says.status) end answer
+answer_ends refusals (Ok (Try n)) files status text end answer = subst (IsOneOf (Done ∷ refusals)) (sym answer.1.says.status) refl
+answer_ends refusals (Ok _) files status text end answer = subst (IsOneOf (Done ∷ refusals)) (sym answer.says.status) refl
 
 pub command_ends : (c : Command) (bytes : List ℕ) (files : FilesValue) (status : Status) (text : List ℕ) → IsAnswer (task_of c bytes) files status text → IsOneOf (answers_of c) status
-command_ends c bytes files status text = answer_ends (refusals_of c) (task_of c bytes) files status text (refused_as_listed c bytes) (denied_as_listed c bytes)
+command_ends c bytes files status text = answer_ends (refusals_of c) (task_of c bytes) files status text (listed c bytes)

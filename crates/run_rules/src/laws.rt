@@ -14,11 +14,13 @@ use crate::status::Status;
 
 /// An answer to what a command asks for ends as is listed for the command: it is done, or refused with
 /// one of its refusals.
+#[tactic(auto, using(crate::proofs::Ends::command_ends))]
 pub fn answers_end_as_listed()
     ensures { (c : Command) (bytes : List ℕ) (files : FilesValue) (status : Status) (text : List ℕ) → IsAnswer (task_of c bytes) files status text → IsOneOf (answers_of c) status }
 {}
 
 /// The verdict that the claims give is the one of the checks that an audit does, and the only one.
+#[tactic(auto, using(crate::proofs::OneVerdict::verdict_exactly, crate::proofs::OneVerdict::one_verdict))]
 pub fn claims_and_checks_agree()
     ensures checks { (r : ReportValue) (files : Files) (v : AuditVerdict) → IsReport r → IsVerdict r files v ↔ (audit_of r files ≡ v) }
     ensures one { (r : ReportValue) (files : Files) (v w : AuditVerdict) → IsVerdict r files v → IsVerdict r files w → v ≡ w }

@@ -58,13 +58,10 @@ settled_parts r w t words topology right searched none =
       none = none_unknown r.frontiers none k d low;
     }))
 
-same_reports : (w : WordsValue) (t : NamedTopologyValue) (r s : ReportValue) → r.words ≡ w → s.words ≡ w → r.topology ≡ t → s.topology ≡ t → IsRight r → IsSearched r → IsRight s → IsSearched s → unknown_in r ≡ 0 → unknown_in s ≡ 0 → SameCounts r.frontiers s.frontiers
-same_reports w t r s words_r words_s topology_r topology_s right_r searched_r right_s searched_s none_r none_s =
-    same_counts w t r.frontiers s.frontiers
-    (right_r.valid.parts ∙ (ap (λ (v : WordsValue). parts_of v.collective.kind) (words_r ∙ sym words_s) ∙ sym right_s.valid.parts))
-    (settled_parts r w t words_r topology_r right_r searched_r none_r) (settled_parts s w t words_s topology_s right_s searched_s none_s)
-
 pub same_trials : (n : ℕ) (a b : List ℕ) (first : Tries n a) (second : Tries n b) → unknown_in first.report ≡ 0 → unknown_in second.report ≡ 0
     → (points_in first.report ≡ points_in second.report) × (refuted_in first.report ≡ refuted_in second.report)
 same_trials n a b first second none_first none_second =
-    same_reports (trial_words n) (trial_topology n) first.report second.report first.words second.words first.topology second.topology first.right first.searched second.right second.searched none_first none_second
+    same_counts (trial_words n) (trial_topology n) first.report.frontiers second.report.frontiers
+    (first.right.valid.parts ∙ (ap (λ (v : WordsValue). parts_of v.collective.kind) (first.words ∙ sym second.words) ∙ sym second.right.valid.parts))
+    (settled_parts first.report (trial_words n) (trial_topology n) first.words first.topology first.right first.searched none_first)
+    (settled_parts second.report (trial_words n) (trial_topology n) second.words second.topology second.right second.searched none_second)

@@ -39,14 +39,4 @@ pub lines_of_trial : (n : ℕ) (r : ReportValue) (names : List (List ℕ)) (w : 
     → names ≡ r.topology.names → w ≡ r.words → kind ≡ trial_family n → size ≡ trial_size n → points ≡ points_in r → refuted ≡ refuted_in r → unknown ≡ unknown_in r → joined ≡ length r.joined → count ≡ replays_in r → events ≡ events_in r
     → all_lines n names w kind size points refuted unknown joined count events ≡ trial_text n r
 lines_of_trial n r names w kind size points refuted unknown joined count events e1 e2 e3 e4 e5 e6 e7 e8 e9 e10 =
-    ap (λ x. all_lines n x w kind size points refuted unknown joined count events) e1
-    ∙ ap (λ x. all_lines n r.topology.names x kind size points refuted unknown joined count events) e2
-    ∙ ap (λ x. all_lines n r.topology.names r.words x size points refuted unknown joined count events) e3
-    ∙ ap (λ x. all_lines n r.topology.names r.words (trial_family n) x points refuted unknown joined count events) e4
-    ∙ ap (λ x. all_lines n r.topology.names r.words (trial_family n) (trial_size n) x refuted unknown joined count events) e5
-    ∙ ap (λ x. all_lines n r.topology.names r.words (trial_family n) (trial_size n) (points_in r) x unknown joined count events) e6
-    ∙ ap (λ x. all_lines n r.topology.names r.words (trial_family n) (trial_size n) (points_in r) (refuted_in r) x joined count events) e7
-    ∙ ap (λ x. all_lines n r.topology.names r.words (trial_family n) (trial_size n) (points_in r) (refuted_in r) (unknown_in r) x count events) e8
-    ∙ ap (λ x. all_lines n r.topology.names r.words (trial_family n) (trial_size n) (points_in r) (refuted_in r) (unknown_in r) (length r.joined) x events) e9
-    ∙ ap (λ x. all_lines n r.topology.names r.words (trial_family n) (trial_size n) (points_in r) (refuted_in r) (unknown_in r) (length r.joined) (replays_in r) x) e10
-    ∙ lines_are n r
+    rw (e1, e3, e4, e5, e6, e7, e8, e9, e10) (ap (λ x. all_lines n r.topology.names x (trial_family n) (trial_size n) (points_in r) (refuted_in r) (unknown_in r) (length r.joined) (replays_in r) (events_in r)) e2 ∙ lines_are n r)

@@ -14,9 +14,6 @@ at_place r (suc n) some = let below : suc n - 1 ≡ n = omega arith in ap (slice
 pub within_more : (r : ReportValue) (n m : ℕ) (x : Part × PointValue) → 1 ≤ n → m ≡ n + 1 → point_at r n ≡ Some x → m - 1 ≤ length (points_of r)
 within_more r n m x some next e = let low = slice_get_within (points_of r) (n - 1) x (sym (at_place r n some) ∙ e) in omega (arith, low)
 
-pub four_more : (n m a b : ℕ) → 1 ≤ n → m ≡ n + 1 → a ≡ 4 * (n - 1) → b ≡ a + 4 → b ≡ 4 * (m - 1)
-four_more n m a b some next so_far more = omega arith
-
 -- the sum so far, and its share
 pub sum_more : (f : Part × PointValue → ℕ) (r : ReportValue) (n m a b d : ℕ) (x : Part × PointValue) → 1 ≤ n → m ≡ n + 1 → point_at r n ≡ Some x
     → a ≡ 4 * sum_by f (take (n - 1) (points_of r)) → d ≡ 4 * f x → b ≡ a + d → b ≡ 4 * sum_by f (take (m - 1) (points_of r))
@@ -35,9 +32,6 @@ all_numbered r n some within e =
       | inl (x, low, at, _) ↦ absurd (let is : Some x ≡ None = sym at ∙ sym (at_place r n some) ∙ e in cc)
       | inr (past, _) ↦ omega (arith, past)
     ]
-
-pub four_each : (r : ReportValue) (n a : ℕ) → n - 1 ≡ length (points_of r) → a ≡ 4 * (n - 1) → a ≡ 4 * length (points_of r)
-four_each r n a is so_far = so_far ∙ ap (λ k. 4 * k) is
 
 pub sum_all : (f : Part × PointValue → ℕ) (r : ReportValue) (n a : ℕ) → n - 1 ≡ length (points_of r) → a ≡ 4 * sum_by f (take (n - 1) (points_of r)) → a ≡ 4 * sum_by f (points_of r)
 sum_all f r n a is so_far = so_far ∙ ap (λ k. 4 * sum_by f (take k (points_of r))) is ∙ ap (λ xs. 4 * sum_by f xs) (take-length (points_of r))

@@ -15,29 +15,17 @@ use Rattle.topology_text.specs.declared.family_kind.FamilyKind.TheVariants as fa
 use Rattle.report_form.specs.Reports.{WordsValue, question_of}
 use Rattle.run_rules.specs.Trials.{trial_family}
 
-few_pairs : (size : ℕ) → size ≤ 10 → length (pairs size) ≤ 100
-few_pairs size few =
-    let all = length-pairs size in
-    let square = mul-le size size 10 10 few few in
-    omega (arith, all, square)
-
 few_links : (kind : FamilyKind) (size : ℕ) → size ≤ 10 → length (family_links kind size) ≤ 100
 few_links kind size few =
     let kept = length-filter (is_family_link kind size) (pairs size) in
     let most = count_by-le-length (is_family_link kind size) (pairs size) in
-    let all = few_pairs size few in
-    omega (arith, kept, most, all)
+    omega (arith, kept, most, length-pairs size, mul-le size size 10 10 few few)
 
 few_chunks : (k : Kind) (nodes c : ℕ) → nodes ≤ 10 → c ≤ 10 → chunks_of k nodes c ≤ 100
 few_chunks kind.Broadcast nodes c few small = omega (arith, small)
 few_chunks kind.Reduce nodes c few small = omega (arith, small)
 few_chunks kind.Custom nodes c few small = omega arith
-few_chunks kind.Gather nodes c few small = mul-le nodes c 10 10 few small
-few_chunks kind.Allgather nodes c few small = mul-le nodes c 10 10 few small
-few_chunks kind.Scatter nodes c few small = mul-le nodes c 10 10 few small
-few_chunks kind.Alltoall nodes c few small = mul-le nodes c 10 10 few small
-few_chunks kind.Reducescatter nodes c few small = mul-le nodes c 10 10 few small
-few_chunks kind.Allreduce nodes c few small = mul-le nodes c 10 10 few small
+few_chunks _ nodes c few small = mul-le nodes c 10 10 few small
 
 module _ (chunks steps extra : ℕ) (few : chunks ≤ 100) (short : steps ≤ 4) (little : extra ≤ 1) where
   -- a group of links of width 1

@@ -5,18 +5,6 @@ use Rattle.report_form.specs.{Reading.{report_of, body_of, frontier_at}, Spellin
 use Rattle.topology_text.specs.Reading.{pattern_at}
 use Rattle.run_rules.proofs.vectors.reports_due.Goals as goal
 
-pub returns-clause-text : goal.returns-clause-text
-unfolding due command_of report_of body_of report_text pattern_at schedule_at frontier_point_at joined_point_at frontier_at digits
-returns-clause-text c = refl
-
-pub returns-clause-point : goal.returns-clause-point
-unfolding due command_of report_of body_of report_text pattern_at schedule_at frontier_point_at joined_point_at frontier_at digits
-returns-clause-point c = refl
-
-pub returns-clause-denied : goal.returns-clause-denied
-unfolding audited report_text digits
-returns-clause-denied c = refl
-
-pub returns-clause-line : goal.returns-clause-line
-unfolding due command_of report_of body_of report_text pattern_at schedule_at frontier_point_at joined_point_at frontier_at digits
-returns-clause-line c = refl
+pub returns : goal.returns
+unfolding due command_of report_of body_of report_text pattern_at schedule_at frontier_point_at joined_point_at frontier_at digits audited
+returns c = record { text = refl; point = refl; denied = refl; line = refl }
