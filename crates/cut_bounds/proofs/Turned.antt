@@ -46,9 +46,6 @@ floor_same sets t s = least_alike_in (floor_at sets t) s t.nodes
 
 -- ---- the table
 
-abbrev table_at : Sets → TopologyValue → Floor → ℕ → Instance → TableValue
-table_at sets t floor least i = record { sets = sets; topology = t; least = least; measures = map (measure_of sets t i.pre i.post) (node_sets sets t.nodes); floor = floor }
-
 table_alike : (sets : Sets) (t : TopologyValue) (s : Spec) → table_of sets t (copied_spec s) ≡ table_of sets t s
 table_alike sets t s = grind (arith, nat_tests, least_alike_in, floor_same)
 

@@ -20,20 +20,6 @@ stood (Ok _) e = absurd (cc)
 stood (Err audit.ShelfFailed) e = absurd (cc)
 stood (Err audit.OutOfMemory) e = absurd (cc)
 
--- a judgement that an engine takes for a fault of the shelf is one
-failed : (v : Result FileVerdict AuditFault) → stands v ≡ Err engine.ShelfFailed → v ≡ Err audit.ShelfFailed
-failed (Err audit.ShelfFailed) e = refl
-failed (Err audit.OutOfMemory) e = absurd (cc)
-failed (Ok Stands) e = absurd (cc)
-failed (Ok _) e = absurd (cc)
-
-pub same_cause : (before now : ℕ) (v : Result FileVerdict AuditFault) → HasCause audit.ShelfFailed before now v → HasCause engine.ShelfFailed before now (stands v)
-same_cause before now v cause = record {
-  later = cause.later;
-  rose = λ e. cause.rose (failed v e);
-  stays = λ n. cause.stays (λ e. n (ap stands e));
-}
-
 -- what is said of a file, by the verdict that a judgement gave
 module _ (test : List ℕ → Bool) (file : Option (List ℕ)) where
   verdict_stands : (v : Result FileVerdict AuditFault) → IfOk v (λ verdict. verdict ≡ file_verdict test file) → stands v ≡ Ok true → file_verdict test file ≡ Stands

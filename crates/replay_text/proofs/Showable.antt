@@ -124,14 +124,6 @@ module _ (r : ReportValue) (valid : IsReport r) where
 
 -- ---- its instance, and its demand
 
-pub pre_chunks : (x : Spec) (nodes c : ℕ) → (spec_instance x nodes c).pre.chunks ≡ chunks_in x nodes c
-pre_chunks (spec.Standard collective) nodes c = refl
-pre_chunks (spec.Custom p) nodes c = refl
-
 pub demand_chunks : (x : Spec) (nodes c : ℕ) → (spec_demand x nodes c).chunks ≡ chunks_in x nodes c
 demand_chunks (spec.Standard collective) nodes c = refl
 demand_chunks (spec.Custom p) nodes c = refl
-
-pub pre_nodes : (x : Spec) (nodes c : ℕ) → (spec_instance x nodes c).pre.nodes ≡ nodes
-pre_nodes (spec.Standard collective) nodes c = refl
-pre_nodes (spec.Custom p) nodes c = refl

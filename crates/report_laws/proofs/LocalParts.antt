@@ -16,14 +16,6 @@ module _ (names : List (List ℕ)) (q : QuestionValue) where
       steady_then _ _ _ _ (steady_line (rounds_line head.candidate)) (λ rounds. steady_then _ _ _ _ (steady_lines (codes "send ") (send_line names (chunks_in q.spec q.topology.nodes head.candidate.c) head.candidate.s))
       (λ sends. steady_found (point_of head rounds sends)))
 
-  pub points_shorten : Shortens (codes "point ") (frontier_point_at names q)
-  unfolding frontier_point_at
-  points_shorten = piece_shortens (codes "point ") (λ before. head_line q (last_or None (map (λ x. x.candidate) before))) (λ h. schedule_at names q h.0 h.1) steady_schedule
-
-  pub joined_points_shorten : Shortens (codes "point ") (joined_point_at names q)
-  unfolding joined_point_at
-  joined_points_shorten = piece_shortens (codes "point ") (λ before. joined_head_line q) (λ h. schedule_at names q h.0 h.1) steady_schedule
-
   steady_points : Steady (parts_at (codes "point ") (frontier_point_at names q)) (parts_at (codes "point ") (frontier_point_at names q))
   unfolding frontier_point_at
   steady_points = steady_pieces (codes "point ") (λ before. head_line q (last_or None (map (λ x. x.candidate) before))) (λ h. schedule_at names q h.0 h.1) steady_schedule

@@ -90,15 +90,3 @@ module _ {A C : Type 0} (word : List ℕ) (check : List A → Place → Result (
     -- one turn
     pub parts_turn : (before : List A) (p : Place) → parts_on before p ≡ (if row_begins word (first p.rows) then (check before p >>= parts_behind before) else Ok (before, p))
     parts_turn before p = grind (arith, nat_tests, common_steps, enough, same_if, same_then)
-
-    part_begun : (before : List A) (p : Place) → row_begins word (first p.rows) ≡ true → parts_on before p ≡ (check before p >>= parts_behind before)
-    part_begun before p begun = parts_turn before p ∙ ap (λ b. if b then (check before p >>= parts_behind before) else Ok (before, p)) begun
-
-    pub part_refused : (before : List A) (p : Place) (e : C × ℕ) → row_begins word (first p.rows) ≡ true → check before p ≡ Err e → parts_on before p ≡ Err e
-    part_refused before p e begun failed = part_begun before p begun ∙ ap (λ r. r >>= parts_behind before) failed
-
-    pub part_accepted : (before now : List A) (p q : Place) (x : A) → row_begins word (first p.rows) ≡ true → check before p ≡ Ok (x, q) → now ≡ before ++ x ∷ [] → parts_on now q ≡ parts_on before p
-    part_accepted before now p q x begun read all = ap (λ xs. parts_on xs q) all ∙ sym (part_begun before p begun ∙ ap (λ r. r >>= parts_behind before) read)
-
-    pub parts_ended : (before : List A) (p : Place) → row_begins word (first p.rows) ≡ false → parts_on before p ≡ Ok (before, p)
-    parts_ended before p other = parts_turn before p ∙ ap (λ b. if b then (check before p >>= parts_behind before) else Ok (before, p)) other
