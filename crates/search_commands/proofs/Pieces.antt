@@ -55,15 +55,4 @@ pub bound_is : (w : WordsValue) (t : NamedTopologyValue) (sets : Sets) (f : Fron
     ++ (flat_map (point_text t.names) f.points ++ (text_of (map (cut_words t.names) (cuts_among sets (searched_question (question_of w t Whole)) f.refuted)) ++ (text_of (map refuted_words (uncut_among sets (searched_question (question_of w t Whole)) f.refuted))
     ++ (text_of (map unknown_words f.unknown) ++ codes "end\n"))))))) ≡ bound_text w t sets f
 unfolding bound_text
-bound_is w t sets f =
-    let q = searched_question (question_of w t Whole) in
-    let points : List (List (List ℕ)) = flat_map (point_lines t.names) f.points in
-    let cuts : List (List (List ℕ)) = map (cut_words t.names) (cuts_among sets q f.refuted) in
-    let others : List (List (List ℕ)) = map refuted_words (uncut_among sets q f.refuted) in
-    let unknown : List (List (List ℕ)) = map unknown_words f.unknown in
-    let last : List (List (List ℕ)) = (codes "end" ∷ []) ∷ [] in
-    let end : text_of (others ++ (unknown ++ last)) ≡ text_of others ++ (text_of unknown ++ text_of last) = text_append others (unknown ++ last) ∙ ap (λ x. text_of others ++ x) (text_append unknown last) in
-    let refuted : text_of (cuts ++ (others ++ (unknown ++ last))) ≡ text_of cuts ++ (text_of others ++ (text_of unknown ++ text_of last)) = text_append cuts (others ++ (unknown ++ last)) ∙ ap (λ x. text_of cuts ++ x) end in
-    let rest : text_of (points ++ (cuts ++ (others ++ (unknown ++ last)))) ≡ flat_map (point_text t.names) f.points ++ (text_of cuts ++ (text_of others ++ (text_of unknown ++ text_of last))) =
-    text_append points (cuts ++ (others ++ (unknown ++ last))) ∙ (ap (λ x. x ++ text_of (cuts ++ (others ++ (unknown ++ last)))) (text_each (point_lines t.names) f.points) ∙ ap (λ x. flat_map (point_text t.names) f.points ++ x) refuted) in
-    sym (ap (λ x. codes "bound 1\n" ++ (line (synth_words t.names w) ++ (line (floor_words t.names (floor_of sets q.topology q.spec)) ++ (codes "frontier whole\n" ++ x)))) rest)
+bound_is w t sets f = simp (text_append, text_each (point_lines t.names))

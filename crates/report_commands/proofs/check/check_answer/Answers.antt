@@ -1,4 +1,4 @@
-use Rattle.std.proofs.Common.{◌≡◌, Ok, IfOk, ap, refl, subst, sym}
+use Rattle.std.proofs.Common.{arith, ◌≡◌, Ok, IfOk, ap, refl, subst, sym}
 use Rattle.text_lines.specs.Check.{◌>>=◌}
 use Rattle.run_rules.specs.{Answers.IsAnswer, Read.IsReadAs, Tasks.{audit_asked, read_report}, Steps.audit_in}
 use Rattle.run_rules.proofs.Answered.{refused_alone, refused_behind}
@@ -11,7 +11,4 @@ returns-in-Spelled-clause-answers g c =
     subst (λ due. IfOk c.audit_answer.result (λ a. IsAnswer due (record { told = g.H.Shelf.tells c.audit_answer.new.shelf; before = g.H.Shelf.file c.args.shelf.now; after = g.H.Shelf.file c.audit_answer.new.shelf }) a.status a.text.items)) (sym (ap (λ x. x >>= audit_in) read)) c.audit_answer.ensures.answers
 
 pub returns-in-Refused-clause-answers : goal.returns-in-Refused-clause-answers
-returns-in-Refused-clause-answers g c =
-    let bytes = c.args.bytes.now in
-    let refused = subst (IsReadAs (read_report bytes)) c.in-Refused.is c.in_ok-report.ensures in
-    refused_alone (audit_asked bytes) c.in-Refused.answer (refused_behind (read_report bytes) audit_in c.in-Refused.answer refused) _ (λ told name. refl)
+returns-in-Refused-clause-answers g c = grind (arith, refused_alone, refused_behind)

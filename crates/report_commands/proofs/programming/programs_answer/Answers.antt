@@ -1,4 +1,4 @@
-use Rattle.std.proofs.Common.{◌≡◌, Ok, IfOk, ap, subst, sym}
+use Rattle.std.proofs.Common.{arith, ◌≡◌, Ok, IfOk, ap, subst, sym}
 use Rattle.text_lines.specs.Check.{◌>>=◌}
 use Rattle.run_rules.specs.{Answers.IsAnswerAlone, Read.IsReadAs, Tasks.{programs_asked, read_report}, Steps.programs_in}
 use Rattle.run_rules.proofs.Answered.{refused_alone, refused_behind}
@@ -11,7 +11,4 @@ returns-in-Spelled c =
     subst (λ due. IfOk c.programs_in_report.result (λ a. IsAnswerAlone due a.status a.text.items)) (sym (ap (λ x. x >>= (λ r. programs_in r c.args.asked)) read)) c.programs_in_report.ensures
 
 pub returns-in-Refused : goal.returns-in-Refused
-returns-in-Refused c =
-    let bytes = c.args.bytes.now in
-    let refused = subst (IsReadAs (read_report bytes)) c.in-Refused.is c.in_ok-report.ensures in
-    refused_alone (programs_asked c.args.asked bytes) c.in-Refused.answer (refused_behind (read_report bytes) (λ r. programs_in r c.args.asked) c.in-Refused.answer refused)
+returns-in-Refused c = grind (arith, refused_alone, refused_behind)
