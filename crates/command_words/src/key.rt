@@ -1,6 +1,6 @@
 //! The keys of the words behind the first, and what they take.
 
-ghost use Rattle.std.specs.{Prelude.{◌≡◌, find}, List.list_any};
+ghost use Rattle.std.specs.{Prelude.{◌≡◌}, List.list_any};
 ghost use Rattle.command_words.specs.{Tables.{key_row, key_word, keys, named, same_key, Number}, Words.fits};
 
 use crate::kind_word::kind_of_word;

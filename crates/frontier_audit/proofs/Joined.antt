@@ -4,7 +4,6 @@ use Rattle.std.proofs.lemmas.{Bool.{and_parts, eqb-true, eq-eqb, and_from, Decid
 use Rattle.std.proofs.lemmas.List.Elements.{All-nil, All-cons, All-head, All-tail}
 use Rattle.text_lines.specs.Check.{refuse}
 use Rattle.schedule.specs.{declared.hop.Hop.Hop, Links.TopologyValue}
-use Rattle.collective_spec.specs.declared.kind.Kind.TheVariants as kind
 use Rattle.candidate_order.specs.{declared.mark.Mark.Mark, Frontiers.PointValue}
 use Rattle.candidate_order.specs.declared.mark.Mark.TheVariants as mark
 use Rattle.allreduce_join.{specs.{Joins.{join_of, IsJoin}}, proofs.Told.all_summed_exactly}

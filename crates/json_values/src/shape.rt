@@ -1,7 +1,7 @@
 //! What values of JSON have in them, where they have a shape.
 
-ghost use Rattle.std.specs.Prelude.{◌≡◌, ◌≤◌, false, drop, length, option_map, unwrap_or, IfSome};
-ghost use Rattle.serde_json.specs.{Data.{Data, Members, no_members, member}, Find.as_array, View.{view, items_view, members_view}};
+ghost use Rattle.std.specs.Prelude.{◌≡◌, false, option_map};
+ghost use Rattle.serde_json.specs.{Data.{member}, Find.as_array, View.{view, items_view, members_view}};
 ghost use Rattle.json_values.specs.{Shape.{count_in, name_in}, Forms.same_keys, Pieces.{due_keys, has_due_keys, says}};
 
 use serde_json::{Map, Value};

@@ -3,7 +3,6 @@
 ghost use Rattle.std.specs.Prelude.{◌≡◌, ◌∷◌, ◌++◌, bytes_eq, map, option_map};
 ghost use Rattle.std.specs.List.{list_any};
 ghost use Rattle.serde_json.specs.View.{view};
-ghost use Rattle.text_lines.specs.Text.{fields};
 ghost use Rattle.json_values.specs.{Appends.Appends, Pieces.{token_in, tokens_in, row_in}};
 
 use crate::shape::{count_in, items_in, name_in};

@@ -2,7 +2,7 @@
 //! value does not have the form, unless memory runs out; after either, nothing is said of what was
 //! appended.
 
-ghost use Rattle.std.specs.Prelude.{◌≡◌, if◌then◌else◌, [], ◌∷◌, ℕ, List, Option, Some, decimal, map, option_map};
+ghost use Rattle.std.specs.Prelude.{if◌then◌else◌, [], ◌∷◌, ℕ, List, Option, Some, decimal, option_map};
 ghost use Rattle.text_lines.specs.Text.{fields, text_of};
 ghost use Rattle.serde_json.specs.{Data.Data, View.view};
 ghost use Rattle.json_values.specs.{Shape.{◌⊕◌, one, headed, field}, Appends.Appends, Pieces.{each_in, nothing_in, may_in, has_due_keys, fields_in}};

@@ -1,7 +1,7 @@
 //! The topology that JSON stands for.
 
-ghost use Rattle.std.specs.Prelude.{◌≡◌, true, false, ◌∷◌, [], ◌++◌, Some, option_map, unwrap_or, IfOk, codes, length};
-ghost use Rattle.text_lines.specs.Text.{fields, text_of};
+ghost use Rattle.std.specs.Prelude.{◌≡◌, true, false, ◌∷◌, [], ◌++◌, Some, option_map, IfOk, codes, length};
+ghost use Rattle.text_lines.specs.Text.{text_of};
 ghost use Rattle.serde_json.specs.{Data.Data, View.{view, items_view}};
 ghost use Rattle.topology_text.specs.{Value.IsNamed, Spelling.spelling};
 ghost use Rattle.json_values.specs.{Forms.says_word, TopologyForm.{version, link, group, custom, topology, chunks_read}};

@@ -1,6 +1,6 @@
 -- What two judged files say of a candidate, and of its formula.
-use Rattle.std.proofs.Common.{◌≡◌, ℕ, Bool, true, false, List, Result, Ok, Err, Option, refl, sym, ap, ◌∙◌, subst, IfOk, bytes_eq}
-use Rattle.outer_ports.specs.{declared.{part.Part.Part, proof_name.FileKind.TheVariants.{Cnf, Lrat}}, Files.Files, Port.HasCause}
+use Rattle.std.proofs.Common.{◌≡◌, ℕ, Bool, true, false, List, Result, Ok, Err, Option, refl, sym, ◌∙◌, subst, IfOk, bytes_eq}
+use Rattle.outer_ports.specs.{declared.{part.Part.Part, proof_name.FileKind.TheVariants.{Cnf, Lrat}}, Files.Files}
 use Rattle.cnf_formula.specs.Formulas.{FormulaValue}
 use Rattle.lrat_text.specs.Printing.{cnf_text}
 use Rattle.candidate_order.specs.{declared.candidate.Candidate.Candidate, Frontiers.QuestionValue}
@@ -9,7 +9,6 @@ use Rattle.proof_audit.specs.declared.{fault.AuditFault.AuditFault, verdict.File
 use Rattle.proof_audit.specs.{Files.file_verdict, Proving.is_refutation}
 use Rattle.proof_audit.proofs.Standing.{standing_refute}
 use Rattle.proof_audit.specs.declared.fault.AuditFault.TheVariants as audit
-use Rattle.engine_rules.specs.declared.fault.EngineFault.TheVariants as engine
 use Rattle.kept_proofs.specs.inner.Judged.{stands}
 
 -- ---- one verdict

@@ -1,6 +1,6 @@
 //! What has to come into a set of nodes.
 
-ghost use Rattle.std.specs.{Prelude.{◌≡◌, ◌<◌, ◌≤◌, length, count_by, IfOk}, List.list_any};
+ghost use Rattle.std.specs.{Prelude.{◌≡◌, ◌<◌, length, count_by, IfOk}, List.list_any};
 ghost use Rattle.node_cuts.specs.{Sides.NodeSet, inner.Listed.members, Cuts.need_of, Holders.{is_lacking, nodes_with}};
 
 use crate::OutOfMemory;

@@ -1,6 +1,6 @@
 //! Sets of links, for a look-up that costs the same however many there are.
 
-ghost use Rattle.std.specs.{Prelude.{◌≡◌, ◌<◌, ◌≤◌, length, count_by, All}, List.list_any};
+ghost use Rattle.std.specs.{Prelude.{◌≡◌, ◌<◌, count_by, All}, List.list_any};
 ghost use Rattle.schedule.specs.{Links.IsBelow, Placed.same_pair, Tables.{Marks, marked_at}};
 ghost use Rattle.node_cuts.specs.{inner.Listed.members, Cuts.enters, Opened.RemovesLinks};
 

@@ -1,6 +1,6 @@
 //! A shelf over a folder.
 
-ghost use Rattle.std.specs.Prelude.{◌≡◌, ◌≢◌, ℕ, ◌<◌, ◌≤◌, Err, Ok, length, IfOk, IfSome, IsTrue, OnOk, string_bytes};
+ghost use Rattle.std.specs.Prelude.{◌≡◌, ◌≢◌, ◌<◌, ◌≤◌, Err, length, IfOk, IfSome, IsTrue, OnOk, string_bytes};
 ghost use Rattle.outer_ports.specs.{Folders.files_in_folder, Port.{HasCause, Tells}, Shelf.{AppendsTo, Begins, FilesStay, ReadsAt}};
 
 use crate::failed::Failed;

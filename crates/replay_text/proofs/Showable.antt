@@ -7,7 +7,7 @@ use Rattle.outer_ports.specs.declared.part.Part.{Part}
 use Rattle.outer_ports.specs.declared.part.Part.TheVariants as part
 use Rattle.collective_spec.specs.{declared.{kind.Kind.Kind, collective.Collective.Collective, spec.Spec.Spec}, Kinds.{allows, is_custom}}
 use Rattle.collective_spec.specs.{Layouts.laid_out, Patterns.{PatternValue, IsPattern}}
-use Rattle.collective_spec.specs.Collectives.{IsSpec, layout_after, chunks_in, chunks_of, fits_kind, spec_demand, spec_instance, spec_of}
+use Rattle.collective_spec.specs.Collectives.{IsSpec, layout_after, chunks_in, chunks_of, fits_kind, spec_demand, spec_of}
 use Rattle.collective_spec.specs.declared.kind.Kind.TheVariants as kind
 use Rattle.collective_spec.specs.declared.layout.Layout.TheVariants as layout
 use Rattle.collective_spec.specs.declared.spec.Spec.TheVariants as spec

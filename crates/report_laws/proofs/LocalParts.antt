@@ -7,7 +7,7 @@ use Rattle.candidate_order.specs.Frontiers.{QuestionValue}
 use Rattle.report_form.specs.{Lines.fixed_line, Reading.{part_bytes, refuted_line, unknown_line, frontier_at}}
 use Rattle.report_form.specs.Points.{HeadValue, head_line, joined_head_line, rounds_line, send_line, schedule_at, frontier_point_at, joined_point_at}
 use Rattle.report_form.proofs.{PointsTaken.point_of, FrontiersTaken.frontier}
-use Rattle.text_lines.proofs.{Repeated.Shortens, Steady.{Steady, steady_line, steady_found, steady_then, steady_lines, piece_shortens, steady_pieces}}
+use Rattle.text_lines.proofs.Steady.{Steady, steady_line, steady_found, steady_then, steady_lines, steady_pieces}
 
 module _ (names : List (List ℕ)) (q : QuestionValue) where
   pub steady_schedule : (head : HeadValue) → Steady (schedule_at names q head) (schedule_at names q head)

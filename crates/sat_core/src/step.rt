@@ -1,7 +1,6 @@
 //! Unit propagation, and then a decision.
 
 ghost use Rattle.std.specs.Prelude.{◌≡◌, ℕ, ◌<◌, ◌≤◌, length};
-ghost use Rattle.cnf_formula.specs.Literals.{no};
 ghost use Rattle.conflict_analysis.specs.Conflicts.{IsConflict};
 ghost use Rattle.sat_core.specs.inner.Totals.{IsTotal};
 

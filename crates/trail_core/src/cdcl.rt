@@ -1,8 +1,8 @@
 //! The core of a search (CDCL): clauses, a trail with decision levels, and unit propagation by two
 //! watched literals.
 
-ghost use Rattle.std.specs.Prelude.{◌≡◌, ◌≢◌, ℕ, ◌+◌, ◌*◌, ◌<◌, ◌≤◌, List, [], ◌∷◌, ◌++◌, Option, Some, None, MatchOption, length, get_or, map, slice_index, Contains, All, AllPairs, IfOk, OnErr, take};
-ghost use Rattle.cnf_formula.specs.{Literals.{LitValue, negation}, Formulas.{IsAbout, IsClause}};
+ghost use Rattle.std.specs.Prelude.{◌≡◌, ◌≢◌, ℕ, ◌+◌, ◌<◌, ◌≤◌, List, [], ◌∷◌, ◌++◌, Option, Some, None, MatchOption, length, get_or, map, slice_index, Contains, All, AllPairs, IfOk, OnErr, take};
+ghost use Rattle.cnf_formula.specs.{Literals.{LitValue}, Formulas.{IsAbout, IsClause}};
 ghost use Rattle.trail_core.specs.{Assigned.{IsOpen, IsValue, level_at}, Search.{IsFalsified, IsUnit, Implied}, Kept.{IsDue, AreGrounded, CanAdd}};
 ghost use Rattle.trail_core.specs.{Meaning.{CoreValue, trues, IsClosed, IsClosedBelow}, Formed.IsTrail};
 

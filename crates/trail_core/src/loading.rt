@@ -1,8 +1,8 @@
 //! The watch lists that a core begins with, made for all of its clauses at once.
 
 ghost use Rattle.std.specs.Prelude.{◌≡◌, ◌≢◌, ◌==◌, ℕ, ◌+◌, ◌*◌, ◌<◌, ◌≤◌, ◌++◌, ◌∷◌, [], List, All, AllPairs, length, map, flat_map, count_by, slice_index, IfOk, OnOk};
-ghost use Rattle.cnf_formula.specs.{Literals.{LitValue, code_of}, Formulas.{IsAbout, IsClause}};
-ghost use Rattle.trail_core.specs.{Watching.{RowValue, AreLists, HasRoom, list_at}, inner.Begun.{front_row, IsBegun}};
+ghost use Rattle.cnf_formula.specs.{Literals.{code_of}, Formulas.{IsAbout, IsClause}};
+ghost use Rattle.trail_core.specs.{Watching.{RowValue, AreLists, list_at}, inner.Begun.{front_row, IsBegun}};
 
 use crate::lists::WatchLists;
 use crate::watch::Watch;

@@ -1,7 +1,7 @@
 //! The trail: the literals that are true, in the order in which they became so, with the decision
 //! level and the reason of each.
 
-ghost use Rattle.std.specs.Prelude.{◌≢◌, ◌≡◌, ◌↔◌, ℕ, ◌+◌, ◌<◌, ◌≤◌, IsTrue, true, [], ◌∷◌, ◌++◌, Option, Some, None, length, take, get_or, slice_set, slice_index, Contains, IfOk};
+ghost use Rattle.std.specs.Prelude.{◌≢◌, ◌≡◌, ◌↔◌, ℕ, ◌+◌, ◌<◌, ◌≤◌, IsTrue, [], ◌∷◌, ◌++◌, Option, Some, None, length, take, get_or, slice_set, slice_index, Contains, IfOk};
 ghost use Rattle.cnf_formula.specs.Literals.{LitValue, negation, code_of};
 ghost use Rattle.trail_core.specs.{Assigned.{IsFalse, IsOpen, IsValue, IsConsistent, AreLimits, level_at}, Trails.{TrailValue, lits_of}, Formed.IsTrail};
 

@@ -1,7 +1,6 @@
 //! An entry of a watch list.
 
-ghost use Rattle.std.specs.Prelude.{◌≡◌, ◌≤◌, Bool, false};
-ghost use Rattle.cnf_formula.specs.Literals.{LitValue};
+ghost use Rattle.std.specs.Prelude.{◌≡◌, ◌≤◌};
 ghost use Rattle.trail_core.specs.Watching.{WatchValue};
 
 use cnf_formula::Lit;

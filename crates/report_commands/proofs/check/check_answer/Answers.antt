@@ -1,6 +1,6 @@
-use Rattle.std.proofs.Common.{arith, ◌≡◌, Ok, IfOk, ap, refl, subst, sym}
+use Rattle.std.proofs.Common.{arith, ◌≡◌, Ok, IfOk, ap, subst, sym}
 use Rattle.text_lines.specs.Check.{◌>>=◌}
-use Rattle.run_rules.specs.{Answers.IsAnswer, Read.IsReadAs, Tasks.{audit_asked, read_report}, Steps.audit_in}
+use Rattle.run_rules.specs.{Answers.IsAnswer, Read.IsReadAs, Tasks.{read_report}, Steps.audit_in}
 use Rattle.run_rules.proofs.Answered.{refused_alone, refused_behind}
 use Rattle.report_commands.proofs.check.check_answer.Goals as goal
 
