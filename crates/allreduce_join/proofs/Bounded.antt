@@ -1,6 +1,5 @@
 -- The rounds of a schedule are few.
-use Rattle.std.{proofs.Common.{ℕ, ◌+◌, ◌*◌, ◌≤◌, List, [], ◌∷◌, ◌++◌, length, arith, sum}, specs.List.AllByRecursion}
-use Rattle.std.proofs.lemmas.List.{Elements.recursion_from_All, Sums.{sum_by-append, sum_by-cons}}
+use Rattle.std.{proofs.{Common.{ℕ, ◌+◌, ◌*◌, ◌≤◌, List, [], ◌∷◌, ◌++◌, length, arith, sum}, lemmas.List.{Elements.recursion_from_All, Sums.{sum_by-append, sum_by-cons}}}, specs.List.AllByRecursion}
 use Rattle.schedule.specs.Sends.{ScheduleValue, IsRound, IsSchedule}
 use Rattle.allreduce_join.specs.Joins.{one_after}
 

@@ -1,10 +1,8 @@
 -- The first clash, step by step.
-use Rattle.std.proofs.Common.{◌≡◌, ℕ, ◌+◌, ◌-◌, ◌<◌, ◌≤◌, Bool, false, ◌&&◌, cond, leb, List, [], ◌∷◌, length, map, Option, Some, None, refl, sym, ap, ◌∙◌, arith}
-use Rattle.std.{specs.{List.{AllByRecursion, find, flat_map, range_with_len}, Option.{option_map, option_or}}, proofs.lemmas.Bool.{le-ltb, lt-ltb}}
-use Rattle.std.proofs.lemmas.List.Folds.{find-append}
+use Rattle.std.proofs.{Common.{◌≡◌, ℕ, ◌+◌, ◌-◌, ◌<◌, ◌≤◌, Bool, false, ◌&&◌, cond, leb, List, [], ◌∷◌, length, map, Option, Some, None, refl, sym, ap, ◌∙◌, arith}, lemmas.{Bool.{le-ltb, lt-ltb}, List.Folds.find-append}}
+use Rattle.std.specs.{List.{AllByRecursion, find, flat_map, range_with_len}, Option.{option_map, option_or}}
 use Rattle.list_laws.proofs.Tests.{find-map}
-use Rattle.schedule.specs.{Sends.ScheduleValue, Placed.{PlacementValue, all_pairs, holds}, JoinedRuns.{first_clash, is_clash}}
-use Rattle.schedule.proofs.{First.{each_among, none_found}, Grids.{range_more, range_none}, Placing.{all_below, holds-placed}}
+use Rattle.schedule.{specs.{Sends.ScheduleValue, Placed.{PlacementValue, all_pairs, holds}, JoinedRuns.{first_clash, is_clash}}, proofs.{First.{each_among, none_found}, Grids.{range_more, range_none}, Placing.{all_below, holds-placed}}}
 use Rattle.allreduce_join.proofs.Meeting.{arrivals, met_by}
 
 -- the first clash of a step

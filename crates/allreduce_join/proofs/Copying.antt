@@ -1,14 +1,12 @@
 -- The run of a join: after the first part the demanded bags are whole, and the second carries whole bags to all that it reaches.
 use Rattle.std.proofs.Common.{◌≡◌, ℕ, zero, suc, ◌+◌, ◌-◌, ◌<◌, ◌≤◌, ⊎_elim, Bool, true, false, ◌&&◌, eqb, List, [], length, map, refl, sym, ap, ◌∙◌, subst, arith, filter, fold, not}
-use Rattle.std.{specs.List.{AllByRecursion, list_any}, proofs.lemmas.{Bool.{and_parts, and_from, eqb-true, eq-eqb, or_cases}, List.Elements.recursion_from_All}}
-use Rattle.schedule.specs.{declared.hop.Hop.Hop, Sends.{ScheduleValue, IsSchedule, IsInRange, IsStep}, Placed.{PlacementValue, holds, same_pair}, Solving.Tight}
-use Rattle.schedule.specs.{Running.{after, brings}, Bags.{Bag, Bags, added, contributions, is_empty, one_of_each}, Summing.{bags_after, goes_to}}
-use Rattle.schedule.specs.JoinedRuns.{filled_senders, joined_after}
+use Rattle.std.{proofs.lemmas.{Bool.{and_parts, and_from, eqb-true, eq-eqb, or_cases}, List.Elements.recursion_from_All}, specs.List.{AllByRecursion, list_any}}
+use Rattle.schedule.specs.{declared.hop.Hop.Hop, Sends.{ScheduleValue, IsSchedule, IsInRange, IsStep}, Placed.{PlacementValue, holds, same_pair}, Solving.Tight, Running.{after, brings}}
+use Rattle.schedule.specs.{Bags.{Bag, Bags, added, contributions, is_empty, one_of_each}, Summing.{bags_after, goes_to}, JoinedRuns.{filled_senders, joined_after}}
 use Rattle.schedule.proofs.{First.{Among, among_each, among_map, among_right, each_among, map_among, any_found, filter_among, among_kept}, Inverting.steps_of}
 use Rattle.bag_runs.proofs.JoinedSteps.{replaced_has, step_adds, step_copies}
 use Rattle.inversion.proofs.Reaching.{below_of, holds_next}
-use Rattle.allreduce_join.{specs.Joins.one_after, proofs.{Paired.append_among, Parts.sends_first}}
-use Rattle.allreduce_join.proofs.Later.{later}
+use Rattle.allreduce_join.{specs.Joins.one_after, proofs.{Paired.append_among, Parts.sends_first, Later.later}}
 
 -- ---- the steps that add
 

@@ -4,8 +4,7 @@ use Rattle.schedule.{specs.Links.{TopologyValue, reversed_of}, proofs.First.{Con
 use Rattle.collective_spec.specs.{declared.layout.Layout.TheVariants.Scattered, Layouts.laid_out}
 use Rattle.candidate_order.specs.{Ranges.LimitsValue, Frontiers.{PointValue, FrontierValue, IsPoint, IsSolvedBy, RightFrontier, Searched, WastesNothing}}
 use Rattle.inversion.{specs.Inverted.inverted_frontier, proofs.Reducing.{reduction_right, reduction_searched}}
-use Rattle.allreduce_join.specs.{Joins.{IsJoin, Joins, join_of, pairs_of}, Parts.{gather_part, reduce_part}}
-use Rattle.allreduce_join.proofs.{Paired.{IsPair, pairs_among}, Summed.join_sums}
+use Rattle.allreduce_join.{specs.{Joins.{IsJoin, Joins, join_of, pairs_of}, Parts.{gather_part, reduce_part}}, proofs.{Paired.{IsPair, pairs_among}, Summed.join_sums}}
 
 -- what is had of a point of the second part
 record Gathers (root : ℕ) (t : TopologyValue) (limits : LimitsValue) (c : ℕ) (b : PointValue) : Type 0 where

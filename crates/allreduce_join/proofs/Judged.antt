@@ -1,9 +1,7 @@
 -- The verdict on a joined schedule, from what fails first.
 use Rattle.std.{proofs.Common.{arith, ◌≡◌, ℕ, true, List, [], ◌∷◌, Option, Some, None, refl, ap, ◌↔◌}, specs.List.filter}
-use Rattle.schedule.specs.{Links.TopologyValue, Sends.{ScheduleValue, IsSchedule, IsInRange}, Placed.{PlacementValue, all_pairs, placed}, Bags.Bags}
-use Rattle.schedule.specs.{Judging.{first_overfull, first_unlinked}, JoinedRuns.{AllSummed, first_clash}}
-use Rattle.inversion.specs.{declared.verdict.SumVerdict.SumVerdict, Judging.{counts_judged, first_uneven, misfit_of, sum_judged}}
-use Rattle.inversion.proofs.Misfits.{judged_fitting, judged_misfit}
+use Rattle.schedule.specs.{Links.TopologyValue, Sends.{ScheduleValue, IsSchedule, IsInRange}, Placed.{PlacementValue, all_pairs, placed}, Bags.Bags, Judging.{first_overfull, first_unlinked}, JoinedRuns.{AllSummed, first_clash}}
+use Rattle.inversion.{specs.{declared.verdict.SumVerdict.SumVerdict, Judging.{counts_judged, first_uneven, misfit_of, sum_judged}}, proofs.Misfits.{judged_fitting, judged_misfit}}
 use Rattle.inversion.specs.declared.verdict.SumVerdict.TheVariants as verdict
 use Rattle.allreduce_join.{specs.Judging.{joined_bags, joined_verdict_of}, proofs.Told.all_summed_exactly}
 

@@ -1,9 +1,7 @@
 -- Chunks that come to a node twice, send by send.
-use Rattle.std.proofs.Common.{◌≡◌, ℕ, suc, ◌+◌, ◌<◌, ◌≤◌, Bool, true, false, ◌||◌, cond, eqb, leb, List, [], ◌∷◌, ◌++◌, length, get_or, take, refl, sym, ap, ◌∙◌, subst, arith, count_by}
-use Rattle.std.{specs.List.filter, proofs.lemmas.{Bool.{and_parts, eq-eqb, both_ways, Decides.nat_tests}, List.{take_more, take_all}}}
-use Rattle.std.proofs.lemmas.List.Sums.{sum_by-append, sum_by-cons}
-use Rattle.schedule.specs.{declared.hop.Hop.Hop, Placed.{PlacementValue, empty_placement, holds, placed, same_pair, with_pair}, Summing.goes_to}
-use Rattle.schedule.proofs.{Joining.step_alone, Placing.{holds-placed, pair_is, placed-alike, placed-none}}
+use Rattle.std.proofs.{Common.{◌≡◌, ℕ, suc, ◌+◌, ◌<◌, ◌≤◌, Bool, true, false, ◌||◌, cond, eqb, leb, List, [], ◌∷◌, ◌++◌, length, get_or, take, refl, sym, ap, ◌∙◌, subst, arith, count_by}, lemmas.Bool.{and_parts, eq-eqb, both_ways}}
+use Rattle.std.{proofs.lemmas.{Bool.Decides.nat_tests, List.{take_more, take_all, Sums.{sum_by-append, sum_by-cons}}}, specs.List.filter}
+use Rattle.schedule.{specs.{declared.hop.Hop.Hop, Placed.{PlacementValue, empty_placement, holds, placed, same_pair, with_pair}, Summing.goes_to}, proofs.{Joining.step_alone, Placing.{holds-placed, pair_is, placed-alike, placed-none}}}
 
 abbrev pub arrivals : ℕ → ℕ × ℕ → List Hop → ℕ
 arrivals step pair hops = count_by (goes_to step pair) hops

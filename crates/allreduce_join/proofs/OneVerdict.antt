@@ -1,9 +1,7 @@
 -- The verdict on a schedule that adds up, where every step adds, and where every chunk is demanded at every node.
-use Rattle.std.proofs.Common.{◌≡◌, ℕ, zero, suc, ◌+◌, ◌≤◌, true, List, length, map, None, refl, sym, ap, ◌∙◌, arith}
-use Rattle.std.{specs.{List.{find, flat_map, range_with_len}, Option.{option_map, option_or}}, proofs.lemmas.List.Folds.find-append}
+use Rattle.std.{proofs.{Common.{◌≡◌, ℕ, zero, suc, ◌+◌, ◌≤◌, true, List, length, map, None, refl, sym, ap, ◌∙◌, arith}, lemmas.List.Folds.find-append}, specs.{List.{find, flat_map, range_with_len}, Option.{option_map, option_or}}}
 use Rattle.list_laws.proofs.Tests.{find-map}
-use Rattle.schedule.specs.{Links.TopologyValue, Sends.ScheduleValue, Placed.{PlacementValue, all_pairs, placed}}
-use Rattle.schedule.specs.JoinedRuns.{is_clash}
+use Rattle.schedule.specs.{Links.TopologyValue, Sends.ScheduleValue, Placed.{PlacementValue, all_pairs, placed}, JoinedRuns.is_clash}
 use Rattle.bag_runs.proofs.JoinedSteps.{adding_throughout}
 use Rattle.inversion.specs.Judging.{sum_verdict_of}
 use Rattle.allreduce_join.{specs.Judging.{joined_verdict_of, summed_verdict_of}, proofs.{Clashed.clash_adding, Judged.all_pass}}

@@ -1,8 +1,6 @@
 -- The verdict on a joined schedule is that it sums exactly where it sums everything everywhere.
 use Rattle.std.proofs.Common.{arith, ◌≡◌, ℕ, ◌↔◌}
-use Rattle.schedule.specs.{Links.TopologyValue, Sends.{ScheduleValue, IsSchedule, IsInRange}}
-use Rattle.schedule.specs.JoinedRuns.{AllSummed}
-use Rattle.schedule.proofs.{Verdicts.fits_exactly, Bagging.counted_run, Clashing.{no_clash_from_none, none_from_no_clash}}
+use Rattle.schedule.{specs.{Links.TopologyValue, Sends.{ScheduleValue, IsSchedule, IsInRange}, JoinedRuns.AllSummed}, proofs.{Verdicts.fits_exactly, Bagging.counted_run, Clashing.{no_clash_from_none, none_from_no_clash}}}
 use Rattle.inversion.specs.declared.verdict.SumVerdict.TheVariants as verdict
 use Rattle.inversion.proofs.{Counts.{even_everywhere, none_uneven}, Told.judged_sums}
 use Rattle.allreduce_join.specs.Judging.{joined_verdict_of}

@@ -1,7 +1,6 @@
 -- The verdict on a schedule whose first steps add and whose later ones, if any, copy (this project's own order).
 use Rattle.std.specs.Prelude.{ℕ, length}
-use Rattle.schedule.specs.{Links.TopologyValue, Sends.ScheduleValue, Placed.{PlacementValue, all_pairs}, Judging.{first_unlinked, first_overfull}, Bags.{Bags, contributions}}
-use Rattle.schedule.specs.JoinedRuns.{first_clash, joined_after}
+use Rattle.schedule.specs.{Links.TopologyValue, Sends.ScheduleValue, Placed.{PlacementValue, all_pairs}, Judging.{first_unlinked, first_overfull}, Bags.{Bags, contributions}, JoinedRuns.{first_clash, joined_after}}
 use Rattle.inversion.specs.{declared.verdict.SumVerdict.SumVerdict, Judging.{first_uneven, sum_judged}}
 
 -- links first, then bandwidth, then clashes, and then the counts of the demanded chunks at their nodes

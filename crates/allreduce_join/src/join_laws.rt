@@ -1,8 +1,7 @@
 //! What makes a join sum everything everywhere.
 
 ghost use Rattle.std.specs.Prelude.{◌≡◌, ℕ, ◌+◌, ◌<◌, ◌≤◌, map, length, sum};
-ghost use Rattle.schedule.specs.{Links.{TopologyValue, reversed_of}, Placed.PlacementValue, Sends.{ScheduleValue, IsSchedule, IsInRange}, Summing.Sums};
-ghost use Rattle.schedule.specs.{Solving.{Solves, Tight}, JoinedRuns.AllSummed, Rows.everywhere};
+ghost use Rattle.schedule.specs.{Links.{TopologyValue, reversed_of}, Placed.PlacementValue, Sends.{ScheduleValue, IsSchedule, IsInRange}, Summing.Sums, Solving.{Solves, Tight}, JoinedRuns.AllSummed, Rows.everywhere};
 ghost use Rattle.collective_spec.specs.Collectives.{chunks_of};
 ghost use Rattle.candidate_order.specs.{Ranges.LimitsValue, Frontiers.{FrontierValue, IsSolvedBy, PointValue, RightFrontier, Searched, instance_for}};
 ghost use Rattle.inversion.specs.Inverted.{inverted_frontier};

@@ -1,8 +1,6 @@
 -- The chunk counts that are allowed.
-use Rattle.std.proofs.Common.{◌≡◌, ℕ, ◌≤◌, Bool, true, List, [], ◌∷◌, refl, sym, ap, ◌∙◌, subst, arith, ◌↔◌, IsTrue, filter, nat_le}
-use Rattle.std.{specs.List.{range_with_len, Sorted.IsStrictlyIncreasing}, proofs.lemmas.{Bool.{and_parts, leb-true}, List.Kept.IsStrictlyIncreasing-filter}}
-use Rattle.std.proofs.lemmas.List.Elements.{All-filter, All-contains, filter_passes}
-use Rattle.std.proofs.lemmas.List.FromFn.{length-range_with_len, get_or-range_with_len}
+use Rattle.std.proofs.{Common.{◌≡◌, ℕ, ◌≤◌, Bool, true, List, [], ◌∷◌, refl, sym, ap, ◌∙◌, subst, arith, ◌↔◌, IsTrue, filter, nat_le}, lemmas.{Bool.{and_parts, leb-true}, List.Kept.IsStrictlyIncreasing-filter}}
+use Rattle.std.{proofs.lemmas.List.{Elements.{All-filter, All-contains, filter_passes}, FromFn.{length-range_with_len, get_or-range_with_len}}, specs.List.{range_with_len, Sorted.IsStrictlyIncreasing}}
 use Rattle.schedule.proofs.First.{Among-from_Contains, Contains-from_Among, among_kept}
 use Rattle.collective_spec.specs.{declared.kind.Kind.Kind, Kinds.allows}
 use Rattle.candidate_order.{specs.{Ranges.LimitsValue, Listed.AreAllowed}, proofs.Rows.Contains-range}

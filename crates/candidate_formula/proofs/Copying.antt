@@ -1,7 +1,6 @@
 -- The copying collective of which a reduction is the inverse.
 use Rattle.std.proofs.{Common.{◌≡◌, ◌≢◌, ℕ, true, false, ◌⊎◌, inl, inr, refl, sym, ap, ◌∙◌, subst, ⊎_elim}, lemmas.Bool.false≢true}
-use Rattle.collective_spec.specs.{declared.{kind.Kind.Kind, spec.Spec.Spec}, Kinds.{is_custom, allows}}
-use Rattle.collective_spec.specs.Collectives.{IsSpec, reduces, adds_up, kind_in, chunks_of, chunks_in, instance_of, spec_instance}
+use Rattle.collective_spec.specs.{declared.{kind.Kind.Kind, spec.Spec.Spec}, Kinds.{is_custom, allows}, Collectives.{IsSpec, reduces, adds_up, kind_in, chunks_of, chunks_in, instance_of, spec_instance}}
 use Rattle.collective_spec.specs.declared.kind.Kind.TheVariants as kind
 use Rattle.collective_spec.specs.declared.spec.Spec.TheVariants as spec
 use Rattle.candidate_order.specs.Copied.{copied_kind, copied_spec}

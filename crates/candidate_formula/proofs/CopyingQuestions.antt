@@ -3,11 +3,9 @@ use Rattle.std.proofs.Common.{arith, ◌≡◌, ◌≢◌, ℕ, ◌+◌, ◌*◌
 use Rattle.schedule.specs.{Links.{TopologyValue, IsTopology, usable_links, reversed_of}, Sends.ScheduleValue}
 use Rattle.collective_spec.specs.declared.kind.Kind.TheVariants as kind
 use Rattle.collective_spec.specs.{declared.{instance.Instance.Instance, spec.Spec.Spec}, Kinds.allows, Collectives.{IsSpec, adds_up, kind_in}}
-use Rattle.candidate_order.specs.{declared.candidate.Candidate.Candidate, Ranges.{LimitsValue, IsLimits}, Frontiers.{QuestionValue, IsWithin, instance_for}}
-use Rattle.candidate_order.specs.Copied.{copied_question}
+use Rattle.candidate_order.specs.{declared.candidate.Candidate.Candidate, Ranges.{LimitsValue, IsLimits}, Frontiers.{QuestionValue, IsWithin, instance_for}, Copied.copied_question}
 use Rattle.round_encoding.specs.Candidates.{group_size, size_limit}
-use Rattle.candidate_formula.specs.{Formulas.{formula_for, Suits}, Sizes.size_of, Questions.{IsSmallQuestion, copying_question}}
-use Rattle.candidate_formula.proofs.{Copying.{copies, copied_keeps, same_chunks, same_instance}, Exact.{asked_formula, copied_formula}}
+use Rattle.candidate_formula.{specs.{Formulas.{formula_for, Suits}, Sizes.size_of, Questions.{IsSmallQuestion, copying_question}}, proofs.{Copying.{copies, copied_keeps, same_chunks, same_instance}, Exact.{asked_formula, copied_formula}}}
 
 module _ (t : TopologyValue) (s : Spec) (limits : LimitsValue) where
   -- the question over these links as it is asked

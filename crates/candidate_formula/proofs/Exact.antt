@@ -2,8 +2,7 @@
 use Rattle.std.proofs.Common.{arith, ◌≡◌, ℕ, Bool, true, false, List, ap, ◌↔◌, if◌then◌else◌}
 use Rattle.schedule.specs.{Links.{TopologyValue, reversed_of}, Placed.PlacementValue, Sends.ScheduleValue, Solving.Solvable}
 use Rattle.collective_spec.{specs.Collectives.adds_up, proofs.Sized.before_among}
-use Rattle.candidate_order.specs.{declared.candidate.Candidate.Candidate, Frontiers.{QuestionValue, IsWithin, IsSolvedBy, IsSolvable, instance_for}}
-use Rattle.candidate_order.proofs.Achieved.{achieved, solvable_by_one}
+use Rattle.candidate_order.{specs.{declared.candidate.Candidate.Candidate, Frontiers.{QuestionValue, IsWithin, IsSolvedBy, IsSolvable, instance_for}}, proofs.Achieved.{achieved, solvable_by_one}}
 use Rattle.cnf_formula.specs.Formulas.{FormulaValue, Satisfies, Satisfiable}
 use Rattle.round_encoding.{specs.{Rounding.formula_of, Candidates.{IsCandidate, IsTightSolution}}, proofs.Exactly.exactly}
 use Rattle.chunk_order.{specs.Ordering.ordered_formula_of, proofs.Sufficing.{parts, exactly_solvable}}

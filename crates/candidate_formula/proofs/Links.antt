@@ -1,7 +1,5 @@
 -- How many links a group has, and a topology, at most.
-use Rattle.std.proofs.Common.{◌≡◌, ℕ, ◌<◌, ◌≤◌, true, length, get_or, subst, arith, All}
-use Rattle.std.specs.{Bool.Decides, Cmp.IsEquivalence}
-use Rattle.std.proofs.lemmas.{List.Elements.All-contains, Map.Made.{IsDistinct-from_AllPairs, length-le_from_is_member}}
+use Rattle.std.{proofs.{Common.{◌≡◌, ℕ, ◌<◌, ◌≤◌, true, length, get_or, subst, arith, All}, lemmas.{List.Elements.All-contains, Map.Made.{IsDistinct-from_AllPairs, length-le_from_is_member}}}, specs.{Bool.Decides, Cmp.IsEquivalence}}
 use Rattle.schedule.specs.{Links.{TopologyValue, IsGroup, IsBelow, IsTopology, GroupValue, usable_links}, Placed.{same_pair, all_pairs}}
 use Rattle.schedule.proofs.{First.Contains-from_Among, Placing.{pair_itself, pair_is, among_all}, Ordered.among_from_any}
 use Rattle.send_encoding.proofs.Mapped as mapped

@@ -1,18 +1,13 @@
 -- What is made of a candidate that is sought.
 use Rattle.std.proofs.Common.{◌≡◌, ℕ, ◌≤◌, Bool, true, List, sym, ap, ◌∙◌, subst, ◌≢◌, ◌↔◌, IsTrue}
 use Rattle.schedule.specs.Links.{TopologyValue}
-use Rattle.collective_spec.specs.{declared.{kind.Kind.TheVariants.Allreduce, instance.Instance.Instance, spec.Spec.Spec}, Kinds.allows}
-use Rattle.collective_spec.specs.Collectives.{IsSpec, kind_in, spec_instance}
-use Rattle.candidate_order.specs.{declared.{candidate.Candidate.Candidate, pruning.Pruning.Pruning}, Ranges.LimitsValue}
-use Rattle.candidate_order.specs.Frontiers.{QuestionValue, IsSolvable, instance_for}
+use Rattle.collective_spec.specs.{declared.{kind.Kind.TheVariants.Allreduce, instance.Instance.Instance, spec.Spec.Spec}, Kinds.allows, Collectives.{IsSpec, kind_in, spec_instance}}
+use Rattle.candidate_order.specs.{declared.{candidate.Candidate.Candidate, pruning.Pruning.Pruning}, Ranges.LimitsValue, Frontiers.{QuestionValue, IsSolvable, instance_for}}
 use Rattle.cnf_formula.specs.Formulas.{Satisfies, Satisfiable}
-use Rattle.round_encoding.specs.{declared.encoding.Encoding.Encoding, Rounding.encoding_of}
-use Rattle.round_encoding.specs.Candidates.{IsCandidate, IsEncodingOf, size_of as candidate_size, size_limit}
+use Rattle.round_encoding.specs.{declared.encoding.Encoding.Encoding, Rounding.encoding_of, Candidates.{IsCandidate, IsEncodingOf, size_of as candidate_size, size_limit}}
 use Rattle.chunk_order.{specs.{Alike.Ordered, Ordering.ordered_formula_of, Solutions.IsEncodingFor}, proofs.Sufficing.decodes_ordered}
-use Rattle.candidate_formula.specs.{declared.encoding.Encoded.Encoded, Encodings.{formula_in, schedule_said}, Formulas.{formula_for, Suits}}
-use Rattle.candidate_formula.specs.Questions.{IsSought, copying_question}
-use Rattle.candidate_formula.proofs.{Copying.{single, kept_copied, same_allowed, same_instance}, Sought.candidate_is, Bounded.candidate_small}
-use Rattle.candidate_formula.proofs.Exact.{asked_formula, asked_exact, copied_formula, plain_holds, solvable_by}
+use Rattle.candidate_formula.specs.{declared.encoding.Encoded.Encoded, Encodings.{formula_in, schedule_said}, Formulas.{formula_for, Suits}, Questions.{IsSought, copying_question}}
+use Rattle.candidate_formula.proofs.{Copying.{single, kept_copied, same_allowed, same_instance}, Sought.candidate_is, Bounded.candidate_small, Exact.{asked_formula, asked_exact, copied_formula, plain_holds, solvable_by}}
 
 -- what is said of it
 pub record IsMade (t : TopologyValue) (s : Spec) (x : Candidate) (p : Pruning) (e : Encoded) : Type 0 where

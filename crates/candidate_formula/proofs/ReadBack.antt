@@ -1,6 +1,5 @@
 -- The text of proof lines says those lines.
-use Rattle.std.{proofs.Common.{◌≡◌, ℕ, ◌+◌, List, [], ◌∷◌, Some, Ok, refl, ap, ◌∙◌, All}, specs.List.join_with_byte}
-use Rattle.std.proofs.lemmas.List.Elements.{All-head, All-tail}
+use Rattle.std.{proofs.{Common.{◌≡◌, ℕ, ◌+◌, List, [], ◌∷◌, Some, Ok, refl, ap, ◌∙◌, All}, lemmas.List.Elements.{All-head, All-tail}}, specs.List.join_with_byte}
 use Rattle.text_lines.specs.Text.{rows_of}
 use Rattle.cnf_formula.specs.declared.line.LratLine.{LratLine}
 use Rattle.lrat_text.{specs.{Printing.{line_words, lrat_text, IsReadable}, Reading.size_of}, proofs.Printed.{whole, row_of_line, row_says_line}}

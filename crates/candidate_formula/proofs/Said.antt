@@ -1,13 +1,11 @@
 -- The lines of a text without the faults are those with them.
 use Rattle.std.proofs.Common.{◌≡◌, ℕ, ◌+◌, Bool, true, false, List, [], ◌∷◌, length, map, Option, None, Some, Result, Ok, Err, ℤ, refl, sym, ap, ◌∙◌, arith, ◌↔◌, ◌==◌, ◌&&◌, ◌||◌, not, if◌then◌else◌, filter, slice_index, nat_le, nat_lt, option_map, neg_ℤ, bytes_eq, codes}
-use Rattle.std.{specs.{List.slice_split, Str.Parse.digits_value}, proofs.lemmas.Bool.Decides.nat_tests}
+use Rattle.std.{proofs.lemmas.Bool.Decides.nat_tests, specs.{List.slice_split, Str.Parse.digits_value}}
 use Rattle.text_lines.specs.{Text.{Row, rows_of}, Check.{◌>>=◌, refuse}}
 use Rattle.cnf_formula.specs.{Literals.LitValue, declared.line.LratLine.{LratLine, TheVariants.{Addition, Deletion}}}
-use Rattle.lrat_text.specs.declared.fault.LratTextFault.{LratTextFault, TheVariants.{BadToken, NumberRange}}
-use Rattle.lrat_text.specs.Tokens.{Token, placed_from, tokens_from, content, is_number, number_from, id_of, literal_of, hint_of}
+use Rattle.lrat_text.specs.{declared.fault.LratTextFault.{LratTextFault, TheVariants.{BadToken, NumberRange}}, Tokens.{Token, placed_from, tokens_from, content, is_number, number_from, id_of, literal_of, hint_of}}
 use Rattle.lrat_text.specs.Reading.{up_to_zero, no_more, addition_of, deletion_of, behind_id, line_of, size_of}
-use Rattle.candidate_formula.specs.Lines.{in_front, lines_from, lines_of_text}
-use Rattle.candidate_formula.specs.ProofTexts.{words_in, is_passed}
+use Rattle.candidate_formula.specs.{Lines.{in_front, lines_from, lines_of_text}, ProofTexts.{words_in, is_passed}}
 use Rattle.candidate_formula.specs.ReadLines.{number_in, literal_in, hint_in, before_zero, closed_by_zero, addition_in, deletion_in, behind_number, line_in, lines_in, lines_said}
 
 abbrev pub plain : {A : Type 0} → Result A LratTextFault → Option A

@@ -1,10 +1,9 @@
 -- The text of short lines is short.
-use Rattle.std.proofs.Common.{◌≡◌, ℕ, ◌+◌, ◌*◌, ◌^◌, ◌<◌, ◌≤◌, List, [], ◌∷◌, ◌++◌, length, map, sym, ap, ◌∙◌, ⊎_elim, arith, lit<, length-append, append_assoc, All, ℤ, pos, negsuc, decimal}
-use Rattle.std.proofs.lemmas.{Bool.cases_Bool, Fmt.length-decimal-le, List.Elements.{All-head, All-tail}}
+use Rattle.std.proofs.{Common.{◌≡◌, ℕ, ◌+◌, ◌*◌, ◌^◌, ◌<◌, ◌≤◌, List, [], ◌∷◌, ◌++◌, length, map, sym, ap, ◌∙◌, ⊎_elim, arith, lit<, length-append, append_assoc, All, ℤ, pos, negsuc, decimal}, lemmas.Bool.cases_Bool}
+use Rattle.std.proofs.lemmas.{Fmt.length-decimal-le, List.Elements.{All-head, All-tail}}
 use Rattle.text_lines.specs.Text.{line}
 use Rattle.cnf_formula.specs.{Literals.{LitValue, IsLit}, Lines.ProofLineValue, declared.line.LratLine.TheVariants.Addition}
-use Rattle.lrat_text.specs.Printing.{literal_word, hint_word, trailed, closed, line_words, lrat_text, IsHint, IsReadable}
-use Rattle.lrat_text.proofs.Trailed.{trailed-append, line_closed}
+use Rattle.lrat_text.{specs.Printing.{literal_word, hint_word, trailed, closed, line_words, lrat_text, IsHint, IsReadable}, proofs.Trailed.{trailed-append, line_closed}}
 use Rattle.candidate_formula.specs.{Files.longest_proof, Logs.{IsShortLine, most_lines}}
 
 -- ---- words

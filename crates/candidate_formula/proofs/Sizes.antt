@@ -1,6 +1,5 @@
 -- How large a search is at most.
-use Rattle.std.proofs.{Common.{ℕ, ◌+◌, ◌*◌, ◌<◌, ◌≤◌, length, get_or, take, arith, All, sum_by}, lemmas.Nat.mul-le}
-use Rattle.std.proofs.lemmas.List.Sums.{sum_by-le, sum_by_more_le, sum_by-take-le}
+use Rattle.std.proofs.{Common.{ℕ, ◌+◌, ◌*◌, ◌<◌, ◌≤◌, length, get_or, take, arith, All, sum_by}, lemmas.{Nat.mul-le, List.Sums.{sum_by-le, sum_by_more_le, sum_by-take-le}}}
 use Rattle.schedule.specs.Links.{GroupValue, TopologyValue, IsTopology}
 use Rattle.round_encoding.specs.Candidates.{group_size}
 use Rattle.candidate_formula.proofs.Links.{few_links}

@@ -1,8 +1,7 @@
 -- A text says the proof lines that its words spell.
 use Rattle.std.proofs.Common.{◌≡◌, ◌↔◌, ℕ, zero, suc, ◌+◌, ◌^◌, ◌<◌, ◌≤◌, Bool, true, false, List, [], ◌∷◌, ◌++◌, length, get_or, map, cond, Option, None, Some, IfSome, pos, refl, sym, ap, ◌∙◌, subst, arith, lit<, append-nil, ◌==◌, ◌&&◌, not, if◌then◌else◌, filter, drop, nat_le, nat_lt, neg_ℤ, option_map, All, decimal, bytes_eq, codes}
-use Rattle.std.{specs.{List.{list_all, join_with_byte}, Str.Parse.digits_value}, proofs.lemmas.Slice.Eq.bytes_eq-Decides}
-use Rattle.std.proofs.lemmas.Bool.{and_parts, and_from, leb-true, le-leb, ltb-true, eqb-true, eqb-false, not-true}
-use Rattle.std.proofs.lemmas.{Option.IfSome_then, List.Elements.{All-nil, All-cons, All-head, All-tail}, Fmt.decimal-digits_value, Str.Parse.{IsDigitsTest, numerals_by_value}}
+use Rattle.std.proofs.lemmas.{Slice.Eq.bytes_eq-Decides, Bool.{and_parts, and_from, leb-true, le-leb, ltb-true, eqb-true, eqb-false, not-true}, Option.IfSome_then, List.Elements.{All-nil, All-cons, All-head, All-tail}}
+use Rattle.std.{proofs.lemmas.{Fmt.decimal-digits_value, Str.Parse.{IsDigitsTest, numerals_by_value}}, specs.{List.{list_all, join_with_byte}, Str.Parse.digits_value}}
 use Rattle.text_lines.specs.Text.{Row, rows_of}
 use Rattle.cnf_formula.specs.{Literals.{LitValue, IsLit}, declared.line.LratLine.{LratLine, TheVariants.{Addition, Deletion}}}
 use Rattle.lrat_text.specs.{declared.fault.LratTextFault.TheVariants.BadToken, Tokens.{content, tokens_from, is_number}, Printing.{literal_word, hint_word, closed, line_words, IsId, IsHint, IsReadable}}

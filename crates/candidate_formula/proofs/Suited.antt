@@ -1,8 +1,7 @@
 -- Schedules that have what a question asks beside solving.
 use Rattle.std.proofs.Common.{subst, ◌↔◌}
 use Rattle.schedule.specs.Solving.{Solvable}
-use Rattle.candidate_order.specs.{declared.candidate.Candidate.Candidate, Frontiers.{QuestionValue, IsWithin, IsSolvable, instance_for}}
-use Rattle.candidate_order.proofs.Achieved.{Achievable, achieved}
+use Rattle.candidate_order.{specs.{declared.candidate.Candidate.Candidate, Frontiers.{QuestionValue, IsWithin, IsSolvable, instance_for}}, proofs.Achieved.{Achievable, achieved}}
 use Rattle.chunk_order.{specs.Solutions.HasOrderedSolution, proofs.Sufficing.ordered_suffice}
 use Rattle.candidate_formula.{specs.{Formulas.HasSuited, Questions.IsSmallQuestion}, proofs.{Exact.tight_solves, Sought.candidate_is}}
 

@@ -1,10 +1,7 @@
 -- A search over links that are turned round is as large.
-use Rattle.std.proofs.lemmas.Bool.Decides.{nat_tests}
-use Rattle.std.proofs.lemmas.Grind.{common_steps}
-use Rattle.std.proofs.Common.{◌≡◌, ℕ, ◌+◌, Bool, true, false, cond, List, [], ◌∷◌, ◌++◌, length, map, refl, sym, ap, ◌∙◌, arith, length-append, filter, sum_by}
-use Rattle.std.{specs.List.{flat_map, range_with_len}, proofs.lemmas.List.{length-map, Elements.filter-append, Sums.sum_by-cons}}
-use Rattle.schedule.specs.Links.{GroupValue, TopologyValue, is_usable, usable_links, turned, reversed_group, reversed_of}
-use Rattle.schedule.proofs.Turning.{turned_usable, one_if}
+use Rattle.std.proofs.{lemmas.{Bool.Decides.nat_tests, Grind.common_steps, List.length-map}, Common.{◌≡◌, ℕ, ◌+◌, Bool, true, false, cond, List, [], ◌∷◌, ◌++◌, length, map, refl, sym, ap, ◌∙◌, arith, length-append, filter, sum_by}}
+use Rattle.std.{proofs.lemmas.List.{Elements.filter-append, Sums.sum_by-cons}, specs.List.{flat_map, range_with_len}}
+use Rattle.schedule.{specs.Links.{GroupValue, TopologyValue, is_usable, usable_links, turned, reversed_group, reversed_of}, proofs.Turning.{turned_usable, one_if}}
 use Rattle.collective_spec.specs.declared.spec.Spec.{Spec}
 use Rattle.candidate_order.specs.{Ranges.LimitsValue, Frontiers.QuestionValue, Copied.copied_question}
 use Rattle.round_encoding.specs.Candidates.{group_size}

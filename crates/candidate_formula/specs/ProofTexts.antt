@@ -1,6 +1,5 @@
 -- What a whole file of proof lines says, by how it is spelled (LRAT: Cruz-Filipe et al. 2017; the leniency is this project's own).
-use Rattle.std.specs.Prelude.{◌≡◌, ℕ, ◌==◌, ◌||◌, not, Bool, List, length, map, filter, All, slice_index, slice_index_or, nat_lt, codes}
-use Rattle.std.specs.List.{slice_split}
+use Rattle.std.specs.{Prelude.{◌≡◌, ℕ, ◌==◌, ◌||◌, not, Bool, List, length, map, filter, All, slice_index, slice_index_or, nat_lt, codes}, List.slice_split}
 use Rattle.text_lines.specs.Text.{Row, rows_of}
 use Rattle.cnf_formula.specs.declared.line.LratLine.{LratLine}
 use Rattle.lrat_text.specs.{Tokens.content, Printing.{line_words, IsReadable}}

@@ -2,8 +2,7 @@
 use Rattle.std.specs.Prelude.{◌≡◌, ◌≤◌, false}
 use Rattle.schedule.specs.Links.{TopologyValue, IsTopology}
 use Rattle.collective_spec.specs.{declared.spec.Spec.Spec, Collectives.{IsSpec, adds_up}}
-use Rattle.candidate_order.specs.{declared.candidate.Candidate.Candidate, Ranges.{LimitsValue, IsLimits}, Frontiers.{QuestionValue, IsWithin}}
-use Rattle.candidate_order.specs.Copied.{copied_spec}
+use Rattle.candidate_order.specs.{declared.candidate.Candidate.Candidate, Ranges.{LimitsValue, IsLimits}, Frontiers.{QuestionValue, IsWithin}, Copied.copied_spec}
 use Rattle.round_encoding.specs.Candidates.{size_limit}
 use Rattle.candidate_formula.specs.Sizes.{size_of}
 

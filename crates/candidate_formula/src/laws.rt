@@ -3,12 +3,10 @@
 ghost use Rattle.std.specs.Prelude.{◌≡◌, ◌≢◌, ◌≤◌, ◌↔◌, true, false};
 ghost use Rattle.schedule.specs.{Links.{TopologyValue, IsTopology}, Sends.ScheduleValue};
 ghost use Rattle.collective_spec.specs.{declared.spec.Spec.Spec, Collectives.{IsSpec, adds_up, kind_in}};
-ghost use Rattle.candidate_order.specs.{Ranges.{LimitsValue, IsLimits}, Copied.{copied_spec, copied_question}};
-ghost use Rattle.candidate_order.specs.Frontiers.{QuestionValue, IsWithin, IsSolvable, IsSolvedBy, instance_for};
+ghost use Rattle.candidate_order.specs.{Ranges.{LimitsValue, IsLimits}, Copied.{copied_spec, copied_question}, Frontiers.{QuestionValue, IsWithin, IsSolvable, IsSolvedBy, instance_for}};
 ghost use Rattle.cnf_formula.specs.Formulas.{Satisfiable};
 ghost use Rattle.round_encoding.specs.Candidates.{IsCandidate, IsTightSolution, size_of as candidate_size, size_limit};
-ghost use Rattle.candidate_formula.specs.{Formulas.{formula_for, ordered_formula_for, HasSuited, Suits}, Sizes.size_of};
-ghost use Rattle.candidate_formula.specs.Questions.{IsSmallQuestion, copying_question};
+ghost use Rattle.candidate_formula.specs.{Formulas.{formula_for, ordered_formula_for, HasSuited, Suits}, Sizes.size_of, Questions.{IsSmallQuestion, copying_question}};
 
 use candidate_order::Candidate;
 use collective_spec::Kind;

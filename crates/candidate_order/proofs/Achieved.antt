@@ -2,8 +2,7 @@
 use Rattle.std.proofs.Common.{arith, Bool, true, false}
 use Rattle.schedule.specs.{Links.TopologyValue, Sends.{ScheduleValue, IsSchedule}, Solving.Solvable, Summing.SummedSolvable}
 use Rattle.collective_spec.specs.{declared.spec.Spec.{Spec, TheVariants.{Standard, Custom}}, Collectives.adds_up}
-use Rattle.candidate_order.specs.{declared.candidate.Candidate.Candidate, Ranges.LimitsValue}
-use Rattle.candidate_order.specs.Frontiers.{QuestionValue, IsSized, Achieves, IsSolvable, demand_for, instance_for}
+use Rattle.candidate_order.specs.{declared.candidate.Candidate.Candidate, Ranges.LimitsValue, Frontiers.{QuestionValue, IsSized, Achieves, IsSolvable, demand_for, instance_for}}
 
 abbrev pub Achievable : Bool → QuestionValue → Candidate → Type 0
 Achievable true q x = SummedSolvable q.topology (demand_for q x) x.s x.r

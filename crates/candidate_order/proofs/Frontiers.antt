@@ -1,6 +1,5 @@
 -- What a right frontier says, drawn out.
-use Rattle.std.proofs.Common.{◌≡◌, ◌∙◌, ◌<◌, ℕ, sym, subst, ap, true, false, inl, inr, List, [], length, arith, Contains, get_or}
-use Rattle.std.proofs.lemmas.{Bool.cases_order, List.{get_or_default, get_or-map, length-map, Elements.All-contains}}
+use Rattle.std.proofs.{Common.{◌≡◌, ◌∙◌, ◌<◌, ℕ, sym, subst, ap, true, false, inl, inr, List, [], length, arith, Contains, get_or}, lemmas.{Bool.cases_order, List.{get_or_default, get_or-map, length-map, Elements.All-contains}}}
 use Rattle.list_laws.proofs.Members.{Contains-map}
 use Rattle.candidate_order.specs.{declared.{candidate.Candidate.Candidate, mark.Mark.TheVariants.{Optimal, Open}}, Costs.{NoWorse, Better, Before}}
 use Rattle.candidate_order.specs.Frontiers.{QuestionValue, PointValue, FrontierValue, solved, IsWithin, Achieves, IsSolvable, IsPoint, RightFrontier, Searched}

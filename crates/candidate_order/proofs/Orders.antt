@@ -1,8 +1,7 @@
 -- The order of the search, and what is no worse, are orders.
 use Rattle.std.proofs.{Common.{◌≡◌, ℕ, ◌*◌, ◌≤◌, ◌⊎◌, inl, inr, List, ◌∙◌, arith, nat_le}, lemmas.Bool.{cases_order, and_parts, leb-true}}
 use Rattle.collective_spec.specs.declared.kind.Kind.{Kind}
-use Rattle.candidate_order.specs.{declared.candidate.Candidate.Candidate, Ranges.LimitsValue, Costs.{NoWorse, Before}, Listed.{Within, IsListed, AreAllowed}}
-use Rattle.candidate_order.specs.Frontiers.{QuestionValue, IsWithin}
+use Rattle.candidate_order.specs.{declared.candidate.Candidate.Candidate, Ranges.LimitsValue, Costs.{NoWorse, Before}, Listed.{Within, IsListed, AreAllowed}, Frontiers.{QuestionValue, IsWithin}}
 use Rattle.candidate_order.proofs.Costing.{cost_upto, cost_below_left, cost_below_right, same_rounds}
 
 abbrev pub HasChunk : Candidate → Type 0

@@ -1,15 +1,11 @@
 -- The order of the search is one that a sort can use, and sorted candidates of a step ascend by it.
-use Rattle.std.proofs.Common.{◌≡◌, ℕ, ◌+◌, ◌*◌, ◌<◌, ◌≤◌, ◌⊎◌, Bool, true, false, List, map, refl, sym, ap, ◌∙◌, subst, arith, All, AllPairs, Contains, IsPermutation}
-use Rattle.std.specs.{Cmp.IsStrictWeakOrder, Ordering.{nat_cmp, ordering_then, is_lt}, List.{IsDistinct, range_with_len}}
-use Rattle.std.{specs.List.Sorted.{IsSortedBy, IsStrictlyIncreasing}, proofs.lemmas.Bool.{false≢true, and_from, eq-eqb, Decides.nat_tests}}
-use Rattle.std.proofs.lemmas.List.Elements.{All-weaker, All-map, All-contains, All-contains_itself, All-from_get_or}
-use Rattle.std.proofs.lemmas.List.{FromFn.{length-range_with_len, get_or-range_with_len}, Sorted.{sorted_far, All-permutation, Contains-permutation}}
-use Rattle.std.proofs.lemmas.Map.Keys.{apart_from_distinct, IsDistinct-IsPermutation}
+use Rattle.std.proofs.{Common.{◌≡◌, ℕ, ◌+◌, ◌*◌, ◌<◌, ◌≤◌, ◌⊎◌, Bool, true, false, List, map, refl, sym, ap, ◌∙◌, subst, arith, All, AllPairs, Contains, IsPermutation}, lemmas.Bool.{false≢true, and_from, eq-eqb, Decides.nat_tests}}
+use Rattle.std.proofs.lemmas.List.{Elements.{All-weaker, All-map, All-contains, All-contains_itself, All-from_get_or}, FromFn.{length-range_with_len, get_or-range_with_len}, Sorted.{sorted_far, All-permutation, Contains-permutation}}
+use Rattle.std.{proofs.lemmas.Map.Keys.{apart_from_distinct, IsDistinct-IsPermutation}, specs.{Cmp.IsStrictWeakOrder, Ordering.{nat_cmp, ordering_then, is_lt}, List.{IsDistinct, range_with_len, Sorted.{IsSortedBy, IsStrictlyIncreasing}}}}
 use Rattle.list_laws.proofs.Members.{Contains-map}
 use Rattle.itertools.{specs.Product.rows, proofs.ListFactLemmas.All-rows}
 use Rattle.candidate_order.specs.{declared.candidate.Candidate.Candidate, Costs.{Before, search_cmp}, Listed.{IsListed, IsCount, candidate_at}}
-use Rattle.candidate_order.proofs.Costing.{UpTo, upto_trans, same_rounds}
-use Rattle.candidate_order.proofs.Rows.{same_pair, IsDistinct-map, IsDistinct-rows, IsDistinct-range, IsDistinct-increasing, Contains-rows, Contains-range}
+use Rattle.candidate_order.proofs.{Costing.{UpTo, upto_trans, same_rounds}, Rows.{same_pair, IsDistinct-map, IsDistinct-rows, IsDistinct-range, IsDistinct-increasing, Contains-rows, Contains-range}}
 
 -- the first comes before the second
 abbrev pub comes : Candidate → Candidate → Bool

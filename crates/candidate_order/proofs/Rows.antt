@@ -1,8 +1,7 @@
 -- Pairs of a product: each once, and which they are.
-use Rattle.std.proofs.Common.{◌≡◌, ℕ, zero, suc, ◌+◌, ◌-◌, ◌<◌, ◌≤◌, Bool, false, ◌&&◌, eqb, List, [], ◌∷◌, ◌++◌, map, ◌∙◌, arith}
-use Rattle.std.{specs.List.{AllByRecursion, IsDistinct, Contains, range_with_len, Sorted.IsStrictlyIncreasing}, proofs.lemmas.Map.Keys.IsDistinct-from_apart}
-use Rattle.std.proofs.lemmas.{Bool.{ne_eqb, and_left, and_right}, List.{Elements.{Contains-append_left, Contains-append_right}, Kept.AllPairs-from_increasing}}
-use Rattle.std.proofs.lemmas.List.FromFn.{length-range_with_len, get_or-range_with_len}
+use Rattle.std.proofs.{Common.{◌≡◌, ℕ, zero, suc, ◌+◌, ◌-◌, ◌<◌, ◌≤◌, Bool, false, ◌&&◌, eqb, List, [], ◌∷◌, ◌++◌, map, ◌∙◌, arith}, lemmas.{Map.Keys.IsDistinct-from_apart, Bool.{ne_eqb, and_left, and_right}}}
+use Rattle.std.proofs.lemmas.List.{Elements.{Contains-append_left, Contains-append_right}, Kept.AllPairs-from_increasing, FromFn.{length-range_with_len, get_or-range_with_len}}
+use Rattle.std.specs.List.{AllByRecursion, IsDistinct, Contains, range_with_len, Sorted.IsStrictlyIncreasing}
 use Rattle.list_laws.proofs.{Each.{each_map, every_map}, Members.Contains-map}
 use Rattle.itertools.specs.Product.{rows}
 use Rattle.schedule.proofs.First.{each_append}

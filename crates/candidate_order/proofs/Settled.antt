@@ -4,8 +4,7 @@ use Rattle.list_laws.proofs.Each.{all_contained}
 use Rattle.schedule.proofs.First.{Among-from_Contains, Contains-from_Among, map_among}
 use Rattle.candidate_order.specs.{declared.candidate.Candidate.Candidate, Costs.{NoWorse, Before}}
 use Rattle.candidate_order.specs.Frontiers.{QuestionValue, PointValue, FrontierValue, solved, given_up, IsWithin, IsSolvable, IsPoint, RightFrontier, IsWorthTrying, Searched}
-use Rattle.candidate_order.proofs.{Orders.{Before-trans, has_chunk, HasChunk}, Frontiers.none-contained, Turns.one_by_turns}
-use Rattle.candidate_order.proofs.Unique.{candidates_apart, one_list_of_candidates}
+use Rattle.candidate_order.proofs.{Orders.{Before-trans, has_chunk, HasChunk}, Frontiers.none-contained, Turns.one_by_turns, Unique.{candidates_apart, one_list_of_candidates}}
 
 module _ (q : QuestionValue) where
   -- the candidate of a point is within the limits, and its schedule shows that it can be solved

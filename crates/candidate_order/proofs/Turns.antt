@@ -1,6 +1,5 @@
 -- Two ascending lists of which each has what the other has, as long as they agree on what comes before it, are one list.
-use Rattle.std.proofs.Common.{◌≡◌, ℕ, zero, suc, ◌<◌, List, inl, inr, sym, ap, ◌∙◌, subst, arith, AllPairs, Contains, get_or}
-use Rattle.std.proofs.lemmas.{Bool.cases_order, List.get_or_default}
+use Rattle.std.proofs.{Common.{◌≡◌, ℕ, zero, suc, ◌<◌, List, inl, inr, sym, ap, ◌∙◌, subst, arith, AllPairs, Contains, get_or}, lemmas.{Bool.cases_order, List.get_or_default}}
 use Rattle.candidate_order.proofs.Unique.{one_list}
 
 -- an item of the first list stands in the second, where the items of the second before it stand in the first

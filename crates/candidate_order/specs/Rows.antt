@@ -2,8 +2,7 @@
 use Rattle.std.specs.Prelude.{ℕ, [], ◌∷◌}
 use Rattle.schedule.specs.{Links.TopologyValue, Sends.ScheduleValue, Placed.PlacementValue}
 use Rattle.collective_spec.specs.declared.{kind.Kind.Kind, spec.Spec.TheVariants.{Standard, Custom}}
-use Rattle.candidate_order.specs.{declared.{candidate.Candidate.Candidate, mark.Mark.TheVariants.Optimal}, Ranges.{LimitsValue, unpruned}}
-use Rattle.candidate_order.specs.Frontiers.{QuestionValue, FrontierValue}
+use Rattle.candidate_order.specs.{declared.{candidate.Candidate.Candidate, mark.Mark.TheVariants.Optimal}, Ranges.{LimitsValue, unpruned}, Frontiers.{QuestionValue, FrontierValue}}
 
 -- no extra rounds, one step, one chunk, a thousand conflicts
 abbrev pub smallest_limits : LimitsValue

@@ -3,8 +3,7 @@
 ghost use Rattle.std.specs.Prelude.{◌≡◌, true, false, [], All, Contains};
 ghost use Rattle.schedule.specs.{Solving.Solves, Summing.Sums};
 ghost use Rattle.collective_spec.specs.Collectives.{adds_up, spec_demand, spec_instance};
-ghost use Rattle.candidate_order.specs.Costs.{NoWorse, Better, Before};
-ghost use Rattle.candidate_order.specs.Frontiers.{QuestionValue, PointValue, FrontierValue, solved, IsWithin, RightFrontier, Searched};
+ghost use Rattle.candidate_order.specs.{Costs.{NoWorse, Better, Before}, Frontiers.{QuestionValue, PointValue, FrontierValue, solved, IsWithin, RightFrontier, Searched}};
 
 use crate::candidate::Candidate;
 use crate::mark::Mark;

@@ -2,8 +2,7 @@
 
 ghost use Rattle.std.specs.Prelude.{AllPairs, [], ◌∷◌};
 ghost use Rattle.schedule.specs.Rows.{line_of_2, plan, send, two_alone, one_node};
-ghost use Rattle.candidate_order.specs.{Costs.{Before, Better, NoWorse}, Frontiers.{RightFrontier, Searched}};
-ghost use Rattle.candidate_order.specs.Rows.{all_refuted, asked, asked_to_move, at, solved_by};
+ghost use Rattle.candidate_order.specs.{Costs.{Before, Better, NoWorse}, Frontiers.{RightFrontier, Searched}, Rows.{all_refuted, asked, asked_to_move, at, solved_by}};
 
 use collective_spec::Kind;
 

@@ -1,12 +1,9 @@
 -- Files of a candidate that a call began.
-use Rattle.std.proofs.Common.{arith, ◌≡◌, ◌≢◌, ℕ, List, [], take, drop, refl, ◌∙◌, subst, inl, inr, ⊎_elim, ◌⊎◌, IsTrue, Some, map}
-use Rattle.std.proofs.lemmas.List.{take-append-drop}
-use Rattle.std.proofs.lemmas.Bool.Decides.{nat_tests}
+use Rattle.std.proofs.{Common.{arith, ◌≡◌, ◌≢◌, ℕ, List, [], take, drop, refl, ◌∙◌, subst, inl, inr, ⊎_elim, ◌⊎◌, IsTrue, Some, map}, lemmas.{List.take-append-drop, Bool.Decides.nat_tests}}
 use Rattle.cnf_formula.specs.{Formulas.FormulaValue, declared.line.LratLine.TheVariants.Addition}
 use Rattle.proof_rules.{specs.Held.start_of, proofs.InTurn.implied_accepted}
 use Rattle.lrat_text.specs.Printing.{cnf_text}
-use Rattle.outer_ports.specs.{declared.{part.Part.Part, proof_name.{FileKind.{FileKind, TheVariants.{Cnf, Lrat, Partial}}, ProofName.ProofName}}, Files.Files}
-use Rattle.outer_ports.specs.Shelf.{OthersStay}
+use Rattle.outer_ports.specs.{declared.{part.Part.Part, proof_name.{FileKind.{FileKind, TheVariants.{Cnf, Lrat, Partial}}, ProofName.ProofName}}, Files.Files, Shelf.OthersStay}
 use Rattle.conflict_ledger.specs.Shelved.{IsLogFront, LedgerState, ShelfMoves}
 use Rattle.candidate_order.specs.declared.candidate.Candidate.{Candidate}
 use Rattle.candidate_formula.{specs.{Files.file_of, Begun.IsBegun}, proofs.BegunFiles.begun_trans}

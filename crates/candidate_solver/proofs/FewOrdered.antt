@@ -1,14 +1,11 @@
 -- The clauses of the order are few.
-use Rattle.std.proofs.Common.{ℕ, ◌*◌, ◌≤◌, Bool, true, false, List, [], ◌∷◌, length, sym, subst, arith, Option, None, Some, filter, flat_map}
-use Rattle.std.{specs.List.{range_with_len}, proofs.lemmas.List.{length-append, Sums.{count_by-le-length, length-filter, sum_by-le}}}
-use Rattle.std.proofs.lemmas.List.{Concat.length-flat_map, FromFn.{length-map-range_with_len, length-range_with_len}}
-use Rattle.std.proofs.lemmas.Bool.Decides.{nat_tests}
+use Rattle.std.proofs.{Common.{ℕ, ◌*◌, ◌≤◌, Bool, true, false, List, [], ◌∷◌, length, sym, subst, arith, Option, None, Some, filter, flat_map}, lemmas.List.{length-append, Sums.{count_by-le-length, length-filter, sum_by-le}}}
+use Rattle.std.{proofs.lemmas.{List.{Concat.length-flat_map, FromFn.{length-map-range_with_len, length-range_with_len}}, Bool.Decides.nat_tests}, specs.List.range_with_len}
 use Rattle.schedule.specs.{Links.TopologyValue, Placed.PlacementValue}
 use Rattle.cnf_formula.specs.Literals.{negation}
 use Rattle.send_encoding.specs.Variables.{SendMapValue, arrival}
 use Rattle.round_encoding.{specs.Candidates.{IsCandidate, size_limit, size_of}, proofs.FewClauses.small}
-use Rattle.chunk_order.specs.Ordering.{class_in_order, class_of, is_least, next_pairs, order_clauses, pair_in_order}
-use Rattle.chunk_order.specs.Alike.{is_alike, watch_node}
+use Rattle.chunk_order.specs.{Ordering.{class_in_order, class_of, is_least, next_pairs, order_clauses, pair_in_order}, Alike.{is_alike, watch_node}}
 use Rattle.candidate_formula.proofs.Exact.{asked_formula}
 use Rattle.candidate_solver.proofs.Readable.{IsSmall}
 

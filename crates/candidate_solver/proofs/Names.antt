@@ -1,8 +1,6 @@
 -- Names of files, which are one or not.
-use Rattle.std.proofs.{Common.{arith, ◌≡◌, ℕ, refl, ◌⊎◌, ◌==◌, if◌then◌else◌}, lemmas.Bool.cases_eq}
-use Rattle.std.proofs.lemmas.Bool.Decides.{nat_tests}
-use Rattle.outer_ports.specs.declared.{part.Part.Part, proof_name.{FileKind.{FileKind, TheVariants.{Cnf, Lrat, Partial}}, ProofName.ProofName}}
-use Rattle.outer_ports.specs.Files.{part_number, kind_number}
+use Rattle.std.proofs.{Common.{arith, ◌≡◌, ℕ, refl, ◌⊎◌, ◌==◌, if◌then◌else◌}, lemmas.Bool.{cases_eq, Decides.nat_tests}}
+use Rattle.outer_ports.specs.{declared.{part.Part.Part, proof_name.{FileKind.{FileKind, TheVariants.{Cnf, Lrat, Partial}}, ProofName.ProofName}}, Files.{part_number, kind_number}}
 use Rattle.outer_ports.specs.declared.part.Part.TheVariants as part
 
 abbrev numbered_kind : ℕ → FileKind

@@ -1,6 +1,5 @@
 -- One candidate more in a record, by its formula and the lines of its search.
-use Rattle.std.proofs.{Common.{arith, ◌≡◌, ℕ, List, [], ◌∷◌, ◌++◌, refl, sym, ap, ◌∙◌, subst, ⊎_elim, Contains, map}, lemmas.List.Elements.Contains-push_cases}
-use Rattle.std.proofs.lemmas.Bool.Decides.{nat_tests}
+use Rattle.std.proofs.{Common.{arith, ◌≡◌, ℕ, List, [], ◌∷◌, ◌++◌, refl, sym, ap, ◌∙◌, subst, ⊎_elim, Contains, map}, lemmas.{List.Elements.Contains-push_cases, Bool.Decides.nat_tests}}
 use Rattle.cnf_formula.specs.{Formulas.{FormulaValue, Satisfiable}, Lines.ProofLineValue, declared.line.LratLine.TheVariants.Addition}
 use Rattle.proof_rules.{specs.Refuting.{Exhausted, Refutes}, proofs.{Calm.never_refuted, Tested.not_rup}}
 use Rattle.ledger_rules.specs.Logs.{checker_of}

@@ -1,13 +1,10 @@
 -- The lines of a search are read back from their text, since their numbers are small; and they are short.
 use Rattle.std.proofs.Common.{suc, ◌≡◌, ℕ, ◌+◌, ◌<◌, ◌≤◌, true, false, eqb, List, [], ◌∷◌, ◌++◌, length, get_or, ℤ, pos, negsuc, Ok, subst, ⊎_elim, arith, ◌≢◌, ◌==◌, Contains, All, AllPairs, Some, map}
-use Rattle.std.{specs.List.{list_any, enumerate_from, IsDistinct, AllByRecursion}, proofs.lemmas.{Bool.{cases_Bool, eqb-true, ne_eqb}, List.length-map}}
-use Rattle.std.proofs.lemmas.{List.Elements.{All-nil, All-cons, Contains-push_cases}, Map.Steps.length-le_from_distinct_below}
-use Rattle.std.proofs.lemmas.Bool.Decides.{nat_tests}
+use Rattle.std.proofs.lemmas.{Bool.{cases_Bool, eqb-true, ne_eqb, Decides.nat_tests}, List.{length-map, Elements.{All-nil, All-cons, Contains-push_cases}}, Map.Steps.length-le_from_distinct_below}
+use Rattle.std.specs.List.{list_any, enumerate_from, IsDistinct, AllByRecursion}
 use Rattle.list_laws.proofs.Members.{Contains-cons}
 use Rattle.cnf_formula.specs.{Literals.{LitValue, IsLit}, Formulas.{FormulaValue, IsClause}, Lines.ProofLineValue, declared.line.LratLine.TheVariants.Addition}
-use Rattle.proof_rules.specs.{Held.{Entry, CheckerValue, start_of, clause_at}, Accepting.{Conflicts, Implied, leading, hint_groups_from}, Refuting.with_line}
-use Rattle.proof_rules.specs.Learning.{AllImplied}
-use Rattle.proof_rules.proofs.Verdicts.{implied_by}
+use Rattle.proof_rules.{specs.{Held.{Entry, CheckerValue, start_of, clause_at}, Accepting.{Conflicts, Implied, leading, hint_groups_from}, Refuting.with_line, Learning.AllImplied}, proofs.Verdicts.implied_by}
 use Rattle.lrat_text.specs.Printing.{lrat_text, IsId, IsHint, IsReadable}
 use Rattle.outer_ports.specs.{declared.proof_name.ProofName.ProofName, Files.Files}
 use Rattle.conflict_ledger.specs.Shelved.{log_text}

@@ -1,10 +1,9 @@
 -- What a ledger says of its files, and what the fault of a search says.
-use Rattle.std.proofs.Common.{arith, ◌≡◌, ℕ, List, Result, Err}
-use Rattle.std.proofs.lemmas.Bool.Decides.{nat_tests}
+use Rattle.std.proofs.{Common.{arith, ◌≡◌, ℕ, List, Result, Err}, lemmas.Bool.Decides.nat_tests}
 use Rattle.cnf_formula.specs.{Formulas.FormulaValue, Lines.ProofLineValue}
 use Rattle.outer_ports.specs.{declared.proof_name.ProofName.ProofName, Port.HasCause}
 use Rattle.conflict_ledger.specs.Shelved.{LedgerState, ShelfAgrees}
-use Rattle.engine_rules.specs.declared.fault.EngineFault.{EngineFault, TheVariants.{ShelfFailed}}
+use Rattle.engine_rules.specs.declared.fault.EngineFault.{EngineFault, TheVariants.ShelfFailed}
 use Rattle.sat_core.specs.declared.fault.SolveFault.{SolveFault}
 use Rattle.sat_core.specs.declared.fault.SolveFault.TheVariants as solving
 use Rattle.candidate_solver.specs.inner.Faults.{of_solving}

@@ -1,11 +1,9 @@
 -- The files beside the record, with one candidate more.
-use Rattle.std.proofs.Common.{arith, ◌≡◌, [], ◌∷◌, ◌++◌, get_or, refl, sym, ap, ◌∙◌, subst, inl, inr, ⊎_elim, ◌⊎◌, IsTrue, None, Some, Contains}
-use Rattle.std.proofs.lemmas.List.{append-nil, Elements.{All-push, Contains-get_or, Contains-push}}
+use Rattle.std.proofs.{Common.{arith, ◌≡◌, [], ◌∷◌, ◌++◌, get_or, refl, sym, ap, ◌∙◌, subst, inl, inr, ⊎_elim, ◌⊎◌, IsTrue, None, Some, Contains}, lemmas.List.{append-nil, Elements.{All-push, Contains-get_or, Contains-push}}}
 use Rattle.std.proofs.lemmas.Bool.Decides.{nat_tests}
 use Rattle.outer_ports.specs.{declared.{part.Part.Part, proof_name.{FileKind.FileKind, ProofName.ProofName}}, Port.Tells, Files.Files}
 use Rattle.candidate_order.specs.{declared.candidate.Candidate.Candidate, Frontiers.QuestionValue}
-use Rattle.candidate_formula.specs.{Files.{file_of, candidate_of}, Formulas.formula_for, Begun.BegunOnly}
-use Rattle.candidate_formula.proofs.{BegunFiles.begun_weaker, FilesAlike.{solved_alike, refuted_alike, unknown_alike}}
+use Rattle.candidate_formula.{specs.{Files.{file_of, candidate_of}, Formulas.formula_for, Begun.BegunOnly}, proofs.{BegunFiles.begun_weaker, FilesAlike.{solved_alike, refuted_alike, unknown_alike}}}
 use Rattle.engine_rules.specs.{declared.settled.Settled.Settled, Outcomes.IsNew}
 use Rattle.engine_rules.specs.declared.settled.Settled.TheVariants as settled
 use Rattle.candidate_solver.specs.{Kept.{EngineState, HasFiles, KeptAgrees, IsTouched, KeptMoves}, Trying.BeginsOwn}

@@ -1,6 +1,5 @@
 -- What a try at a candidate says, and the files that it leaves.
-use Rattle.std.proofs.Common.{◌≡◌, ℕ, ◌+◌, ◌≤◌, Bool, List, length, sym, ap, ◌∙◌, subst, arith, Some, map}
-use Rattle.std.proofs.lemmas.Bool.Decides.{nat_tests}
+use Rattle.std.proofs.{Common.{◌≡◌, ℕ, ◌+◌, ◌≤◌, Bool, List, length, sym, ap, ◌∙◌, subst, arith, Some, map}, lemmas.Bool.Decides.nat_tests}
 use Rattle.schedule.specs.{Links.TopologyValue, Placed.PlacementValue, Sends.ScheduleValue}
 use Rattle.cnf_formula.specs.{Formulas.{FormulaValue, Satisfies}, Lines.ProofLineValue, declared.line.LratLine.TheVariants.Addition}
 use Rattle.proof_rules.{specs.{Held.start_of, Refuting.Refutes, Learning.AllImplied}, proofs.InTurn.learned_in_turn}
@@ -12,8 +11,7 @@ use Rattle.sat_core.specs.declared.solving.SatAnswer.TheVariants as answer
 use Rattle.round_encoding.specs.{declared.encoding.Encoding.Encoding, Candidates.{IsEncodingOf, IsTightSolution}, Decoding.decoded}
 use Rattle.candidate_order.specs.{declared.{candidate.Candidate.Candidate, outcome.Outcome.Outcome}, Frontiers.{QuestionValue, instance_for}}
 use Rattle.candidate_order.specs.declared.outcome.Outcome.TheVariants as outcome
-use Rattle.candidate_formula.specs.{Files.{file_of, HoldsLines}, Encodings.schedule_said, Formulas.{formula_for, Suits}, Questions.IsSmallQuestion}
-use Rattle.candidate_formula.proofs.Exact.{tight_solves}
+use Rattle.candidate_formula.{specs.{Files.{file_of, HoldsLines}, Encodings.schedule_said, Formulas.{formula_for, Suits}, Questions.IsSmallQuestion}, proofs.Exact.tight_solves}
 use Rattle.candidate_solver.{specs.{Kept.HasFiles, Trying.{HasText, HasLines, IsTidy, IsSearch, Says, IsOutcome}}, proofs.Readable.{IsSmall, holds_lines}}
 use Rattle.engine_rules.specs.Outcomes.{kind_of, SpentOn}
 

@@ -1,6 +1,5 @@
 -- What an engine that keeps proofs changes, from call to call.
-use Rattle.std.{specs.Prelude.{◌≡◌, [], ◌++◌, Contains}, proofs.{Common.{refl, sym, ◌∙◌, ap, inl, inr, ⊎_elim, subst}, lemmas.List.{append-nil, append_assoc}}}
-use Rattle.std.proofs.lemmas.List.Elements.{Contains-append_left}
+use Rattle.std.{specs.Prelude.{◌≡◌, [], ◌++◌, Contains}, proofs.{Common.{refl, sym, ◌∙◌, ap, inl, inr, ⊎_elim, subst}, lemmas.List.{append-nil, append_assoc, Elements.Contains-append_left}}}
 use Rattle.outer_ports.specs.declared.proof_name.ProofName.{ProofName}
 use Rattle.candidate_order.specs.declared.candidate.Candidate.{Candidate}
 use Rattle.candidate_formula.{specs.{Formulas.formula_for, Files.candidate_of}, proofs.BegunFiles.{begun_refl, begun_trans, begun_weaker}}

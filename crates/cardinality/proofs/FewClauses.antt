@@ -1,9 +1,8 @@
 -- A totalizer is small: each node of its tree joins two sides of at most so many outputs, and there are fewer nodes than inputs.
-use Rattle.std.proofs.Common.{◌≡◌, ℕ, refl, cond, ◌+◌, ◌*◌, ◌<◌, ◌≤◌, Bool, true, false, List, [], ◌∷◌, ◌++◌, length, ap, arith, length-append}
-use Rattle.std.{specs.List.{flat_map, range_with_len}, proofs.lemmas.{List.{length-map, FromFn.length-range_with_len}, Nat.mul-le}}
+use Rattle.std.proofs.{Common.{◌≡◌, ℕ, refl, cond, ◌+◌, ◌*◌, ◌<◌, ◌≤◌, Bool, true, false, List, [], ◌∷◌, ◌++◌, length, ap, arith, length-append}, lemmas.{List.{length-map, FromFn.length-range_with_len}, Nat.mul-le}}
+use Rattle.std.specs.List.{flat_map, range_with_len}
 use Rattle.cnf_formula.specs.Literals.{LitValue}
-use Rattle.cardinality.specs.{Counting.at_most_one_of, Totalizers.{joins_at, joins, totalizer_of}}
-use Rattle.cardinality.proofs.{Lengths.flat_length, Sides.{Costs, totalizer_cost, variables_cost}}
+use Rattle.cardinality.{specs.{Counting.at_most_one_of, Totalizers.{joins_at, joins, totalizer_of}}, proofs.{Lengths.flat_length, Sides.{Costs, totalizer_cost, variables_cost}}}
 
 -- ---- pairs
 

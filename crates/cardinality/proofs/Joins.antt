@@ -1,10 +1,8 @@
 -- What the clauses say that join the outputs of two sides.
 use Rattle.std.proofs.Common.{◌≡◌, ℕ, zero, suc, ◌+◌, ◌<◌, ◌≤◌, Bool, true, false, cond, List, [], ◌∷◌, ◌++◌, length, get_or, ltb, leb, refl, sym, ◌∙◌, arith, ◌||◌, ◌&&◌, not, flat_map, All}
-use Rattle.std.{specs.List.range_with_len, proofs.lemmas.Bool.{and_parts, and_from, lt-ltb, ltb-true, le-leb, leb-true, Decides.nat_tests}}
-use Rattle.std.proofs.lemmas.List.{Elements.{All-nil, All-cons, All-append}, Folds.list_any-append}
+use Rattle.std.{proofs.lemmas.{Bool.{and_parts, and_from, lt-ltb, ltb-true, le-leb, leb-true, Decides.nat_tests}, List.{Elements.{All-nil, All-cons, All-append}, Folds.list_any-append}}, specs.List.range_with_len}
 use Rattle.cnf_formula.{specs.{Literals.{LitValue, yes, negation, is_true, clause_holds, all_hold}, Formulas.{IsAbout, IsClause}}, proofs.Clauses.negation_is}
-use Rattle.cardinality.specs.Totalizers.{unless, joins_at, joins}
-use Rattle.cardinality.proofs.Ranges.{range_passes, passes_range, only_holds, holds_only, all_of_range}
+use Rattle.cardinality.{specs.Totalizers.{unless, joins_at, joins}, proofs.Ranges.{range_passes, passes_range, only_holds, holds_only, all_of_range}}
 
 -- output i is true, or i is 0
 abbrev pub is_reached : List Bool → List LitValue → ℕ → Bool

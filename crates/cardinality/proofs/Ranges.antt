@@ -1,7 +1,6 @@
 -- What holds of every number of a range, and of clauses that are there where a test passes.
-use Rattle.std.proofs.Common.{◌≡◌, ℕ, zero, suc, ◌+◌, ◌<◌, ◌≤◌, Bool, true, cond, List, [], ◌∷◌, ◌++◌, map, refl, arith, flat_map, All}
-use Rattle.std.{specs.List.{list_all, range_with_len}, proofs.lemmas.{Bool.{and_parts, and_from, cases_eq, Decides.nat_tests}, List.Folds.list_all-append}}
-use Rattle.std.proofs.lemmas.List.Elements.{All-nil, All-cons, All-append}
+use Rattle.std.proofs.{Common.{◌≡◌, ℕ, zero, suc, ◌+◌, ◌<◌, ◌≤◌, Bool, true, cond, List, [], ◌∷◌, ◌++◌, map, refl, arith, flat_map, All}, lemmas.{Bool.{and_parts, and_from, cases_eq, Decides.nat_tests}, List.Folds.list_all-append}}
+use Rattle.std.{proofs.lemmas.List.Elements.{All-nil, All-cons, All-append}, specs.List.{list_all, range_with_len}}
 use Rattle.cnf_formula.specs.Literals.{LitValue, clause_holds, all_hold}
 
 pub range_passes : {X : Type 0} (p : X → Bool) (f : ℕ → List X) (a n j : ℕ) → list_all p (flat_map f (range_with_len a n)) ≡ true → a ≤ j → j < a + n → list_all p (f j) ≡ true

@@ -1,13 +1,10 @@
 -- A totalizer counts: two sides that count their own inputs are joined so that both are counted.
 use Rattle.std.proofs.Common.{◌≡◌, ℕ, zero, suc, ◌+◌, ◌-◌, ◌/◌, ◌<◌, ◌≤◌, min, Bool, true, false, cond, List, [], ◌∷◌, ◌++◌, length, get_or, map, take, drop, leb, refl, sym, ap, ◌∙◌, subst, arith, append_assoc, length-append, All}
-use Rattle.std.{specs.List.range_with_len, proofs.lemmas.Bool.{le-leb, Decides.nat_tests}}
-use Rattle.std.proofs.lemmas.List.{get_or-append-add, length-take, length-drop, take-append-drop, append-nil, Sums.{sum_by-append, count_by-le-length}}
-use Rattle.std.proofs.lemmas.List.{Elements.{All-nil, All-cons, All-head, All-append, All-take, All-drop}, FromFn.{get_or-map-range_with_len, length-map-range_with_len}}
+use Rattle.std.proofs.lemmas.{Bool.{le-leb, Decides.nat_tests}, List.{get_or-append-add, length-take, length-drop, take-append-drop, append-nil, Sums.{sum_by-append, count_by-le-length}}}
+use Rattle.std.{proofs.lemmas.List.{Elements.{All-nil, All-cons, All-head, All-append, All-take, All-drop}, FromFn.{get_or-map-range_with_len, length-map-range_with_len}}, specs.List.range_with_len}
 use Rattle.cnf_formula.specs.{Literals.{LitValue, yes, is_true, all_hold}, Formulas.{IsAbout, IsClause}}
-use Rattle.cardinality.specs.Counting.{CounterValue, true_inputs, output, Reaches, Extends, IsCounter}
-use Rattle.cardinality.specs.Totalizers.{joins, joined_counters, joined_halves, side_of, side_within, totalizer_of}
-use Rattle.cardinality.proofs.{Ranges.{all_of_map, both_hold, hold_both}, Wider.{old_is_same, clause_more, clauses_more, clauses_same, count_same}}
-use Rattle.cardinality.proofs.Joins.{is_reached, joins_say, say_joins, joins_about}
+use Rattle.cardinality.specs.{Counting.{CounterValue, true_inputs, output, Reaches, Extends, IsCounter}, Totalizers.{joins, joined_counters, joined_halves, side_of, side_within, totalizer_of}}
+use Rattle.cardinality.proofs.{Ranges.{all_of_map, both_hold, hold_both}, Wider.{old_is_same, clause_more, clauses_more, clauses_same, count_same}, Joins.{is_reached, joins_say, say_joins, joins_about}}
 
 -- a counter of inputs about the first so many variables, with as many outputs as it has
 pub record Part (before : ℕ) (inputs : List LitValue) (counter : CounterValue) : Type 0 where

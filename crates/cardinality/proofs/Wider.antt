@@ -1,6 +1,5 @@
 -- Literals and clauses about the first variables, in an assignment of more.
-use Rattle.std.proofs.Common.{◌≡◌, ℕ, ◌-◌, ◌≤◌, Bool, false, cond, List, [], ◌∷◌, ◌++◌, length, get_or, refl, ap, arith, All}
-use Rattle.std.proofs.lemmas.List.{get_or_append_left, Elements.{All-head, All-tail}, Sums.sum_by-cons}
+use Rattle.std.proofs.{Common.{◌≡◌, ℕ, ◌-◌, ◌≤◌, Bool, false, cond, List, [], ◌∷◌, ◌++◌, length, get_or, refl, ap, arith, All}, lemmas.List.{get_or_append_left, Elements.{All-head, All-tail}, Sums.sum_by-cons}}
 use Rattle.cnf_formula.specs.{Literals.{LitValue, same_sign, is_true, clause_holds, all_hold}, Formulas.{IsAbout, IsClause}}
 use Rattle.cardinality.specs.Counting.{true_inputs}
 

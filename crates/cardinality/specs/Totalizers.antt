@@ -1,6 +1,5 @@
 -- The totalizer (Bailleux and Boufkhad 2003): the inputs are halved again and again, and what two halves count is counted together.
-use Rattle.std.specs.Prelude.{ℕ, zero, suc, ◌+◌, ◌/◌, ◌&&◌, min, List, [], ◌∷◌, ◌++◌, length, take, drop, map, nat_lt, nat_le, flat_map, if◌then◌else◌, slice_index_or}
-use Rattle.std.specs.List.{range_with_len}
+use Rattle.std.specs.{Prelude.{ℕ, zero, suc, ◌+◌, ◌/◌, ◌&&◌, min, List, [], ◌∷◌, ◌++◌, length, take, drop, map, nat_lt, nat_le, flat_map, if◌then◌else◌, slice_index_or}, List.range_with_len}
 use Rattle.cnf_formula.specs.Literals.{LitValue, yes, negation}
 use Rattle.cardinality.specs.Counting.{CounterValue}
 

@@ -1,7 +1,6 @@
 -- The two look-ups of a table.
-use Rattle.std.proofs.Common.{◌≡◌, ◌≢◌, ℕ, ◌==◌, Bool, false, List, refl, sym, ap, ◌∙◌, Option, Some, None, All, Contains, IfSome, IfNone, Decides, IsTrue, subst, Bor, bytes_eq, find}
-use Rattle.std.{specs.Option.{option_map, option_copied}, proofs.lemmas.{List.Elements.All-weaker, Slice.Eq.bytes_eq-Decides, Bool.{and_parts, false≢true}}}
-use Rattle.std.proofs.lemmas.Bool.Decides.{Decides-eqb}
+use Rattle.std.proofs.{Common.{◌≡◌, ◌≢◌, ℕ, ◌==◌, Bool, false, List, refl, sym, ap, ◌∙◌, Option, Some, None, All, Contains, IfSome, IfNone, Decides, IsTrue, subst, Bor, bytes_eq, find}, lemmas.List.Elements.All-weaker}
+use Rattle.std.{proofs.lemmas.{Slice.Eq.bytes_eq-Decides, Bool.{and_parts, false≢true, Decides.Decides-eqb}}, specs.Option.{option_map, option_copied}}
 use Rattle.list_laws.proofs.Tests.{find-map}
 use Rattle.case_table.{specs.{Rows.{is_one_to_one, value_at, word_at}, Shown.entries, declared.row.Row.Row}, proofs.Finding.{Found, find-Found, find-only}}
 

@@ -5,8 +5,7 @@ use Rattle.collective_spec.specs.Collectives.{adds_up}
 use Rattle.cnf_formula.specs.{Formulas.{FormulaValue, Satisfies}, Lines.ProofLineValue}
 use Rattle.round_encoding.specs.{declared.encoding.Encoding.Encoding, Candidates.IsEncodingOf}
 use Rattle.sat_core.specs.declared.solving.SatAnswer.{SatAnswer}
-use Rattle.candidate_order.specs.{declared.{candidate.Candidate.Candidate, outcome.Outcome.Outcome}, Ranges.LimitsValue}
-use Rattle.candidate_order.specs.Frontiers.{QuestionValue, Achieves, instance_for}
+use Rattle.candidate_order.specs.{declared.{candidate.Candidate.Candidate, outcome.Outcome.Outcome}, Ranges.LimitsValue, Frontiers.{QuestionValue, Achieves, instance_for}}
 use Rattle.candidate_formula.specs.{Encodings.schedule_said, Formulas.{ordered_formula_for, OrderedFor}, Questions.IsSmallQuestion}
 use Rattle.candidate_solver.{specs.Trying.{IsSearch, Says}, proofs.Tried.outcome_by}
 use Rattle.chunk_symmetry.specs.Trying.{IsOrderedOutcome}

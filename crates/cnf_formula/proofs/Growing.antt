@@ -1,7 +1,6 @@
 -- A formula that grows clause by clause, in a loop.
-use Rattle.std.proofs.Common.{◌≡◌, ℕ, zero, ◌+◌, List, [], ◌∷◌, ◌++◌, map, length, get_or, take, ◌<◌, ◌≤◌, refl, sym, ap, ◌∙◌, arith, append_assoc, flat_map}
-use Rattle.std.{specs.List.{range_with_len, enumerate_from}, proofs.lemmas.List.{append-nil, map-append, take_more, take_all, Folds.flat_map-map}}
-use Rattle.std.proofs.lemmas.List.{Concat.{flat_map-append, flat_map_single}, FromFn.{map-range_with_len_more, length-enumerate_from, get_or-enumerate_from}}
+use Rattle.std.proofs.{Common.{◌≡◌, ℕ, zero, ◌+◌, List, [], ◌∷◌, ◌++◌, map, length, get_or, take, ◌<◌, ◌≤◌, refl, sym, ap, ◌∙◌, arith, append_assoc, flat_map}, lemmas.List.{append-nil, map-append, take_more, take_all, Folds.flat_map-map}}
+use Rattle.std.{proofs.lemmas.List.{Concat.{flat_map-append, flat_map_single}, FromFn.{map-range_with_len_more, length-enumerate_from, get_or-enumerate_from}}, specs.List.{range_with_len, enumerate_from}}
 use Rattle.list_laws.proofs.Ranges.{flat_map-range_more}
 use Rattle.cnf_formula.specs.{Literals.LitValue, Formulas.{FormulaValue, with_clauses}}
 

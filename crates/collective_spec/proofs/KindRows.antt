@@ -1,8 +1,7 @@
 -- The table of the kinds' words.
 use Rattle.std.proofs.Common.{◌≡◌, Some, refl}
 use Rattle.case_table.specs.Rows.{value_at, word_at}
-use Rattle.collective_spec.specs.{declared.kind.Kind.Kind, Kinds.{number_of, word_of, kind_rows}}
-use Rattle.collective_spec.specs.declared.kind.Kind.TheVariants.{Broadcast, Gather, Allgather, Scatter, Alltoall, Reduce, Reducescatter, Allreduce, Custom}
+use Rattle.collective_spec.specs.{declared.kind.Kind.{Kind, TheVariants.{Broadcast, Gather, Allgather, Scatter, Alltoall, Reduce, Reducescatter, Allreduce, Custom}}, Kinds.{number_of, word_of, kind_rows}}
 
 pub number_found : (kind : Kind) → value_at kind_rows (word_of kind) ≡ Some (number_of kind)
 number_found Broadcast = refl

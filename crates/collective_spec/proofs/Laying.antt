@@ -1,6 +1,5 @@
 -- A placement by its cells, numbered by chunk and then by node.
-use Rattle.std.proofs.{Common.{◌≡◌, ℕ, ◌+◌, ◌*◌, ◌/◌, ◌%◌, Bool, false, List, map, sym, ap, ◌∙◌, arith}, lemmas.Nat.{div-mul-add, mod-mul-add, mul-add-lt}}
-use Rattle.std.{specs.List.range_with_len, proofs.lemmas.List.FromFn.{get_or-map-range_with_len}}
+use Rattle.std.{proofs.{Common.{◌≡◌, ℕ, ◌+◌, ◌*◌, ◌/◌, ◌%◌, Bool, false, List, map, sym, ap, ◌∙◌, arith}, lemmas.{Nat.{div-mul-add, mod-mul-add, mul-add-lt}, List.FromFn.get_or-map-range_with_len}}, specs.List.range_with_len}
 use Rattle.schedule.{specs.{Placed.{placed, empty_placement}, Cells.marked}, proofs.Placing.{placed-alike, placed-none}}
 
 -- what a test says of each place

@@ -1,8 +1,7 @@
 -- What is asked for, whether it is a collective of the table or a pattern.
 use Rattle.std.proofs.{Common.{◌≡◌, ℕ, ◌<◌, Bool, true, Option, None, Some, IfSome, refl}, lemmas.Bool.not-true}
 use Rattle.schedule.{specs.Placed.placed, proofs.Placing.placement-placed}
-use Rattle.collective_spec.specs.{declared.{kind.Kind.Kind, collective.Collective.Collective, spec.Spec.Spec}, Kinds.is_custom}
-use Rattle.collective_spec.specs.Patterns.{PatternValue, IsPattern, IsAmong}
+use Rattle.collective_spec.specs.{declared.{kind.Kind.Kind, collective.Collective.Collective, spec.Spec.Spec}, Kinds.is_custom, Patterns.{PatternValue, IsPattern, IsAmong}}
 use Rattle.collective_spec.specs.Collectives.{IsSpec, chunks_in, fits_kind, kind_in, spec_demand, spec_instance, spec_of}
 use Rattle.collective_spec.specs.declared.kind.Kind.TheVariants as kind
 use Rattle.collective_spec.specs.declared.spec.Spec.TheVariants as spec

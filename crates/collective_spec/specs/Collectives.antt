@@ -1,8 +1,7 @@
 -- The instance of a collective, and what it demands (Cai et al., PPoPP 2021, table of collectives).
 use Rattle.std.specs.Prelude.{◌≡◌, ℕ, ◌*◌, ◌<◌, not, Bool, false, if◌then◌else◌, Option, None, Some, option_map, unwrap_or}
-use Rattle.collective_spec.specs.declared.{kind.Kind.{Kind, TheVariants.Custom}, layout.Layout.{Layout, TheVariants.All}, collective.Collective.Collective}
-use Rattle.collective_spec.specs.{declared.{instance.Instance.Instance, spec.Spec.Spec}, Layouts.laid_out, Patterns.{PatternValue, IsPattern, copied}}
-use Rattle.collective_spec.specs.Kinds.{is_custom, row_of}
+use Rattle.collective_spec.specs.{declared.{kind.Kind.{Kind, TheVariants.Custom}, layout.Layout.{Layout, TheVariants.All}, collective.Collective.Collective, instance.Instance.Instance, spec.Spec.Spec}, Layouts.laid_out}
+use Rattle.collective_spec.specs.{Patterns.{PatternValue, IsPattern, copied}, Kinds.{is_custom, row_of}}
 use Rattle.collective_spec.specs.declared.spec.Spec.TheVariants as spec
 use Rattle.schedule.specs.Placed.{PlacementValue}
 

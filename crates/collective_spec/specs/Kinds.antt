@@ -1,7 +1,6 @@
 -- The kinds of collectives (Cai et al., PPoPP 2021, table of collectives).
 use Rattle.std.specs.Prelude.{ℕ, ◌%◌, ◌==◌, ◌&&◌, ◌||◌, not, Bool, true, false, List, [], ◌∷◌, ◌++◌, map, nat_le, codes, Option, None, Some, is_none, option_map, unwrap_or}
-use Rattle.collective_spec.specs.declared.{kind.Kind.Kind, layout.Layout.{Layout, TheVariants.{All, Root, Scattered, Transpose}}}
-use Rattle.collective_spec.specs.declared.kind.Kind.TheVariants.{Broadcast, Gather, Allgather, Scatter, Alltoall, Reduce, Reducescatter, Allreduce, Custom}
+use Rattle.collective_spec.specs.declared.{kind.Kind.{Kind, TheVariants.{Broadcast, Gather, Allgather, Scatter, Alltoall, Reduce, Reducescatter, Allreduce, Custom}}, layout.Layout.{Layout, TheVariants.{All, Root, Scattered, Transpose}}}
 
 -- a standard kind: its number and its word; whether the chunk count is that of each node, and not of all, and whether it is a multiple of
 -- the number of nodes; where the chunks are before (or to which chunk which node contributes) and where they or their sums have to be

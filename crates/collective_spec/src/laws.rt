@@ -1,7 +1,6 @@
 ghost use Rattle.std.specs.Prelude.{◌≡◌, ◌+◌, ◌*◌, ◌<◌, ℕ, true, false, Option, IfSome};
 ghost use Rattle.schedule.specs.Placed.{PlacementValue, IsPlacement, holds};
-ghost use Rattle.collective_spec.specs.{Kinds.takes_root, Patterns.{PatternValue, IsPattern, IsAmong, copied}};
-ghost use Rattle.collective_spec.specs.Collectives.{IsSpec, chunks_in, fits_kind, instance_of, kind_in, spec_demand, spec_instance, spec_of};
+ghost use Rattle.collective_spec.specs.{Kinds.takes_root, Patterns.{PatternValue, IsPattern, IsAmong, copied}, Collectives.{IsSpec, chunks_in, fits_kind, instance_of, kind_in, spec_demand, spec_instance, spec_of}};
 
 use crate::collective::Collective;
 use crate::kind::Kind;

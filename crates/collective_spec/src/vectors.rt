@@ -1,8 +1,7 @@
 //! What the definitions give on small collectives.
 
 ghost use Rattle.std.specs.Prelude.{◌≡◌, true, false, [], ◌∷◌};
-ghost use Rattle.collective_spec.specs.{Kinds.allows, Patterns.copied, Collectives.{spec_demand, spec_instance}};
-ghost use Rattle.collective_spec.specs.Rows.{demand_on_three, everywhere, instance_on_three, moves, on_three, rooted, scattered, two_given};
+ghost use Rattle.collective_spec.specs.{Kinds.allows, Patterns.copied, Collectives.{spec_demand, spec_instance}, Rows.{demand_on_three, everywhere, instance_on_three, moves, on_three, rooted, scattered, two_given}};
 
 use crate::kind::Kind;
 use crate::spec::Spec;

@@ -1,8 +1,6 @@
 -- A word cut at its first `=`.
-use Rattle.std.proofs.Common.{◌≡◌, ◌≢◌, ◌==◌, ◌<◌, ◌+◌, ℕ, refl, false, List, [], ◌∷◌, length, get_or, Option, Some, None, arith, Bor}
-use Rattle.std.{specs.{List.{list_any, before_first, after_first, position_or_len}, Option.option_map}, proofs.lemmas.List.Folds.list_any_at}
-use Rattle.std.proofs.lemmas.{Str.Pattern.{IsSplitOnceResult, split_once_first, split_parts}, List.Sums.passes_at_first, Bool.Decides.nat_tests}
-use Rattle.std.proofs.lemmas.Grind.{common_steps}
+use Rattle.std.proofs.{Common.{◌≡◌, ◌≢◌, ◌==◌, ◌<◌, ◌+◌, ℕ, refl, false, List, [], ◌∷◌, length, get_or, Option, Some, None, arith, Bor}, lemmas.{List.Folds.list_any_at, Str.Pattern.{IsSplitOnceResult, split_once_first, split_parts}}}
+use Rattle.std.{proofs.lemmas.{List.Sums.passes_at_first, Bool.Decides.nat_tests, Grind.common_steps}, specs.{List.{list_any, before_first, after_first, position_or_len}, Option.option_map}}
 use Rattle.command_words.specs.Words.{key_and_value}
 
 -- there is no cut where no byte is `=`

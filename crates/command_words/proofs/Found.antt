@@ -1,12 +1,10 @@
 -- Keys looked up in what words give.
 use Rattle.std.proofs.Common.{◌≡◌, ◌∙◌, ◌&&◌, ℕ, Bool, true, false, cond, if◌then◌else◌, bytes_eq, decimal, sym, ap, refl, subst, List, [], ◌∷◌, Some, None, IfSome, option_map, is_some, unwrap_or, nat_le, ◌≤◌, arith}
-use Rattle.std.{specs.{List.AllByRecursion, Cmp.Lexicographic.bytes_decides, Str.Parse.digits_value}, proofs.lemmas.Bool.Decides.nat_tests}
+use Rattle.std.{proofs.lemmas.Bool.Decides.nat_tests, specs.{List.AllByRecursion, Cmp.Lexicographic.bytes_decides, Str.Parse.digits_value}}
 use Rattle.text_lines.specs.Number.{number_up_to}
 use Rattle.topology_text.specs.Names.{name_of}
-use Rattle.command_words.specs.{declared.{key.Key.Key, verb.Verb.Verb}, Tables.{named, keys, key_word, key_row, same_key, Number}, Words.fits}
-use Rattle.command_words.specs.inner.Seen.{AreFit, AreRight, IsRight, IsUpTo}
+use Rattle.command_words.specs.{declared.{key.Key.Key, verb.Verb.Verb}, Tables.{named, keys, key_word, key_row, same_key, Number}, Words.fits, inner.Seen.{AreFit, AreRight, IsRight, IsUpTo}, Given.{Given, given_at, word_at}}
 use Rattle.command_words.specs.declared.key.Key.TheVariants as key
-use Rattle.command_words.specs.Given.{Given, given_at, word_at}
 
 -- each key is found by its word
 key_found : (k : Key) → named key_word keys (key_word k) ≡ Some k

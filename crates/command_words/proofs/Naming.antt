@@ -1,8 +1,7 @@
 -- Words found among the names of values.
-use Rattle.std.proofs.Common.{◌≡◌, ◌≢◌, ◌||◌, sym, refl, ℕ, true, false, cond, List, [], ◌∷◌, Option, Some, None, IfSome, is_some, map, bytes_eq, subst}
-use Rattle.std.{specs.{List.{AllByRecursion, list_any}, Cmp.Lexicographic.bytes_decides}, proofs.lemmas.Option.none-some}
-use Rattle.collective_spec.specs.{declared.kind.Kind.Kind, Kinds.{word_of, every_kind}}
-use Rattle.collective_spec.specs.declared.kind.Kind.TheVariants.{Broadcast}
+use Rattle.std.proofs.{Common.{◌≡◌, ◌≢◌, ◌||◌, sym, refl, ℕ, true, false, cond, List, [], ◌∷◌, Option, Some, None, IfSome, is_some, map, bytes_eq, subst}, lemmas.Option.none-some}
+use Rattle.std.specs.{List.{AllByRecursion, list_any}, Cmp.Lexicographic.bytes_decides}
+use Rattle.collective_spec.specs.{declared.kind.Kind.{Kind, TheVariants.Broadcast}, Kinds.{word_of, every_kind}}
 use Rattle.command_words.specs.Tables.{named}
 
 -- one of the names is the text where a value has it

@@ -1,15 +1,14 @@
 -- What is given and checked makes a proper command.
-use Rattle.std.proofs.Common.{◌≡◌, ◌≢◌, ◌≤◌, ◌&&◌, ◌||◌, ℕ, Bool, true, false, not, cond, refl, subst, codes, bytes_eq, List, [], ◌∷◌, Option, Some, None, IfSome, option_map, is_some, unwrap_or}
-use Rattle.std.{specs.{List.{AllByRecursion, list_all}}, proofs.lemmas.{Bool.{and_parts, not-false}}}
+use Rattle.std.proofs.{Common.{◌≡◌, ◌≢◌, ◌≤◌, ◌&&◌, ◌||◌, ℕ, Bool, true, false, not, cond, refl, subst, codes, bytes_eq, List, [], ◌∷◌, Option, Some, None, IfSome, option_map, is_some, unwrap_or}, lemmas.Bool.{and_parts, not-false}}
+use Rattle.std.specs.List.{AllByRecursion, list_all}
 use Rattle.candidate_order.specs.{Ranges.IsLimits, declared.pruning.Pruning.Pruning}
-use Rattle.collective_spec.specs.{declared.kind.Kind.{TheVariants.{Allreduce, Custom}}, Kinds.{word_of, every_kind, takes_root}}
+use Rattle.collective_spec.specs.{declared.kind.Kind.TheVariants.{Allreduce, Custom}, Kinds.{word_of, every_kind, takes_root}}
 use Rattle.command_words.specs.declared.{command.{JsonWhat.JsonWhat, RootWord.RootWord}, key.Key.Key, verb.Verb.{Verb, TheVariants.{Synth, Check, Replay, Programs, Family, Trial, Bound, Ordered, Degrade, Json, Unjson}}}
 use Rattle.command_words.specs.{Tables.{named, key_row, same_key, search, whats, what_word, Number}, Words.{fits, is_refused}, Commands.{IsProper, command_for}}
-use Rattle.command_words.specs.inner.Seen.{AreRight, IsRight, has_idle_point, has_idle_root, has_required, has_wrong_size}
+use Rattle.command_words.specs.{inner.Seen.{AreRight, IsRight, has_idle_point, has_idle_root, has_required, has_wrong_size}, Given.{Given, given_at, is_given, text_at, number_at, kind_at, what_at, root_at, limits_at}}
 use Rattle.command_words.proofs.Found.{found, number_fits}
 use Rattle.command_words.specs.declared.command.JsonWhat.TheVariants as what
 use Rattle.command_words.specs.declared.key.Key.TheVariants as key
-use Rattle.command_words.specs.Given.{Given, given_at, is_given, text_at, number_at, kind_at, what_at, root_at, limits_at}
 
 -- commands refuse values of two keys alone
 pub untaken : (verb : Verb) (k : Key) (text : List ℕ) → same_key key.Collective k ≡ false → same_key key.What k ≡ false → is_refused verb k text ≡ false

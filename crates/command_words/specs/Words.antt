@@ -1,12 +1,10 @@
 -- The words of the command line, read from left to right: the first refusal counts. This project's own.
-use Rattle.std.specs.Prelude.{ℕ, ◌+◌, ◌==◌, ◌&&◌, Bool, not, if◌then◌else◌, List, [], ◌∷◌, length, map, bytes_eq, nat_le, Option, Some, None, is_some, Result, Ok, Err}
-use Rattle.std.specs.{List.{list_any, before_first, after_first}, Str.Parse.digits_value, declared.string.String.String, String.string_bytes}
+use Rattle.std.specs.{Prelude.{ℕ, ◌+◌, ◌==◌, ◌&&◌, Bool, not, if◌then◌else◌, List, [], ◌∷◌, length, map, bytes_eq, nat_le, Option, Some, None, is_some, Result, Ok, Err}, List.{list_any, before_first, after_first}, Str.Parse.digits_value}
+use Rattle.std.specs.{declared.string.String.String, String.string_bytes}
 use Rattle.text_lines.specs.{Check.{◌>>=◌, refuse, need}, Number.number_up_to}
 use Rattle.topology_text.specs.Names.{is_name}
-use Rattle.command_words.specs.declared.{command.Command.Command, fault.{WordCode.WordCode, WordFault.WordFault}, key.Key.Key, verb.Verb.Verb}
-use Rattle.command_words.specs.{declared.fault.WordCode.TheVariants.{NoCommand, UnknownCommand, UnknownKey, KeyTwice, BadValue}, Commands.command_from}
-use Rattle.command_words.specs.Tables.{named, verbs, verb_word, verb_row, keys, key_word, key_row, same_key, has_key, Takes, Number, Name, OneOf}
-use Rattle.command_words.specs.Given.{Given, is_given}
+use Rattle.command_words.specs.declared.{command.Command.Command, fault.{WordCode.{WordCode, TheVariants.{NoCommand, UnknownCommand, UnknownKey, KeyTwice, BadValue}}, WordFault.WordFault}, key.Key.Key, verb.Verb.Verb}
+use Rattle.command_words.specs.{Commands.command_from, Tables.{named, verbs, verb_word, verb_row, keys, key_word, key_row, same_key, has_key, Takes, Number, Name, OneOf}, Given.{Given, is_given}}
 
 -- the words, as bytes
 abbrev pub texts : {Z : Type 0} → List (String Z) → List (List ℕ)

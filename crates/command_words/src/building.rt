@@ -1,8 +1,7 @@
 //! Commands, from what their words give.
 
 ghost use Rattle.std.specs.{Prelude.{◌≡◌, ◌≤◌, IfOk, IfErr, option_map}, Str.Parse.digits_value};
-ghost use Rattle.command_words.specs.{Codes.word_number, Commands.{blame, command_for, command_from, required, IsProper}, Given.given_at};
-ghost use Rattle.command_words.specs.inner.Seen.{AreFit, AreRight, has_idle_point, has_idle_root, has_required, has_wrong_size, seen_all};
+ghost use Rattle.command_words.specs.{Codes.word_number, Commands.{blame, command_for, command_from, required, IsProper}, Given.given_at, inner.Seen.{AreFit, AreRight, has_idle_point, has_idle_root, has_required, has_wrong_size, seen_all}};
 
 use crate::command::{Command, JsonWhat, PointWord};
 use crate::fault::{WordCode, WordFault};

@@ -2,8 +2,7 @@
 
 ghost use Rattle.std.specs.{Prelude.{◌≡◌, ◌≤◌, IfSome, option_map}, Str.Parse.digits_value};
 ghost use Rattle.candidate_order.specs.Ranges.{IsLimits};
-ghost use Rattle.command_words.specs.{Given.{family_at, given_at, is_given, kind_at, limits_at, number_at, root_at, text_at, what_at, word_at}, Tables.key_row};
-ghost use Rattle.command_words.specs.inner.Seen.{AreFit, IsUpTo, seen, seen_all};
+ghost use Rattle.command_words.specs.{Given.{family_at, given_at, is_given, kind_at, limits_at, number_at, root_at, text_at, what_at, word_at}, Tables.key_row, inner.Seen.{AreFit, IsUpTo, seen, seen_all}};
 
 use crate::command::{JsonWhat, RootWord};
 use crate::key::Key;

@@ -2,8 +2,7 @@
 
 ghost use Rattle.std.specs.Prelude.{◌≡◌, ◌+◌, ◌≤◌, ◌∷◌, false, length, IfOk, IfErr, option_map};
 ghost use Rattle.text_lines.specs.Check.{Tells};
-ghost use Rattle.command_words.specs.{Codes.word_number, Commands.IsProper, Given.is_given, Words.{command_of, key_and_value, texts, with_word}};
-ghost use Rattle.command_words.specs.inner.Seen.{IsRight, command_given, seen, seen_all};
+ghost use Rattle.command_words.specs.{Codes.word_number, Commands.IsProper, Given.is_given, Words.{command_of, key_and_value, texts, with_word}, inner.Seen.{IsRight, command_given, seen, seen_all}};
 
 use crate::building::command_from;
 use crate::command::Command;

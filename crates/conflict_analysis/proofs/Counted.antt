@@ -1,7 +1,6 @@
 -- How many marks are of one kind.
-use Rattle.std.proofs.Common.{suc, ◌≡◌, ℕ, ◌+◌, ◌<◌, List, [], ◌∷◌, length, get_or, set, cond, sym, ap, ◌∙◌, ⊎_elim, arith, eq-eqb, ◌≢◌, ◌==◌}
-use Rattle.std.proofs.lemmas.{Bool.{cases_Bool, cases_lt, ne_eqb, eqb-true}, List.{get_or-set_same, get_or-set_other, length-set}}
-use Rattle.std.proofs.lemmas.List.Sums.{sum_by-cons, sum_by-set, get_or-le-sum_by}
+use Rattle.std.proofs.{Common.{suc, ◌≡◌, ℕ, ◌+◌, ◌<◌, List, [], ◌∷◌, length, get_or, set, cond, sym, ap, ◌∙◌, ⊎_elim, arith, eq-eqb, ◌≢◌, ◌==◌}, lemmas.Bool.{cases_Bool, cases_lt, ne_eqb, eqb-true}}
+use Rattle.std.proofs.lemmas.List.{get_or-set_same, get_or-set_other, length-set, Sums.{sum_by-cons, sum_by-set, get_or-le-sum_by}}
 use Rattle.conflict_analysis.specs.Met.{waiting}
 
 abbrev one_if : ℕ → ℕ → ℕ

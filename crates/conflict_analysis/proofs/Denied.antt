@@ -6,10 +6,8 @@ use Rattle.list_laws.proofs.Members.{Contains-map}
 use Rattle.cnf_formula.specs.{Literals.{LitValue, negation}, Lines.ProofLineValue}
 use Rattle.trail_core.{specs.{Assigned.IsFalse, Formed.IsTrail, Trails.{StepValue, lits_of}, Meaning.CoreValue}, proofs.Keeping.lits_length}
 use Rattle.conflict_analysis.specs.{Learning.{number_of, hints_of, hints_to, IsOut, IsResolved, IsAnalysis}, UnitLines.{denied, IsUnitLine}}
-use Rattle.conflict_analysis.specs.Met.{WalkValue, no_step, step_at, lit_at, mark_of, resolved_by, IsSeen, IsSorted, HasMet, IsPassed, IsReasoned}
-use Rattle.conflict_analysis.specs.inner.Walks.{HasWalked, HasSameAbove}
-use Rattle.conflict_analysis.proofs.{Members.{here, cons_cases}, Marked.{lit_read, same_place}}
-use Rattle.conflict_analysis.proofs.Pointed.{kinds, filter_none, IsBegun, met_unresolved, met_passed}
+use Rattle.conflict_analysis.specs.{Met.{WalkValue, no_step, step_at, lit_at, mark_of, resolved_by, IsSeen, IsSorted, HasMet, IsPassed, IsReasoned}, inner.Walks.{HasWalked, HasSameAbove}}
+use Rattle.conflict_analysis.proofs.{Members.{here, cons_cases}, Marked.{lit_read, same_place}, Pointed.{kinds, filter_none, IsBegun, met_unresolved, met_passed}}
 
 -- ---- steps that were taken, and have a reason
 

@@ -1,13 +1,11 @@
 -- What is left at the end of the walk is learned.
 use Rattle.std.proofs.Common.{◌≡◌, ℕ, ◌+◌, ◌<◌, List, [], ◌∷◌, ◌++◌, length, get_or, take, refl, sym, ap, ◌∙◌, subst, inl, inr, ⊎_elim, arith, eq-eqb, ◌≢◌, ◌⊎◌, Contains, AllPairs, Option, None, Some, MatchOption, reverse, pos}
-use Rattle.std.proofs.lemmas.{Bool.eqb-true, List.{get_or_default, append-nil, take-map, Quantifiers.all_pairs_push}}
-use Rattle.std.proofs.lemmas.List.Elements.{Contains-append_left, Contains-append_right, Contains-push_cases, Contains-get_or}
+use Rattle.std.proofs.lemmas.{Bool.eqb-true, List.{get_or_default, append-nil, take-map, Quantifiers.all_pairs_push, Elements.{Contains-append_left, Contains-append_right, Contains-push_cases, Contains-get_or}}}
 use Rattle.cnf_formula.specs.{Literals.{LitValue, negation}, Lines.ProofLineValue}
 use Rattle.trail_core.{specs.{Assigned.IsFalse, Trails.{StepValue, lits_of}, Meaning.{CoreValue, trues}}, proofs.Keeping.{negated_twice, in_front}}
 use Rattle.conflict_analysis.specs.{Conflicts.IsConflict, Learning.{IsOut, IsResolved, IsAnalysis}, Learned.{IsPointed, IsLearned}}
 use Rattle.conflict_analysis.specs.Met.{WalkValue, no_step, step_at, lit_at, mark_of, resolved_by, IsSeen, IsSorted, IsPassed, IsImplicationPoint}
-use Rattle.conflict_analysis.proofs.{Members.{here, from_map, nil_by}, Counted.waits_some, Marked.{IsAt, false_at, lit_about, lit_stands}}
-use Rattle.conflict_analysis.proofs.Pointed.{low_place, high_place, false_below, open_below, kinds}
+use Rattle.conflict_analysis.proofs.{Members.{here, from_map, nil_by}, Counted.waits_some, Marked.{IsAt, false_at, lit_about, lit_stands}, Pointed.{low_place, high_place, false_below, open_below, kinds}}
 
 -- the point with its sign turned
 abbrev pub point_lits : Option LitValue → List LitValue

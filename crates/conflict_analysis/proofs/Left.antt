@@ -1,7 +1,6 @@
 -- Of what is kept the literals are left that are marked so still.
-use Rattle.std.proofs.Common.{◌≡◌, ℕ, ◌+◌, ◌<◌, true, List, [], ◌∷◌, ◌++◌, length, get_or, take, sym, ap, ◌∙◌, inl, arith, eq-eqb, ◌≢◌, ◌==◌, Contains, Option, None, Some, MatchOption}
-use Rattle.std.proofs.lemmas.{Bool.{eqb-true, ne_eqb}, List.{append-nil, Elements.{All-contains, All-contains_itself, All-filter, filter_more, filter_passes}}}
-use Rattle.std.proofs.lemmas.List.Kept.{AllPairs-filter}
+use Rattle.std.proofs.{Common.{◌≡◌, ℕ, ◌+◌, ◌<◌, true, List, [], ◌∷◌, ◌++◌, length, get_or, take, sym, ap, ◌∙◌, inl, arith, eq-eqb, ◌≢◌, ◌==◌, Contains, Option, None, Some, MatchOption}, lemmas.{Bool.{eqb-true, ne_eqb}, List.append-nil}}
+use Rattle.std.proofs.lemmas.List.{Elements.{All-contains, All-contains_itself, All-filter, filter_more, filter_passes}, Kept.AllPairs-filter}
 use Rattle.list_laws.proofs.Members.{Contains-filter}
 use Rattle.cnf_formula.specs.Literals.{LitValue}
 use Rattle.trail_core.specs.{Meaning.CoreValue, Formed.IsTrail}

@@ -1,6 +1,5 @@
 -- Levels of places, and where levels begin.
-use Rattle.std.proofs.{Common.{◌≡◌, ℕ, ◌<◌, ◌≤◌, List, [], ◌∷◌, length, get_or, cond, leb, ap, ⊎_elim, arith, Contains}, lemmas.Bool.{le-leb, lt-leb, cases_lt}}
-use Rattle.std.proofs.lemmas.List.Sums.{sum_by-cons, sum_by-le-sum_by, get_or-le-sum_by}
+use Rattle.std.proofs.{Common.{◌≡◌, ℕ, ◌<◌, ◌≤◌, List, [], ◌∷◌, length, get_or, cond, leb, ap, ⊎_elim, arith, Contains}, lemmas.{Bool.{le-leb, lt-leb, cases_lt}, List.Sums.{sum_by-cons, sum_by-le-sum_by, get_or-le-sum_by}}}
 use Rattle.trail_core.specs.Assigned.{AreLimits, level_at}
 use Rattle.conflict_analysis.proofs.Members.{cons_cases}
 

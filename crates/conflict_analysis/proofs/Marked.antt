@@ -1,15 +1,10 @@
 -- A literal that is met is marked.
-use Rattle.std.proofs.lemmas.Bool.Decides.{nat_tests}
-use Rattle.std.proofs.lemmas.Grind.{common_steps}
-use Rattle.std.proofs.Common.{◌≡◌, ℕ, ◌+◌, ◌<◌, ◌≤◌, List, [], ◌∷◌, ◌++◌, length, get_or, set, take, refl, sym, ap, ◌∙◌, subst, inl, inr, ⊎_elim, arith, ◌≢◌, ◌⊎◌, ◌↔◌, Contains, nat_le}
-use Rattle.std.proofs.lemmas.{List.{Sums.count_by-le-length, Quantifiers.all_pairs_push}, Bool.{cases_eq, cases_order}}
-use Rattle.std.proofs.lemmas.List.{get_or-set_same, get_or-set_other, get_or-map, get_or_default, length-set, take_more, take_all}
+use Rattle.std.proofs.{lemmas.{Bool.Decides.nat_tests, Grind.common_steps}, Common.{◌≡◌, ℕ, ◌+◌, ◌<◌, ◌≤◌, List, [], ◌∷◌, ◌++◌, length, get_or, set, take, refl, sym, ap, ◌∙◌, subst, inl, inr, ⊎_elim, arith, ◌≢◌, ◌⊎◌, ◌↔◌, Contains, nat_le}}
+use Rattle.std.proofs.lemmas.{List.{Sums.count_by-le-length, Quantifiers.all_pairs_push, get_or-set_same, get_or-set_other, get_or-map, get_or_default, length-set, take_more, take_all}, Bool.{cases_eq, cases_order}}
 use Rattle.std.proofs.lemmas.List.Elements.{Contains-push, Contains-push_cases, Contains-append_left, Contains-get_or, All-contains}
 use Rattle.cnf_formula.specs.{Literals.{LitValue, negation}, Formulas.IsAbout}
-use Rattle.trail_core.specs.{Assigned.{IsFalse, level_at}, Watching.no_lit, Meaning.{CoreValue, trues}, Formed.IsTrail}
-use Rattle.trail_core.proofs.Keeping.{lits_length, negated_twice}
-use Rattle.conflict_analysis.specs.{Met.{WalkValue, lit_at, no_step, IsSeen, AreMarks, AreKept, AreNoted, IsSorted, HasMet, waiting}, PlaceSets.HasPlace}
-use Rattle.conflict_analysis.proofs.{Members.{here, cons_cases}, Counted.{waits_more, waits_same}}
+use Rattle.trail_core.{specs.{Assigned.{IsFalse, level_at}, Watching.no_lit, Meaning.{CoreValue, trues}, Formed.IsTrail}, proofs.Keeping.{lits_length, negated_twice}}
+use Rattle.conflict_analysis.{specs.{Met.{WalkValue, lit_at, no_step, IsSeen, AreMarks, AreKept, AreNoted, IsSorted, HasMet, waiting}, PlaceSets.HasPlace}, proofs.{Members.{here, cons_cases}, Counted.{waits_more, waits_same}}}
 
 -- ---- the literal at a place of the trail
 

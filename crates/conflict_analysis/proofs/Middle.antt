@@ -1,10 +1,7 @@
 -- Places between level 0 and the last level.
-use Rattle.std.proofs.lemmas.Bool.Decides.{nat_tests}
-use Rattle.std.proofs.lemmas.Grind.{common_steps}
-use Rattle.std.proofs.{Common.{◌≡◌, ℕ, ◌+◌, ◌-◌, ◌<◌, ◌≤◌, length, get_or, ⊎_elim, arith}, lemmas.Bool.cases_lt}
+use Rattle.std.proofs.{lemmas.{Bool.{Decides.nat_tests, cases_lt}, Grind.common_steps}, Common.{◌≡◌, ℕ, ◌+◌, ◌-◌, ◌<◌, ◌≤◌, length, get_or, ⊎_elim, arith}}
 use Rattle.trail_core.specs.{Assigned.level_at, Meaning.CoreValue, Formed.IsTrail}
-use Rattle.conflict_analysis.specs.{Met.{WalkValue, IsSorted, IsPassed}, inner.Walks.HasWalked}
-use Rattle.conflict_analysis.proofs.{Levels.limits_rise, Marked.level_within, Pointed.{high_place, bottom_place}}
+use Rattle.conflict_analysis.{specs.{Met.{WalkValue, IsSorted, IsPassed}, inner.Walks.HasWalked}, proofs.{Levels.limits_rise, Marked.level_within, Pointed.{high_place, bottom_place}}}
 
 -- a place of a level below the last that is not level 0
 pub record IsMiddle (core : CoreValue) (k : ℕ) : Type 0 where

@@ -1,16 +1,11 @@
 -- Where the walk begins and ends: one literal of the last level is left, and all others that are kept became false below it.
-use Rattle.std.proofs.lemmas.Bool.Decides.{nat_tests}
-use Rattle.std.proofs.lemmas.Grind.{common_steps}
-use Rattle.std.proofs.Common.{suc, ◌-◌, ◌≡◌, ℕ, ◌+◌, ◌<◌, ◌≤◌, Bool, false, List, [], ◌∷◌, length, get_or, take, refl, sym, ap, ◌∙◌, inl, inr, ⊎_elim, arith, ◌≢◌, ◌⊎◌, Contains, filter, nat_le}
-use Rattle.std.proofs.lemmas.{List.{get_or-take, length-take-le, Sums.count_by-le-length}, Bool.{cases_lt, cases_eq, ne_eqb}}
-use Rattle.std.proofs.lemmas.List.Elements.{All-contains, Contains-get_or}
+use Rattle.std.proofs.lemmas.{Bool.Decides.nat_tests, Grind.common_steps}
+use Rattle.std.proofs.{Common.{suc, ◌-◌, ◌≡◌, ℕ, ◌+◌, ◌<◌, ◌≤◌, Bool, false, List, [], ◌∷◌, length, get_or, take, refl, sym, ap, ◌∙◌, inl, inr, ⊎_elim, arith, ◌≢◌, ◌⊎◌, Contains, filter, nat_le}, lemmas.List.{get_or-take, length-take-le}}
+use Rattle.std.proofs.lemmas.{List.{Sums.count_by-le-length, Elements.{All-contains, Contains-get_or}}, Bool.{cases_lt, cases_eq, ne_eqb}}
 use Rattle.cnf_formula.specs.{Formulas.IsAbout, Literals.{LitValue, negation}}
-use Rattle.trail_core.specs.{Assigned.{IsFalse, IsOpen, AreLimits, level_at}, Trails.StepValue, Meaning.{CoreValue, trues}, Formed.IsTrail}
-use Rattle.trail_core.proofs.{Trails.all_counted, Keeping.lits_length}
-use Rattle.conflict_analysis.specs.{Conflicts.IsConflict, PlaceSets.HasPlace}
-use Rattle.conflict_analysis.specs.Met.{WalkValue, no_step, lit_at, mark_of, IsSorted, HasMet, IsPassed, IsImplicationPoint}
-use Rattle.conflict_analysis.proofs.{Levels.{level_grows, level_below, some_level, limits_rise}, Counted.{waits_some, waits_none}}
-use Rattle.conflict_analysis.proofs.Marked.{IsAt, false_at, lit_read, lit_about, same_place}
+use Rattle.trail_core.{specs.{Assigned.{IsFalse, IsOpen, AreLimits, level_at}, Trails.StepValue, Meaning.{CoreValue, trues}, Formed.IsTrail}, proofs.{Trails.all_counted, Keeping.lits_length}}
+use Rattle.conflict_analysis.specs.{Conflicts.IsConflict, PlaceSets.HasPlace, Met.{WalkValue, no_step, lit_at, mark_of, IsSorted, HasMet, IsPassed, IsImplicationPoint}}
+use Rattle.conflict_analysis.proofs.{Levels.{level_grows, level_below, some_level, limits_rise}, Counted.{waits_some, waits_none}, Marked.{IsAt, false_at, lit_read, lit_about, same_place}}
 
 -- the kinds of marks
 pub kinds : (m stamp : ℕ) → stamp ≤ m → m ≤ stamp + 3 → (m ≡ stamp) ⊎ ((m ≡ stamp + 1) ⊎ ((m ≡ stamp + 2) ⊎ (m ≡ stamp + 3)))

@@ -1,14 +1,10 @@
 -- A step that waits has a reason.
-use Rattle.std.proofs.lemmas.Bool.Decides.{nat_tests}
-use Rattle.std.proofs.lemmas.Grind.{common_steps}
-use Rattle.std.proofs.Common.{◌≡◌, ℕ, ◌+◌, ◌-◌, ◌<◌, ◌≤◌, length, get_or, set, take, refl, sym, ap, ◌∙◌, subst, ⊎_elim, arith, ◌≢◌, Contains}
-use Rattle.std.proofs.lemmas.{Bool.{cases_lt, cases_eq}, List.{get_or_default, length-take-le}}
+use Rattle.std.proofs.{lemmas.{Bool.{Decides.nat_tests, cases_lt, cases_eq}, Grind.common_steps}, Common.{◌≡◌, ℕ, ◌+◌, ◌-◌, ◌<◌, ◌≤◌, length, get_or, set, take, refl, sym, ap, ◌∙◌, subst, ⊎_elim, arith, ◌≢◌, Contains}}
+use Rattle.std.proofs.lemmas.List.{get_or_default, length-take-le}
 use Rattle.cnf_formula.specs.Literals.{LitValue}
 use Rattle.trail_core.specs.{Search.IsImplied, Kept.{IsDue, AreGrounded}, Meaning.CoreValue, Formed.IsTrail}
-use Rattle.conflict_analysis.specs.{Met.{WalkValue, step_at, no_step, lit_at, mark_of, IsSorted, IsPassed, IsOnward, waiting}, PlaceSets.HasPlace}
-use Rattle.conflict_analysis.specs.inner.Walks.{IsNext, IsStep, HasWalked, HasSameOpen, HasSameAbove}
-use Rattle.conflict_analysis.proofs.{Levels.{level_below, some_level}, Marked.{lit_about, same_place}}
-use Rattle.conflict_analysis.proofs.Counted.{waits_some, waits_less, waits_same, waits_where, waits_other, waits_two}
+use Rattle.conflict_analysis.specs.{Met.{WalkValue, step_at, no_step, lit_at, mark_of, IsSorted, IsPassed, IsOnward, waiting}, PlaceSets.HasPlace, inner.Walks.{IsNext, IsStep, HasWalked, HasSameOpen, HasSameAbove}}
+use Rattle.conflict_analysis.proofs.{Levels.{level_below, some_level}, Marked.{lit_about, same_place}, Counted.{waits_some, waits_less, waits_same, waits_where, waits_other, waits_two}}
 
 -- a step that is not the first of its level is implied
 pub implied_at : (core : CoreValue) (k : ℕ) → AreGrounded core → k < length core.trail → (Contains core.limits k → ⊥) → IsImplied core.clauses (IsDue core.limits) (take k core.trail) (step_at core k)

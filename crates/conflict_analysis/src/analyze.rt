@@ -4,8 +4,7 @@
 ghost use Rattle.std.specs.Prelude.{◌≡◌, ◌+◌, ◌<◌, ◌≤◌, None, Some, length, Contains, IfOk, OnOk, MatchOption};
 ghost use Rattle.cnf_formula.specs.Literals.{LitValue};
 ghost use Rattle.trail_core.specs.{Kept.AreGrounded, Formed.IsTrail};
-ghost use Rattle.conflict_analysis.specs.{Met.{value_of, IsSorted, IsPassed, IsImplicationPoint, IsRested, left_of}, Conflicts.IsConflict, Learned.IsLearned};
-ghost use Rattle.conflict_analysis.specs.inner.Walks.{HasWalked, HasSameOpen, HasSameAbove};
+ghost use Rattle.conflict_analysis.specs.{Met.{value_of, IsSorted, IsPassed, IsImplicationPoint, IsRested, left_of}, Conflicts.IsConflict, Learned.IsLearned, inner.Walks.{HasWalked, HasSameOpen, HasSameAbove}};
 
 use crate::implied::Implied;
 use crate::meeting::{hint, meet_all, resolve, waiting_below};

@@ -3,8 +3,7 @@
 ghost use Rattle.std.specs.Prelude.{◌↔◌, ◌⊎◌, ◌≡◌, ℕ, ◌+◌, ◌<◌, ◌≤◌, [], ◌∷◌, IsTrue, length, get_or, pos, Contains, IfSome, OnOk};
 ghost use Rattle.cnf_formula.specs.Literals.{LitValue};
 ghost use Rattle.trail_core.specs.{Assigned.IsFalse, Meaning.trues, Formed.IsTrail};
-ghost use Rattle.conflict_analysis.specs.{PlaceSets.HasPlace, Met.{value_of, IsSeen, IsSorted, HasMet, IsPassed, lit_at, mark_of, waiting}};
-ghost use Rattle.conflict_analysis.specs.inner.Walks.{IsNext, IsStep, IsTaken};
+ghost use Rattle.conflict_analysis.specs.{PlaceSets.HasPlace, Met.{value_of, IsSeen, IsSorted, HasMet, IsPassed, lit_at, mark_of, waiting}, inner.Walks.{IsNext, IsStep, IsTaken}};
 
 use crate::walk::{BOTTOM, KEPT, OPEN, RESOLVED, Walk};
 use cnf_formula::{Lit, OutOfMemory};

@@ -1,11 +1,10 @@
 -- What the files of a ledger on a shelf become.
-use Rattle.std.proofs.Common.{◌≡◌, ℕ, Bool, true, List, [], ◌∷◌, ◌++◌, take, drop, refl, sym, ap, ◌∙◌, subst, inl, inr, ⊎_elim, ◌≢◌, ◌⊎◌, IsTrue, Some, Contains, map, not}
-use Rattle.std.{specs.List.list_any, proofs.lemmas.{Bool.{false≢true, or_right}, List.{append-nil, append_assoc, take-append-drop, Folds.list_any_at}}}
-use Rattle.std.proofs.lemmas.List.Elements.{Contains-append_left, Contains-push, filter-append}
+use Rattle.std.proofs.{Common.{◌≡◌, ℕ, Bool, true, List, [], ◌∷◌, ◌++◌, take, drop, refl, sym, ap, ◌∙◌, subst, inl, inr, ⊎_elim, ◌≢◌, ◌⊎◌, IsTrue, Some, Contains, map, not}, lemmas.Bool.{false≢true, or_right}}
+use Rattle.std.{proofs.lemmas.List.{append-nil, append_assoc, take-append-drop, Folds.list_any_at, Elements.{Contains-append_left, Contains-push, filter-append}}, specs.List.list_any}
 use Rattle.cnf_formula.specs.{Literals.{LitValue, is_superset}, Formulas.FormulaValue, Lines.ProofLineValue, declared.line.LratLine.TheVariants.Addition}
 use Rattle.proof_rules.specs.{Held.{Entry, CheckerValue, start_of, has_none}, Refuting.{is_fresh, with_line, after_lines}, Learning.AllImplied, Judging.verdict_of, declared.verdict.LineVerdict.TheVariants.Accepted}
 use Rattle.proof_rules.proofs.InTurn.{implied_more}
-use Rattle.text_lines.specs.Text.{line as text_line}
+use Rattle.text_lines.specs.Text.line as text_line
 use Rattle.lrat_text.specs.Printing.{line_words}
 use Rattle.outer_ports.specs.{declared.proof_name.ProofName.ProofName, Port.Tells, Files.Files, Shelf.OthersStay}
 use Rattle.ledger_rules.specs.Logs.{learned, checker_of}

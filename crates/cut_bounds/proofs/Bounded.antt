@@ -1,15 +1,13 @@
 -- The floor over the links turned round bounds each schedule of a reduction.
 use Rattle.std.proofs.Common.{◌≡◌, ◌≢◌, ℕ, ◌*◌, ◌<◌, ◌≤◌, true, refl, ◌∙◌, subst, arith}
 use Rattle.schedule.specs.{Links.{TopologyValue, reversed_of}, Placed.PlacementValue, Sends.ScheduleValue, Summing.Sums, Rows.everywhere}
-use Rattle.collective_spec.specs.{declared.{kind.Kind.Kind, spec.Spec.Spec}, Kinds.allows}
-use Rattle.collective_spec.specs.Collectives.{IsSpec, adds_up, kind_in, reduces, spec_demand, spec_instance}
+use Rattle.collective_spec.specs.{declared.{kind.Kind.Kind, spec.Spec.Spec}, Kinds.allows, Collectives.{IsSpec, adds_up, kind_in, reduces, spec_demand, spec_instance}}
 use Rattle.collective_spec.specs.declared.kind.Kind.TheVariants as kind
 use Rattle.collective_spec.specs.declared.spec.Spec.TheVariants as spec
 use Rattle.candidate_order.specs.Copied.{copied_spec}
 use Rattle.candidate_formula.proofs.Copying.{same_allowed}
 use Rattle.inversion.{specs.Reductions.HeldBySome, proofs.Reducing.{root_some, scattered_some}}
-use Rattle.node_cuts.specs.{declared.{floor.Floor.Floor, sets.Sets.Sets}, Floors.floor_of, Sides.NodeSet, Cuts.{need_of, width_by}}
-use Rattle.node_cuts.proofs.Flooring.{IsBroughtIn, floor_below}
+use Rattle.node_cuts.{specs.{declared.{floor.Floor.Floor, sets.Sets.Sets}, Floors.floor_of, Sides.NodeSet, Cuts.{need_of, width_by}}, proofs.Flooring.{IsBroughtIn, floor_below}}
 use Rattle.cut_bounds.proofs.{Summed.sums_bring, Turned.{adding_has_nodes, floor_same}}
 
 -- the collective of which a reduction is the inverse brings each chunk from where its sum is demanded to every node

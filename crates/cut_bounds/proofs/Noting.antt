@@ -1,6 +1,5 @@
 -- One candidate more in the record of an engine over another.
-use Rattle.std.proofs.Common.{arith, ◌≡◌, Bool, true, false, [], ◌∷◌, ◌++◌, Some, None, refl, sym, ap, ◌∙◌, ⊎_elim, subst, Contains, Option, not}
-use Rattle.std.proofs.lemmas.{List.{append-nil, Elements.{Contains-push_cases, filter-append}}, Option.none-some}
+use Rattle.std.proofs.{Common.{arith, ◌≡◌, Bool, true, false, [], ◌∷◌, ◌++◌, Some, None, refl, sym, ap, ◌∙◌, ⊎_elim, subst, Contains, Option, not}, lemmas.{List.{append-nil, Elements.{Contains-push_cases, filter-append}}, Option.none-some}}
 use Rattle.std.proofs.lemmas.Bool.Decides.{nat_tests}
 use Rattle.schedule.proofs.First.{Among-from_Contains, Contains-from_Among, filter_among}
 use Rattle.candidate_order.specs.{declared.candidate.Candidate.Candidate, Frontiers.{QuestionValue, IsWithin}}

@@ -1,16 +1,12 @@
 -- After a whole search the cuts and the record below are parts of what the frontier has as refuted.
-use Rattle.std.proofs.Common.{arith, append_assoc, ◌≡◌, ◌+◌, true, false, List, [], ◌∷◌, ◌++◌, map, Some, None, refl, ⊎_elim, subst, All, Contains, MatchOption, Option, not}
-use Rattle.std.{specs.{List.{AllByRecursion, Sorted.IsPermutation}, Option.{is_some, option_map}}, proofs.lemmas.Bool.{cases_Bool, not_from_false}}
-use Rattle.std.proofs.lemmas.List.{append-nil, Elements.{filter-append, filter_map-append, recursion_from_All}}
-use Rattle.std.proofs.lemmas.Bool.Decides.{nat_tests}
+use Rattle.std.proofs.{Common.{arith, append_assoc, ◌≡◌, ◌+◌, true, false, List, [], ◌∷◌, ◌++◌, map, Some, None, refl, ⊎_elim, subst, All, Contains, MatchOption, Option, not}, lemmas.{Bool.{cases_Bool, not_from_false}, List.append-nil}}
+use Rattle.std.{proofs.lemmas.{List.Elements.{filter-append, filter_map-append, recursion_from_All}, Bool.Decides.nat_tests}, specs.{List.{AllByRecursion, Sorted.IsPermutation}, Option.{is_some, option_map}}}
 use Rattle.list_laws.proofs.{Each.all_contained, Members.Contains-map}
-use Rattle.candidate_order.specs.declared.candidate.Candidate.{Candidate}
-use Rattle.candidate_order.specs.Frontiers.{QuestionValue, FrontierValue, PointValue, UnknownValue, IsWithin, solved, given_up}
+use Rattle.candidate_order.specs.{declared.candidate.Candidate.Candidate, Frontiers.{QuestionValue, FrontierValue, PointValue, UnknownValue, IsWithin, solved, given_up}}
 use Rattle.engine_rules.specs.{declared.settled.Settled.{Settled, TheVariants.{Solved, Refuted, Unknown}}, Outcomes.RecordValue}
 use Rattle.pareto_search.{specs.Recorded.entries_of, proofs.Entries.{solved_there, refuted_there, unknown_there}}
 use Rattle.node_cuts.specs.{declared.sets.Sets.Sets, Cuts.CutValue, Cutting.{cut_for, is_cut, with_cut}}
-use Rattle.cut_bounds.specs.{Cutting.{cuts_of, uncut_entries}, Parting.{cuts_among, uncut_among, without_cuts}}
-use Rattle.cut_bounds.proofs.Permuting.{IsPermutation-filter, IsPermutation-filter_map}
+use Rattle.cut_bounds.{specs.{Cutting.{cuts_of, uncut_entries}, Parting.{cuts_among, uncut_among, without_cuts}}, proofs.Permuting.{IsPermutation-filter, IsPermutation-filter_map}}
 
 abbrev of_kind : Settled → List Candidate → RecordValue
 of_kind kind xs = map (λ x. (x, kind)) xs

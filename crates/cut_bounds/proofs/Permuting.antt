@@ -1,8 +1,7 @@
 -- What is made of each element of a list is made of each of its permutation.
-use Rattle.std.proofs.Common.{◌≡◌, ℕ, zero, suc, ◌<◌, Bool, true, false, cond, List, [], ◌∷◌, ◌++◌, length, get_or, set, refl, subst, ⊎_elim, arith, Option, None, Some, filter}
-use Rattle.std.{specs.List.{filter_map, flat_map, swap, Sorted.IsPermutation}, proofs.lemmas.{Bool.cases_Bool, List.{append_assoc, Edits.swap_is}}}
-use Rattle.std.proofs.lemmas.List.Sorted.{IsPermutation-append_comm, IsPermutation-append_left, IsPermutation-append_right, IsPermutation-keeps, IsPermutation-refl, IsPermutation-trans}
-use Rattle.std.proofs.lemmas.Bool.Decides.{nat_tests}
+use Rattle.std.proofs.{Common.{◌≡◌, ℕ, zero, suc, ◌<◌, Bool, true, false, cond, List, [], ◌∷◌, ◌++◌, length, get_or, set, refl, subst, ⊎_elim, arith, Option, None, Some, filter}, lemmas.{Bool.cases_Bool, List.{append_assoc, Edits.swap_is}}}
+use Rattle.std.proofs.lemmas.{List.Sorted.{IsPermutation-append_comm, IsPermutation-append_left, IsPermutation-append_right, IsPermutation-keeps, IsPermutation-refl, IsPermutation-trans}, Bool.Decides.nat_tests}
+use Rattle.std.specs.List.{filter_map, flat_map, swap, Sorted.IsPermutation}
 
 module _ {X Y : Type 0} (g : X → List Y) where
   -- the first two of three parts change places

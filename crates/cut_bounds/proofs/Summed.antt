@@ -1,17 +1,12 @@
 -- Whatever its steps, a schedule that sums sends each chunk that a set of nodes does not demand out of the set, so over the links turned round what has to come in can.
 use Rattle.std.proofs.Common.{◌≡◌, ℕ, zero, suc, ◌+◌, ◌*◌, ◌<◌, ◌≤◌, ◌⊎◌, Bool, true, false, ◌&&◌, cond, List, [], ◌∷◌, length, get_or, map, refl, sym, ap, ◌∙◌, inl, inr, ⊎_elim, subst, arith, ◌==◌, count_by, filter, fold, nat_le, nat_lt, not}
-use Rattle.std.{specs.List.AllByRecursion, proofs.lemmas.List.{Elements.{All-from_recursion, recursion_from_All}, FromFn.get_or-map-range_with_len}}
-use Rattle.std.proofs.lemmas.Bool.{cases_Bool, and_parts, and_from, both_ways, not_from_false, not-true, eqb-true, eq-eqb, le-leb, lt-ltb}
-use Rattle.std.proofs.lemmas.List.Sums.{sum_by-cons}
-use Rattle.std.proofs.lemmas.Bool.Decides.{nat_tests}
-use Rattle.schedule.specs.{declared.hop.Hop.Hop, Links.{GroupValue, TopologyValue, has_link, is_usable, reversed_group, reversed_of}, Rows.everywhere}
-use Rattle.schedule.specs.{Sends.{ScheduleValue, link_of}, Placed.{PlacementValue, all_pairs, holds, same_pair}, Fitting.{Fits, load, rounds_at}}
-use Rattle.schedule.specs.{Bags.{Bag, Bags, added, contributions, one_of_each}, Summing.{Sums, bags_after, goes_to}}
-use Rattle.schedule.proofs.{First.{Among, among_each, among_map, any_among, any_found, each_filter, filter_among}, Ordered.{IsCell, among_from_any, grid_cells}}
-use Rattle.schedule.proofs.{Placing.pair_is, Turning.{turned_usable, turned_has, one_if}}
+use Rattle.std.proofs.lemmas.{List.{Elements.{All-from_recursion, recursion_from_All}, FromFn.get_or-map-range_with_len}, Bool.{cases_Bool, and_parts, and_from, both_ways, not_from_false, not-true, eqb-true, eq-eqb, le-leb, lt-ltb}}
+use Rattle.std.{proofs.lemmas.{List.Sums.sum_by-cons, Bool.Decides.nat_tests}, specs.List.AllByRecursion}
+use Rattle.schedule.specs.{declared.hop.Hop.Hop, Links.{GroupValue, TopologyValue, has_link, is_usable, reversed_group, reversed_of}, Rows.everywhere, Sends.{ScheduleValue, link_of}, Placed.{PlacementValue, all_pairs, holds, same_pair}}
+use Rattle.schedule.specs.{Fitting.{Fits, load, rounds_at}, Bags.{Bag, Bags, added, contributions, one_of_each}, Summing.{Sums, bags_after, goes_to}}
+use Rattle.schedule.proofs.{First.{Among, among_each, among_map, any_among, any_found, each_filter, filter_among}, Ordered.{IsCell, among_from_any, grid_cells}, Placing.pair_is, Turning.{turned_usable, turned_has, one_if}}
 use Rattle.inversion.specs.Reductions.{HeldBySome}
-use Rattle.node_cuts.specs.{declared.sets.Sets.Sets, Sides.NodeSet, Cuts.{enters, is_needed, need_of, stands_in, width_by}}
-use Rattle.node_cuts.proofs.Crossing.{Enters, later, sends_of_their_own}
+use Rattle.node_cuts.{specs.{declared.sets.Sets.Sets, Sides.NodeSet, Cuts.{enters, is_needed, need_of, stands_in, width_by}}, proofs.Crossing.{Enters, later, sends_of_their_own}}
 
 -- ---- the sends turned round, each in its step
 

@@ -1,14 +1,13 @@
 -- A reduction has the cuts of the collective of which it is the inverse.
-use Rattle.std.proofs.Common.{◌≡◌, ℕ, ◌<◌, true, refl, sym, ap, ◌∙◌, arith, ◌*◌, filter, map}
-use Rattle.std.proofs.lemmas.Bool.Decides.{nat_tests}
+use Rattle.std.proofs.{Common.{◌≡◌, ℕ, ◌<◌, true, refl, sym, ap, ◌∙◌, arith, ◌*◌, filter, map}, lemmas.Bool.Decides.nat_tests}
 use Rattle.schedule.specs.Links.{TopologyValue}
 use Rattle.collective_spec.specs.{declared.{instance.Instance.Instance, kind.Kind.Kind, spec.Spec.Spec}, Collectives.{IsSpec, adds_up, kind_in, spec_instance}}
 use Rattle.collective_spec.specs.declared.kind.Kind.TheVariants as kind
 use Rattle.collective_spec.specs.declared.spec.Spec.TheVariants as spec
 use Rattle.candidate_order.specs.{declared.candidate.Candidate.Candidate, Copied.{copied_kind, copied_spec}}
 use Rattle.candidate_formula.proofs.Copying.{same_instance}
-use Rattle.node_cuts.specs.{declared.{floor.Floor.Floor, sets.Sets.Sets}, Sides.{NodeSet, mask_of, node_sets}, Cuts.{first_cut_of, need_of, width_by}}
-use Rattle.node_cuts.specs.{Cutting.cut_in, Floors.{first_greatest, floor_of, has_need, least_count}, Tables.{IsTableOf, TableValue, table_of}}
+use Rattle.node_cuts.specs.{declared.{floor.Floor.Floor, sets.Sets.Sets}, Sides.{NodeSet, mask_of, node_sets}, Cuts.{first_cut_of, need_of, width_by}, Cutting.cut_in, Floors.{first_greatest, floor_of, has_need, least_count}}
+use Rattle.node_cuts.specs.Tables.{IsTableOf, TableValue, table_of}
 
 least_alike : (k : Kind) (nodes : ℕ) → least_count (copied_kind k) nodes ≡ least_count k nodes
 least_alike kind.Broadcast nodes = refl

@@ -1,6 +1,5 @@
 -- What an engine over another owes of its record, by what the other owes of its own.
-use Rattle.std.specs.Prelude.{◌≡◌, true, false, Contains, not}
-use Rattle.std.proofs.{Common.{sym, subst, ⊎_elim}, lemmas.Bool.{cases_Bool, not_from_false}}
+use Rattle.std.{specs.Prelude.{◌≡◌, true, false, Contains, not}, proofs.{Common.{sym, subst, ⊎_elim}, lemmas.Bool.{cases_Bool, not_from_false}}}
 use Rattle.list_laws.proofs.Members.{Contains-filter}
 use Rattle.schedule.specs.Solving.{Solvable}
 use Rattle.collective_spec.specs.Collectives.{adds_up, spec_instance}

@@ -1,12 +1,10 @@
 -- What is kept when a candidate is added to the record, and when an engine is new.
-use Rattle.std.proofs.Common.{◌≡◌, ℕ, ◌<◌, true, false, List, [], ◌∷◌, ◌++◌, Some, None, refl, sym, ap, ◌∙◌, subst, arith, All, Option}
-use Rattle.std.proofs.lemmas.{Bool.false≢true, List.Elements.recursion_from_All}
+use Rattle.std.proofs.{Common.{◌≡◌, ℕ, ◌<◌, true, false, List, [], ◌∷◌, ◌++◌, Some, None, refl, sym, ap, ◌∙◌, subst, arith, All, Option}, lemmas.{Bool.false≢true, List.Elements.recursion_from_All}}
 use Rattle.schedule.specs.{Links.TopologyValue, Judging.group_at}
 use Rattle.candidate_order.specs.{declared.candidate.Candidate.Candidate, Frontiers.QuestionValue}
 use Rattle.engine_rules.specs.{declared.settled.Settled.Settled, Outcomes.RecordValue}
 use Rattle.engine_rules.specs.declared.settled.Settled.TheVariants as settled
-use Rattle.link_faults.specs.{Narrowed.narrowed, Carrying.{IsOldRefuted, is_carried, not_carried}}
-use Rattle.link_faults.proofs.Recorded.{alone_more, more_carried, more_kept, none_carried}
+use Rattle.link_faults.{specs.{Narrowed.narrowed, Carrying.{IsOldRefuted, is_carried, not_carried}}, proofs.Recorded.{alone_more, more_carried, more_kept, none_carried}}
 use Rattle.degraded_links.specs.Keeping.{HasNoneCarried, RefutesCarried, StopsAlike, question_over}
 
 -- the engine within is one for what a fault left

@@ -1,6 +1,5 @@
 -- What a record that refutes carried candidates says of the frontier that a search gave.
-use Rattle.std.{proofs.Common.{◌≡◌, true, false, List, All, Contains, sym, subst, ◌∙◌, ⊎_elim}, specs.List.Sorted.IsPermutation}
-use Rattle.std.proofs.lemmas.{Bool.{false≢true, false_from_ne_true}, List.Elements.All-contains_itself}
+use Rattle.std.{proofs.{Common.{◌≡◌, true, false, List, All, Contains, sym, subst, ◌∙◌, ⊎_elim}, lemmas.{Bool.{false≢true, false_from_ne_true}, List.Elements.All-contains_itself}}, specs.List.Sorted.IsPermutation}
 use Rattle.list_laws.proofs.Members.{Contains-map}
 use Rattle.candidate_order.specs.{declared.candidate.Candidate.Candidate, Frontiers.{FrontierValue, PointValue, UnknownValue, IsTried, solved, given_up}}
 use Rattle.engine_rules.specs.{declared.settled.Settled.{Settled, TheVariants.{Solved, Refuted, Unknown}}, Outcomes.RecordValue}

@@ -1,6 +1,5 @@
 -- What a search with an engine found for what copies, and for the collective in whose place that was searched.
-use Rattle.std.proofs.Common.{◌≡◌, ◌∙◌, Bool, true, false, List, [], ◌∷◌, ◌++◌, map, All, Contains, Option, refl, sym, ap, subst, if◌then◌else◌}
-use Rattle.std.{specs.List.Sorted.IsPermutation, proofs.lemmas.List.Elements.{All-contains, All-map, All-weaker}}
+use Rattle.std.{proofs.{Common.{◌≡◌, ◌∙◌, Bool, true, false, List, [], ◌∷◌, ◌++◌, map, All, Contains, Option, refl, sym, ap, subst, if◌then◌else◌}, lemmas.List.Elements.{All-contains, All-map, All-weaker}}, specs.List.Sorted.IsPermutation}
 use Rattle.list_laws.proofs.Each.{all_contained}
 use Rattle.schedule.{specs.{Sends.ScheduleValue, Inverse.inverse_of}, proofs.Inverting.inverse_inverse}
 use Rattle.collective_spec.specs.{declared.spec.Spec.Spec, Collectives.{IsSpec, adds_up}}
@@ -12,8 +11,7 @@ use Rattle.engine_rules.specs.{declared.settled.Settled.TheVariants.{Solved, Ref
 use Rattle.inversion.{specs.Inverted.{inverted_frontier, inverted_point}, proofs.Reducing.{reduction_right, reduction_searched}}
 use Rattle.pareto_search.{specs.Recorded.{StaysWithin, entries_of}, proofs.Entries.with}
 use Rattle.candidate_formula.specs.Searched.{copying_schedule, searched_question}
-use Rattle.engine_search.specs.{Searched.asked_frontier, Found.IsFoundBy}
-use Rattle.engine_search.proofs.{Searched.{searched_itself, searched_turned, within_alike}, Recorded.{each_unknown, refuted_within}}
+use Rattle.engine_search.{specs.{Searched.asked_frontier, Found.IsFoundBy}, proofs.{Searched.{searched_itself, searched_turned, within_alike}, Recorded.{each_unknown, refuted_within}}}
 
 module _ (formula : Candidate → FormulaValue) (suits : Candidate → ScheduleValue → Type 0) where
   -- ---- what copies, as the engine has it

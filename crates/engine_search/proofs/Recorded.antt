@@ -1,9 +1,8 @@
 -- What an engine's record says of the frontier that its search gave.
-use Rattle.std.{proofs.Common.{◌≡◌, inl, inr, List, ◌++◌, map, All, Contains, Option, refl, sym, ap, subst}, specs.List.Sorted.IsPermutation}
-use Rattle.std.proofs.lemmas.List.{Elements.{All-contains, All-map, Contains-append_cases}, Sorted.Contains-permutation}
+use Rattle.std.proofs.{Common.{◌≡◌, inl, inr, List, ◌++◌, map, All, Contains, Option, refl, sym, ap, subst}, lemmas.List.{Elements.{All-contains, All-map, Contains-append_cases}, Sorted.Contains-permutation}}
+use Rattle.std.specs.List.Sorted.{IsPermutation}
 use Rattle.list_laws.proofs.{Each.all_contained, Members.Contains-map}
-use Rattle.candidate_order.specs.declared.candidate.Candidate.{Candidate}
-use Rattle.candidate_order.specs.Frontiers.{QuestionValue, FrontierValue, UnknownValue, IsTried, IsWithin, solved, given_up}
+use Rattle.candidate_order.specs.{declared.candidate.Candidate.Candidate, Frontiers.{QuestionValue, FrontierValue, UnknownValue, IsTried, IsWithin, solved, given_up}}
 use Rattle.engine_rules.specs.{declared.settled.Settled.{Settled, TheVariants.{Solved, Refuted, Unknown}}, Outcomes.RecordValue}
 use Rattle.pareto_search.{specs.Recorded.{StaysWithin, entries_of}, proofs.Entries.{with, unknown_there, refuted_there}}
 

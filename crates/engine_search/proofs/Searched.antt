@@ -3,8 +3,7 @@ use Rattle.std.proofs.Common.{◌≡◌, ◌≢◌, ◌∙◌, ℕ, Bool, true, 
 use Rattle.schedule.specs.Links.{TopologyValue, reversed_of}
 use Rattle.collective_spec.specs.{declared.kind.Kind.Kind, Collectives.{adds_up, kind_in}, Kinds.allows}
 use Rattle.collective_spec.specs.declared.kind.Kind.TheVariants as kind
-use Rattle.candidate_order.specs.{declared.candidate.Candidate.Candidate, Copied.copied_question, Frontiers.{QuestionValue, IsWithin}, Listed.AreAllowed}
-use Rattle.candidate_order.specs.Ranges.{LimitsValue}
+use Rattle.candidate_order.specs.{declared.candidate.Candidate.Candidate, Copied.copied_question, Frontiers.{QuestionValue, IsWithin}, Listed.AreAllowed, Ranges.LimitsValue}
 use Rattle.candidate_formula.specs.{Formulas.{formula_for, searched_links}, Questions.copying_question, Sizes.size_of, Searched.searched_question}
 use Rattle.candidate_formula.proofs.{CopyingQuestions.reduced_formula, Copying.{copied_stays, same_allowed}, TurnedSize.copied_size}
 

@@ -3,8 +3,7 @@ use Rattle.std.{proofs.Common.{arith, ◌≡◌, Bool, true, false, List, [], �
 use Rattle.text_lines.specs.Check.{refuse}
 use Rattle.candidate_order.specs.{declared.candidate.Candidate.Candidate, Frontiers.{QuestionValue, PointValue, UnknownValue, FrontierValue}}
 use Rattle.report_form.specs.Tests.{is_better}
-use Rattle.frontier_audit.specs.{declared.verdict.Reason.TheVariants.{CandidateMissing, MarkWrong}, Denials.{Denial, Checked, each}, Beside.denial_of}
-use Rattle.frontier_audit.specs.Candidates.{candidates_within, is_listed, same_candidate}
+use Rattle.frontier_audit.specs.{declared.verdict.Reason.TheVariants.{CandidateMissing, MarkWrong}, Denials.{Denial, Checked, each}, Beside.denial_of, Candidates.{candidates_within, is_listed, same_candidate}}
 use Rattle.frontier_audit.specs.inner.Steps.{answers_checked, candidate_checked, has_mark_among, is_answered, is_bettered, is_given_up, is_left_answered, is_mark, mark_checked, unrefuted_among}
 use Rattle.frontier_audit.proofs.Walking.{first_decides, rest_decides}
 

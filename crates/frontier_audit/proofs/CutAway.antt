@@ -3,13 +3,11 @@ use Rattle.std.proofs.Common.{arith, ◌≡◌, ◌≢◌, Bool, true, false, Ok
 use Rattle.outer_ports.specs.{declared.part.Part.Part, Files.Files}
 use Rattle.collective_spec.specs.declared.kind.Kind.TheVariants as kind
 use Rattle.collective_spec.specs.Collectives.{IsSpec, adds_up, kind_in}
-use Rattle.candidate_order.specs.{declared.candidate.Candidate.Candidate, Copied.copied_question, Frontiers.{QuestionValue, IsSolvable}}
-use Rattle.candidate_order.proofs.Achieved.{achieved}
+use Rattle.candidate_order.{specs.{declared.candidate.Candidate.Candidate, Copied.copied_question, Frontiers.{QuestionValue, IsSolvable}}, proofs.Achieved.achieved}
 use Rattle.inversion.proofs.Copied.{solvable_exactly}
 use Rattle.node_cuts.proofs.Crossing.{first_says}
 use Rattle.candidate_formula.{specs.{Files.HasRefutation, Pruned.is_cut_away}, proofs.{Copying.copies, CutAway.{copied_cut, reduced_cut}}}
-use Rattle.frontier_audit.specs.{Denials.{Denial, Checked}, Auditing.refutation_checked, inner.Steps.refuted_checked}
-use Rattle.frontier_audit.proofs.Beside.{has_refutation, passes_refutation}
+use Rattle.frontier_audit.{specs.{Denials.{Denial, Checked}, Auditing.refutation_checked, inner.Steps.refuted_checked}, proofs.Beside.{has_refutation, passes_refutation}}
 
 -- ---- the check of a refuted candidate
 

@@ -1,16 +1,13 @@
 -- The candidates of a search come in its order.
-use Rattle.std.proofs.Common.{◌≡◌, ℕ, zero, suc, ◌+◌, ◌<◌, ◌≤◌, Bool, true, false, List, [], ◌∷◌, map, get_or, inl, refl, sym, ap, arith, ◌≢◌, if◌then◌else◌, flat_map, All, AllPairs}
-use Rattle.std.{specs.List.range_with_len, proofs.lemmas.{Bool.false≢true, List.Elements.{All-nil, All-cons, All-head, All-tail, All-filter}}}
-use Rattle.std.proofs.lemmas.List.Kept.{AllPairs-cons, AllPairs-filter}
+use Rattle.std.proofs.{Common.{◌≡◌, ℕ, zero, suc, ◌+◌, ◌<◌, ◌≤◌, Bool, true, false, List, [], ◌∷◌, map, get_or, inl, refl, sym, ap, arith, ◌≢◌, if◌then◌else◌, flat_map, All, AllPairs}, lemmas.Bool.false≢true}
+use Rattle.std.{proofs.lemmas.List.{Elements.{All-nil, All-cons, All-head, All-tail, All-filter}, Kept.{AllPairs-cons, AllPairs-filter}}, specs.List.range_with_len}
 use Rattle.list_laws.proofs.Pairs.{no_pairs, pairs_tail, pairs_head}
 use Rattle.collective_spec.specs.{Kinds.allows, Collectives.kind_in}
-use Rattle.candidate_order.specs.{declared.candidate.Candidate.Candidate, Costs.Before, Listed.candidate_at, Frontiers.QuestionValue}
-use Rattle.candidate_order.proofs.Orders.{Before-trans, Before-total, HasChunk}
+use Rattle.candidate_order.{specs.{declared.candidate.Candidate.Candidate, Costs.Before, Listed.candidate_at, Frontiers.QuestionValue}, proofs.Orders.{Before-trans, Before-total, HasChunk}}
 use Rattle.report_form.{specs.Tests.is_before, proofs.Tested.decides_before}
 use Rattle.send_encoding.proofs.{Everywhere.{in_map, in_flat, From, in_range}, Orders.pairs_append}
 use Rattle.candidate_formula.specs.Counts.{chunk_counts}
-use Rattle.frontier_audit.specs.{Candidates.{put_in_order, in_search_order, candidates_within}, inner.Steps.candidates_of_step}
-use Rattle.frontier_audit.proofs.Tried.{all_put, all_ordered}
+use Rattle.frontier_audit.{specs.{Candidates.{put_in_order, in_search_order, candidates_within}, inner.Steps.candidates_of_step}, proofs.Tried.{all_put, all_ordered}}
 
 -- ---- pairs of a list
 

@@ -7,8 +7,7 @@ use Rattle.collective_spec.specs.declared.kind.Kind.TheVariants as kind
 use Rattle.candidate_order.specs.Frontiers.{FrontierValue}
 use Rattle.allreduce_join.specs.Joins.{pairs_of}
 use Rattle.report_form.specs.Reports.{ReportValue, IsReport, parts_of}
-use Rattle.frontier_audit.specs.{Denials.in_part, Joining.{joined_checked, joins_checked}, Parts.{is_gather, is_reduce, points_of}, inner.Steps.joins_of}
-use Rattle.frontier_audit.proofs.Jointly.{one_part, parts_are}
+use Rattle.frontier_audit.{specs.{Denials.in_part, Joining.{joined_checked, joins_checked}, Parts.{is_gather, is_reduce, points_of}, inner.Steps.joins_of}, proofs.Jointly.{one_part, parts_are}}
 
 two_joined : (r : ReportValue) (f h : FrontierValue) (xs : List (Part × FrontierValue)) → xs ≡ (part.Reduce, f) ∷ (part.Gather, h) ∷ []
     → in_part part.Joined (joins_checked r.topology.topology (pairs_of (points_of is_reduce xs) (points_of is_gather xs)) r.joined) ≡ joined_checked r xs

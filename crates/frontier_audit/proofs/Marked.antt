@@ -1,13 +1,10 @@
 -- The checks of candidates and of marks pass exactly where all are answered and the marks are right.
-use Rattle.std.{proofs.Common.{arith, ◌≡◌, Bool, true, false, List, refl, ◌⊎◌, inl, inr, ◌||◌, ◌↔◌, not, Any, Contains, Decides}, specs.List.list_any}
-use Rattle.std.proofs.lemmas.{Bool.Decides.Decides-or, List.{Elements.All-contains, Folds.{Any-from_list_any, list_any-from_Any}}}
-use Rattle.std.proofs.lemmas.List.Sums.{AllPass-from_list_all, list_all-from_AllPass}
-use Rattle.candidate_order.specs.{declared.{candidate.Candidate.Candidate, mark.Mark.Mark}, Costs.{NoWorse, Better}}
-use Rattle.candidate_order.specs.Frontiers.{QuestionValue, PointValue, FrontierValue, IsWithin, IsAnswered}
+use Rattle.std.proofs.{Common.{arith, ◌≡◌, Bool, true, false, List, refl, ◌⊎◌, inl, inr, ◌||◌, ◌↔◌, not, Any, Contains, Decides}, lemmas.{Bool.Decides.Decides-or, List.{Elements.All-contains, Folds.{Any-from_list_any, list_any-from_Any}}}}
+use Rattle.std.{proofs.lemmas.List.Sums.{AllPass-from_list_all, list_all-from_AllPass}, specs.List.list_any}
+use Rattle.candidate_order.specs.{declared.{candidate.Candidate.Candidate, mark.Mark.Mark}, Costs.{NoWorse, Better}, Frontiers.{QuestionValue, PointValue, FrontierValue, IsWithin, IsAnswered}}
 use Rattle.candidate_order.specs.declared.mark.Mark.TheVariants as mark
 use Rattle.report_form.{specs.Tests.{is_better, is_no_worse}, proofs.Tested.{decides_no_worse, decides_better}}
-use Rattle.frontier_audit.specs.{Candidates.{is_listed, candidates_within}, Solutions.is_optimal, inner.Steps.{is_answered, is_mark}}
-use Rattle.frontier_audit.proofs.Tried.{listed_contains, contains_listed, within_listed, each_within}
+use Rattle.frontier_audit.{specs.{Candidates.{is_listed, candidates_within}, Solutions.is_optimal, inner.Steps.{is_answered, is_mark}}, proofs.Tried.{listed_contains, contains_listed, within_listed, each_within}}
 
 -- ---- answers
 

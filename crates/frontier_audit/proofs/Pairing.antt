@@ -1,6 +1,5 @@
 -- The joined points of an allreduce, pair by pair.
-use Rattle.std.proofs.lemmas.Bool.Decides.{nat_tests}
-use Rattle.std.proofs.lemmas.Grind.{common_steps}
+use Rattle.std.proofs.lemmas.{Bool.Decides.nat_tests, Grind.common_steps}
 use Rattle.std.proofs.Common.{arith, ◌≡◌, ℕ, zero, suc, ◌+◌, ◌<◌, ◌≤◌, Bool, true, false, List, [], ◌∷◌, ◌++◌, length, map, take, drop, get_or, Option, None, Some, add-one, append_assoc, append-nil, refl, sym, ap, ◌∙◌, subst, ◌==◌, ◌&&◌, if◌then◌else◌, filter, slice_get}
 use Rattle.std.proofs.lemmas.{Bool.eq-eqb, List.{map-append, take-append-drop, take_more, take_all, Elements.filter-append}, Option.slice_get-get_or}
 use Rattle.schedule.specs.Links.{TopologyValue}
@@ -9,8 +8,7 @@ use Rattle.collective_spec.specs.Collectives.{chunks_of}
 use Rattle.candidate_order.specs.Frontiers.{PointValue}
 use Rattle.allreduce_join.specs.{Joins.{join_of, pairs_of}, Judging.joined_verdict_of}
 use Rattle.inversion.specs.Saying.{says_sums}
-use Rattle.frontier_audit.specs.{declared.verdict.Reason.TheVariants.JoinWrong, Denials.Denial, Joining.{joins_checked, same_point}, Beside.denial_of}
-use Rattle.frontier_audit.specs.inner.Steps.{JoinsSay, join_checked, pairs_with, is_join}
+use Rattle.frontier_audit.specs.{declared.verdict.Reason.TheVariants.JoinWrong, Denials.Denial, Joining.{joins_checked, same_point}, Beside.denial_of, inner.Steps.{JoinsSay, join_checked, pairs_with, is_join}}
 use Rattle.frontier_audit.proofs.{Joined.point_is, Walking.{failing_denies, first_decides, passing_denies_none, rest_decides}}
 
 abbrev Pairs : Type 0

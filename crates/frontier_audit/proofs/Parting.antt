@@ -1,6 +1,6 @@
 -- The checks of a part, one after the other, and of the parts.
-use Rattle.std.proofs.Common.{arith, ◌≡◌, ℕ, ◌<◌, Bool, true, List, [], ◌∷◌, length, map, get_or, Option, None, Some, Ok, Err, refl, sym, ap, ◌∙◌, subst, ◌==◌, not, AllPairs, Contains, IsTrue}
-use Rattle.std.proofs.{Math.ListN.get_or-map, lemmas.List.{length-map, Elements.{All-nil, All-cons}, Kept.AllPairs-cons}}
+use Rattle.std.proofs.{Common.{arith, ◌≡◌, ℕ, ◌<◌, Bool, true, List, [], ◌∷◌, length, map, get_or, Option, None, Some, Ok, Err, refl, sym, ap, ◌∙◌, subst, ◌==◌, not, AllPairs, Contains, IsTrue}, Math.ListN.get_or-map}
+use Rattle.std.proofs.lemmas.List.{length-map, Elements.{All-nil, All-cons}, Kept.AllPairs-cons}
 use Rattle.text_lines.specs.Check.{◌>>=◌}
 use Rattle.outer_ports.specs.{declared.{part.Part.Part, proof_name.{FileKind.TheVariants.Partial, ProofName.ProofName}}, Files.{Files, kind_number, part_number}, Port.Tells, Shelf.FilesStay}
 use Rattle.outer_ports.specs.declared.part.Part.TheVariants as part
@@ -9,10 +9,8 @@ use Rattle.collective_spec.specs.declared.kind.Kind.TheVariants as kind
 use Rattle.candidate_order.specs.Frontiers.{QuestionValue, FrontierValue}
 use Rattle.report_form.specs.Reports.{ReportValue, IsReport, IsFrontier, parts_of, question_of}
 use Rattle.send_encoding.proofs.Orders.{one_pairs}
-use Rattle.frontier_audit.specs.{Denials.{Denial, Checked, each, in_part}, Auditing.{unknown_checked, frontier_checked}, Beside.{denial_of, AnswersBeside}}
-use Rattle.frontier_audit.specs.inner.Steps.{answers_checked, part_checked, point_checked, refuted_checked}
-use Rattle.frontier_audit.proofs.Merging.{LooksAt, Separate, goes_on, later, looks_each, looks_then, plain, plainly_then, since, stops, then_plainly}
-use Rattle.frontier_audit.proofs.Said.{looks_refuted, looks_unknown}
+use Rattle.frontier_audit.specs.{Denials.{Denial, Checked, each, in_part}, Auditing.{unknown_checked, frontier_checked}, Beside.{denial_of, AnswersBeside}, inner.Steps.{answers_checked, part_checked, point_checked, refuted_checked}}
+use Rattle.frontier_audit.proofs.{Merging.{LooksAt, Separate, goes_on, later, looks_each, looks_then, plain, plainly_then, since, stops, then_plainly}, Said.{looks_refuted, looks_unknown}}
 
 -- ---- a part
 

@@ -5,10 +5,9 @@ use Rattle.cnf_formula.specs.Formulas.{FormulaValue}
 use Rattle.candidate_order.{specs.{declared.candidate.Candidate.Candidate, Costs.Before, Frontiers.{QuestionValue, UnknownValue}}, proofs.Orders.Before-irrefl}
 use Rattle.candidate_formula.specs.{Formulas.formula_for, Files.{candidate_of, file_of}}
 use Rattle.proof_audit.specs.{declared.verdict.FileVerdict.FileVerdict, Proving.{is_refutation, is_spent_log}, Files.{file_verdict, IsFileVerdict}}
-use Rattle.frontier_audit.specs.{declared.verdict.Reason.{Reason, TheVariants.{ProofRefused, CnfDiffers, PartialRefused}}, Denials.Denial, Candidates.same_candidate}
-use Rattle.frontier_audit.specs.{Auditing.{refutation_checked, unknown_checked}, Beside.{denial_of, AnswersBeside}, inner.Steps.{judged, refuted_checked}}
-use Rattle.frontier_audit.proofs.{Beside.{alone, by_verdicts, is_text_of, text_checked, proof_checked}, Tried.{same_is, same_itself}}
-use Rattle.frontier_audit.proofs.Merging.{LooksAt, Separate, goes_on, later, looks_then, reads_as, since, stops}
+use Rattle.frontier_audit.specs.{declared.verdict.Reason.{Reason, TheVariants.{ProofRefused, CnfDiffers, PartialRefused}}, Denials.Denial, Candidates.same_candidate, Auditing.{refutation_checked, unknown_checked}}
+use Rattle.frontier_audit.specs.{Beside.{denial_of, AnswersBeside}, inner.Steps.{judged, refuted_checked}}
+use Rattle.frontier_audit.proofs.{Beside.{alone, by_verdicts, is_text_of, text_checked, proof_checked}, Tried.{same_is, same_itself}, Merging.{LooksAt, Separate, goes_on, later, looks_then, reads_as, since, stops}}
 
 -- ---- one file
 

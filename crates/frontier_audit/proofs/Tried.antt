@@ -1,8 +1,7 @@
 -- The candidates of a search are just those within the limits.
 use Rattle.std.proofs.Common.{◌≡◌, ℕ, zero, suc, ◌+◌, ◌<◌, ◌≤◌, Bool, true, false, List, [], ◌∷◌, map, Decides, refl, sym, ap, ◌∙◌, ⊎_elim, arith, ◌||◌, ◌↔◌, if◌then◌else◌, filter, nat_le, All, Contains}
-use Rattle.std.{specs.List.{list_any, range_with_len}, proofs.lemmas.Bool.{and_parts, cases_eq, or_left, or_right, leb-true}}
-use Rattle.std.proofs.lemmas.{Bool.Decides.{Decides-and, Decides-eqb, Decides-like, same_from_decides}, List.Elements.{All-nil, All-cons, All-head, All-tail, All-contains}}
-use Rattle.std.proofs.lemmas.List.Folds.{list_any_at, Any-from_list_any}
+use Rattle.std.proofs.lemmas.{Bool.{and_parts, cases_eq, or_left, or_right, leb-true, Decides.{Decides-and, Decides-eqb, Decides-like, same_from_decides}}, List.Elements.{All-nil, All-cons, All-head, All-tail, All-contains}}
+use Rattle.std.{proofs.lemmas.List.Folds.{list_any_at, Any-from_list_any}, specs.List.{list_any, range_with_len}}
 use Rattle.collective_spec.specs.{Kinds.allows, Collectives.kind_in}
 use Rattle.candidate_order.specs.{declared.candidate.Candidate.Candidate, Listed.candidate_at, Frontiers.{QuestionValue, IsWithin}}
 use Rattle.send_encoding.proofs.{Everywhere.{in_map, in_flat, From, in_range}, Decoded.any_range, Members.kept}

@@ -1,14 +1,11 @@
 -- A refuted candidate has no solution, since its formula is satisfiable where it has one.
-use Rattle.std.proofs.Common.{◌≡◌, ◌≢◌, Bool, true, false, [], get_or, Option, None, Some, refl, sym, subst, arith, ◌↔◌, All, Contains}
-use Rattle.std.proofs.lemmas.List.Elements.{All-nil, All-cons, All-contains, All-contains_itself}
+use Rattle.std.proofs.{Common.{◌≡◌, ◌≢◌, Bool, true, false, [], get_or, Option, None, Some, refl, sym, subst, arith, ◌↔◌, All, Contains}, lemmas.List.Elements.{All-nil, All-cons, All-contains, All-contains_itself}}
 use Rattle.outer_ports.specs.{declared.part.Part.Part, Files.Files}
 use Rattle.outer_ports.specs.declared.part.Part.TheVariants as part
 use Rattle.schedule.{specs.Links.{IsTopology, reversed_of}, proofs.Turned.turned_topology}
-use Rattle.collective_spec.specs.{declared.kind.Kind.Kind, Patterns.PatternValue, Collectives.{IsSpec, adds_up, fits_kind, kind_in}}
-use Rattle.collective_spec.proofs.{Sized.{before_among, after_among, fitting_spec}, Chunks.{chunks_some, few_base, chunks_few}}
+use Rattle.collective_spec.{specs.{declared.kind.Kind.Kind, Patterns.PatternValue, Collectives.{IsSpec, adds_up, fits_kind, kind_in}}, proofs.{Sized.{before_among, after_among, fitting_spec}, Chunks.{chunks_some, few_base, chunks_few}}}
 use Rattle.collective_spec.specs.declared.kind.Kind.TheVariants as kind
-use Rattle.candidate_order.specs.{declared.candidate.Candidate.Candidate, Ranges.IsLimits, Copied.{copied_spec, copied_question}}
-use Rattle.candidate_order.specs.Frontiers.{QuestionValue, FrontierValue, IsWithin, IsSolvable, RightFrontier, instance_for}
+use Rattle.candidate_order.specs.{declared.candidate.Candidate.Candidate, Ranges.IsLimits, Copied.{copied_spec, copied_question}, Frontiers.{QuestionValue, FrontierValue, IsWithin, IsSolvable, RightFrontier, instance_for}}
 use Rattle.candidate_order.proofs.Orders.{has_chunk}
 use Rattle.round_encoding.{specs.Candidates.IsCandidate, proofs.Obeyed.all_map}
 use Rattle.inversion.proofs.Copied.{solvable_exactly}
@@ -16,8 +13,7 @@ use Rattle.cnf_formula.specs.Formulas.{Satisfiable}
 use Rattle.report_form.specs.Reports.{ReportValue, IsReport, IsFrontier, parts_of, kind_of, question_of}
 use Rattle.frontier_audit.specs.{declared.verdict.AuditVerdict.TheVariants.Verified, Shelves.ShelfRight, Auditing.audit_of}
 use Rattle.frontier_audit.proofs.{Shelves.{unsatisfiable, question}, Audited.shelf_right, CutAway.cut_unsolvable, Right.{apart_in, each_apart, verified_right}}
-use Rattle.candidate_formula.specs.{Formulas.formula_for, Pruned.is_cut_away}
-use Rattle.candidate_formula.proofs.{CopyingQuestions.{within_by, reduced_formula}, Copying.{copied_keeps, copies, same_allowed}, Exact.exact_for}
+use Rattle.candidate_formula.{specs.{Formulas.formula_for, Pruned.is_cut_away}, proofs.{CopyingQuestions.{within_by, reduced_formula}, Copying.{copied_keeps, copies, same_allowed}, Exact.exact_for}}
 
 -- ---- the spec of a part
 

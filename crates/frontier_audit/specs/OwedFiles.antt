@@ -2,8 +2,7 @@
 use Rattle.std.specs.Prelude.{◌≡◌, false, All, Any, Contains}
 use Rattle.outer_ports.specs.{declared.{proof_name.ProofName.ProofName, part.Part.Part}, Files.Files}
 use Rattle.candidate_order.specs.{declared.candidate.Candidate.Candidate, Frontiers.IsWithin}
-use Rattle.candidate_formula.specs.{Formulas.formula_for, Files.{candidate_of, FrontierFiles, HasRefutation}, Pruned.{HasOwnFiles, is_cut_away}}
-use Rattle.candidate_formula.specs.Begun.{BegunOnly}
+use Rattle.candidate_formula.specs.{Formulas.formula_for, Files.{candidate_of, FrontierFiles, HasRefutation}, Pruned.{HasOwnFiles, is_cut_away}, Begun.BegunOnly}
 use Rattle.proof_audit.specs.Kept.{BothStay}
 use Rattle.topology_text.specs.Value.{NamedTopologyValue}
 use Rattle.report_form.specs.Reports.{WordsValue, ReportValue, parts_of, question_of}

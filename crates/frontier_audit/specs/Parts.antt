@@ -4,8 +4,7 @@ use Rattle.outer_ports.specs.{Files.Files, declared.{part.Part.Part, proof_name.
 use Rattle.outer_ports.specs.declared.part.Part.TheVariants as part
 use Rattle.proof_rules.specs.Refuting.{Exhausted}
 use Rattle.candidate_order.specs.{declared.candidate.Candidate.Candidate, Frontiers.{QuestionValue, FrontierValue, PointValue, RightFrontier, Searched}}
-use Rattle.candidate_formula.specs.{Formulas.{formula_for, Suits}, Searched.{copying_schedule, searched_question}, Files.{candidate_of, HasRefutation}}
-use Rattle.candidate_formula.specs.Pruned.{HasOwnFiles, is_cut_away}
+use Rattle.candidate_formula.specs.{Formulas.{formula_for, Suits}, Searched.{copying_schedule, searched_question}, Files.{candidate_of, HasRefutation}, Pruned.{HasOwnFiles, is_cut_away}}
 use Rattle.report_form.specs.Reports.{ReportValue, question_of}
 
 -- the frontier of a part is right

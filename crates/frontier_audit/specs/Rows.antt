@@ -1,12 +1,11 @@
 -- Reports with the files beside them.
 use Rattle.std.specs.Prelude.{ℕ, ◌==◌, ◌&&◌, Bool, true, false, if◌then◌else◌, List, [], ◌∷◌, ◌++◌, None, Some, codes}
-use Rattle.outer_ports.specs.declared.{part.Part.TheVariants.Whole, proof_name.{FileKind.TheVariants.{Cnf, Lrat, Partial}, ProofName.ProofName}}
-use Rattle.outer_ports.specs.Files.{Files, part_number, kind_number}
+use Rattle.outer_ports.specs.{declared.{part.Part.TheVariants.Whole, proof_name.{FileKind.TheVariants.{Cnf, Lrat, Partial}, ProofName.ProofName}}, Files.{Files, part_number, kind_number}}
 use Rattle.cnf_formula.specs.Formulas.{FormulaValue}
 use Rattle.lrat_text.specs.Printing.{cnf_text}
 use Rattle.schedule.specs.{declared.hop.Hop.Hop, Placed.PlacementValue, Rows.send}
-use Rattle.candidate_order.specs.{declared.{candidate.Candidate.Candidate, mark.Mark.{Mark, TheVariants.{Optimal, Open}}, pruning.Pruning.Pruning}, Rows.at}
-use Rattle.candidate_order.specs.{Ranges.unpruned, Frontiers.{QuestionValue, PointValue, UnknownValue, FrontierValue}}
+use Rattle.candidate_order.specs.{declared.{candidate.Candidate.Candidate, mark.Mark.{Mark, TheVariants.{Optimal, Open}}, pruning.Pruning.Pruning}, Rows.at, Ranges.unpruned}
+use Rattle.candidate_order.specs.Frontiers.{QuestionValue, PointValue, UnknownValue, FrontierValue}
 use Rattle.collective_spec.specs.declared.kind.Kind.{Kind, TheVariants.{Broadcast, Custom}}
 use Rattle.topology_text.specs.{declared.family_kind.FamilyKind.TheVariants.Ring, Family.family_of, Value.NamedTopologyValue}
 use Rattle.report_form.specs.{Reports.{WordsValue, ReportValue, question_of}, Rows.{point, two_nodes, relay_report, allreduce_report}}

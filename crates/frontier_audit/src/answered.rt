@@ -2,8 +2,7 @@
 //! are right.
 
 ghost use Rattle.std.specs.{Prelude.{◌≡◌, ◌++◌, not, IfOk, OnOk}, List.find, Option.option_map};
-ghost use Rattle.frontier_audit.specs.Candidates.{candidates_within};
-ghost use Rattle.frontier_audit.specs.inner.Steps.{has_mark_among, is_bettered, is_given_up, is_left_answered, is_settled, unrefuted_among, is_mark};
+ghost use Rattle.frontier_audit.specs.{Candidates.candidates_within, inner.Steps.{has_mark_among, is_bettered, is_given_up, is_left_answered, is_settled, unrefuted_among, is_mark}};
 
 use crate::part_question::PartQuestion;
 use crate::verdict::Reason;

@@ -3,8 +3,7 @@
 ghost use Rattle.std.specs.Prelude.{◌≡◌, All, AllPairs, IfOk, IsTrue};
 ghost use Rattle.outer_ports.specs.{Port.{HasCause, Tells}, Shelf.FilesStay};
 ghost use Rattle.candidate_order.specs.{Costs.Before, Frontiers.{IsUnknown, IsWithin}};
-ghost use Rattle.frontier_audit.specs.{Denials.each, Auditing.{refutation_checked, unknown_checked}, Beside.{denial_of, AnswersBeside}};
-ghost use Rattle.frontier_audit.specs.inner.Steps.{judged, refuted_checked};
+ghost use Rattle.frontier_audit.specs.{Denials.each, Auditing.{refutation_checked, unknown_checked}, Beside.{denial_of, AnswersBeside}, inner.Steps.{judged, refuted_checked}};
 
 use crate::part_question::PartQuestion;
 use crate::verdict::Reason;

@@ -4,8 +4,7 @@ ghost use Rattle.std.specs.Prelude.{◌≡◌, ◌&&◌, ◌<◌, [], ◌∷◌,
 ghost use Rattle.collective_spec.specs.Collectives.{chunks_of};
 ghost use Rattle.allreduce_join.specs.{Joins.{IsJoinable, pairs_of}, Judging.joined_verdict_of};
 ghost use Rattle.inversion.specs.Saying.{says_sums};
-ghost use Rattle.frontier_audit.specs.{Joining.{IsSummable, joins_checked, same_point}, Beside.denial_of};
-ghost use Rattle.frontier_audit.specs.inner.Steps.{JoinsSay, join_checked, joins_of, pairs_with};
+ghost use Rattle.frontier_audit.specs.{Joining.{IsSummable, joins_checked, same_point}, Beside.denial_of, inner.Steps.{JoinsSay, join_checked, joins_of, pairs_with}};
 
 use crate::verdict::Reason;
 use allreduce_join::{all_summed, join_points};

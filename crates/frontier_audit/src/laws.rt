@@ -8,8 +8,7 @@ ghost use Rattle.candidate_order.specs.{Costs.Before, Frontiers.{QuestionValue, 
 ghost use Rattle.allreduce_join.specs.Joins.{Joins};
 ghost use Rattle.report_form.specs.Reports.{ReportValue, IsReport, question_of};
 ghost use Rattle.candidate_formula.specs.{Formulas.formula_for, Files.file_of, Pruned.is_cut_away};
-ghost use Rattle.frontier_audit.specs.{OwedFiles.Proves, Shelves.ShelfRight, Rights.IsRight, Candidates.candidates_within, Auditing.audit_of};
-ghost use Rattle.frontier_audit.specs.Parts.{is_reduce, is_gather, points_of};
+ghost use Rattle.frontier_audit.specs.{OwedFiles.Proves, Shelves.ShelfRight, Rights.IsRight, Candidates.candidates_within, Auditing.audit_of, Parts.{is_reduce, is_gather, points_of}};
 
 use crate::verdict::AuditVerdict;
 use candidate_order::Candidate;

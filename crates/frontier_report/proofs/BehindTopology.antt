@@ -4,8 +4,7 @@ use Rattle.text_lines.{specs.{Text.{Row, Place, rows_of, start}, Check.{â—Œ>>=â—
 use Rattle.schedule.specs.Links.{GroupValue}
 use Rattle.collective_spec.specs.Patterns.{PatternValue}
 use Rattle.topology_text.specs.{Value.named_with, Reading.{header_line, nodes_line, groups_at, pattern_at}}
-use Rattle.report_form.specs.{declared.fault.ReportCode.ReportCode, Lines.among, Reports.ReportValue, SynthLine.{AskedValue, asked_line, root_of, words_from}}
-use Rattle.report_form.specs.Reading.{body_of, is_same, report_of, version_line}
+use Rattle.report_form.specs.{declared.fault.ReportCode.ReportCode, Lines.among, Reports.ReportValue, SynthLine.{AskedValue, asked_line, root_of, words_from}, Reading.{body_of, is_same, report_of, version_line}}
 use Rattle.report_form.proofs.ReportTaken.{after_pattern, after_groups, after_root, after_names, after_same, after_asked, after_head, report_is}
 use Rattle.report_form.specs.declared.fault.ReportCode.TheVariants as code
 use Rattle.frontier_report.specs.inner.Header.{header_at}

@@ -1,11 +1,9 @@
 -- No part of the topology leaves more lines and numbers than there were.
 use Rattle.std.proofs.Common.{◌≡◌, ℕ, ◌+◌, ◌^◌, ◌<◌, ◌≤◌, suc, Bool, true, false, List, [], ◌∷◌, map, length, drop, Option, None, Result, Ok, Err, refl, sym, ap, ◌∙◌, arith, length-drop, ◌==◌, if◌then◌else◌}
-use Rattle.text_lines.specs.{Text.{Row, Place, rows_of, start, onto_row}, Check.{first, line_part}}
-use Rattle.text_lines.proofs.{Checks.part_ok, Gives.as_many}
+use Rattle.text_lines.{specs.{Text.{Row, Place, rows_of, start, onto_row}, Check.{first, line_part}}, proofs.{Checks.part_ok, Gives.as_many}}
 use Rattle.schedule.specs.Links.{GroupValue}
 use Rattle.collective_spec.specs.Patterns.{PatternValue}
-use Rattle.topology_text.specs.{Spelling.{group_words, custom_lines}, Reading.{groups_at, nodes_line, pattern_at}}
-use Rattle.topology_text.proofs.{Groups.groups_give, Patterns.pattern_gives}
+use Rattle.topology_text.{specs.{Spelling.{group_words, custom_lines}, Reading.{groups_at, nodes_line, pattern_at}}, proofs.{Groups.groups_give, Patterns.pattern_gives}}
 use Rattle.report_form.specs.{SynthLine.{AskedValue, asked_line}, Reading.version_line}
 use Rattle.report_lines.specs.Room.{HasRoom, Onward}
 

@@ -1,7 +1,6 @@
 -- What the reader's answer says of the text.
 use Rattle.std.proofs.Common.{◌≡◌, ◌≢◌, ℕ, List, Result, Ok, Err, ◌⊎◌, inl, inr, ap, ◌∙◌, subst, IfOk, IfErr}
-use Rattle.report_form.specs.{declared.fault.{ReportCode.{ReportCode, TheVariants.OutOfMemory}, ReportFault.ReportFault}, Reports.{ReportValue, IsReport}}
-use Rattle.report_form.specs.{Spelling.report_text, Reading.report_of, Answer.Answers, First.FailsFirstAt}
+use Rattle.report_form.specs.{declared.fault.{ReportCode.{ReportCode, TheVariants.OutOfMemory}, ReportFault.ReportFault}, Reports.{ReportValue, IsReport}, Spelling.report_text, Reading.report_of, Answer.Answers, First.FailsFirstAt}
 use Rattle.report_form.proofs.ReportTaken.{report_take}
 use Rattle.report_laws.proofs.{ReportAgain.report_again, FirstBlamed.first_is_blamed}
 

@@ -4,8 +4,7 @@ use Rattle.text_lines.specs.{Text.Place, Check.{◌>>=◌, line_part}, Repeated.
 use Rattle.schedule.specs.{declared.hop.Hop.Hop, Sends.IsSchedule}
 use Rattle.collective_spec.specs.Collectives.{chunks_in}
 use Rattle.candidate_order.specs.Frontiers.{QuestionValue, PointValue}
-use Rattle.report_form.specs.{declared.fault.ReportCode.ReportCode, Points.{HeadValue, rounds_line, send_line, schedule_at}}
-use Rattle.report_form.proofs.PointsTaken.{point_of, schedule_take}
+use Rattle.report_form.{specs.{declared.fault.ReportCode.ReportCode, Points.{HeadValue, rounds_line, send_line, schedule_at}}, proofs.PointsTaken.{point_of, schedule_take}}
 
 abbrev Scheduled : Type 0
 Scheduled = Result (PointValue × Place) (ReportCode × ℕ)

@@ -1,15 +1,12 @@
 -- The question of the collective that copies has the reduction's instance, chunks and limits, and is solvable where the reduction is.
 use Rattle.std.proofs.Common.{◌≡◌, ℕ, ◌*◌, ◌<◌, true, refl, arith, ◌↔◌, ◌≢◌}
-use Rattle.schedule.specs.{Links.{TopologyValue, reversed_of}, Placed.HeldByOne, Solving.Solvable, Summing.SummedSolvable, Rows.everywhere}
-use Rattle.schedule.proofs.Placing.{placement-placed}
-use Rattle.inversion.specs.Reductions.{HeldBySome}
-use Rattle.inversion.proofs.{Tightened.summed_exactly, Reducing.{question, root_alone, root_some, scattered_alone, scattered_some}}
-use Rattle.collective_spec.specs.{declared.{layout.Layout.{Layout, TheVariants.{Root, Scattered}}, kind.Kind.Kind, spec.Spec.Spec}, Kinds.allows}
-use Rattle.collective_spec.specs.{Collectives.{IsSpec, adds_up, chunks_in, chunks_of, kind_in, reduces}, Layouts.{laid_out, stands}}
+use Rattle.schedule.{specs.{Links.{TopologyValue, reversed_of}, Placed.HeldByOne, Solving.Solvable, Summing.SummedSolvable, Rows.everywhere}, proofs.Placing.placement-placed}
+use Rattle.inversion.{specs.Reductions.HeldBySome, proofs.{Tightened.summed_exactly, Reducing.{question, root_alone, root_some, scattered_alone, scattered_some}}}
+use Rattle.collective_spec.specs.{declared.{layout.Layout.{Layout, TheVariants.{Root, Scattered}}, kind.Kind.Kind, spec.Spec.Spec}, Kinds.allows, Collectives.{IsSpec, adds_up, chunks_in, chunks_of, kind_in, reduces}}
+use Rattle.collective_spec.specs.Layouts.{laid_out, stands}
 use Rattle.collective_spec.specs.declared.kind.Kind.TheVariants as kind
 use Rattle.collective_spec.specs.declared.spec.Spec.TheVariants as spec
-use Rattle.candidate_order.specs.{declared.candidate.Candidate.Candidate, Ranges.LimitsValue, Frontiers.{QuestionValue, IsSolvable, instance_for}}
-use Rattle.candidate_order.specs.Copied.{copied_kind, copied_question, copied_spec}
+use Rattle.candidate_order.specs.{declared.candidate.Candidate.Candidate, Ranges.LimitsValue, Frontiers.{QuestionValue, IsSolvable, instance_for}, Copied.{copied_kind, copied_question, copied_spec}}
 use Rattle.candidate_order.proofs.Achieved.{IsAchievable, achieved, solvable_by_one}
 
 instance_at : (k : Kind) (root : ℕ) (t : TopologyValue) (limits : LimitsValue) (x : Candidate) → k ≢ kind.Allreduce → instance_for (copied_question (question k root t limits)) x ≡ instance_for (question k root t limits) x

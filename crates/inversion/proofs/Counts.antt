@@ -1,7 +1,6 @@
 -- No count is uneven exactly where each bag has one of each node.
-use Rattle.std.proofs.Common.{◌≡◌, inl, inr, ℕ, zero, suc, ◌+◌, ◌<◌, ◌≤◌, false, not, eqb, List, [], ◌∷◌, ◌++◌, length, map, get_or, None, refl, ap, ◌∙◌, arith, All}
-use Rattle.std.{specs.List.{AllByRecursion, range_with_len}, proofs.lemmas.Bool.{cases_eq, eqb-true, eq-eqb, not-false, not_from_true}}
-use Rattle.std.proofs.lemmas.List.Elements.{All-from_recursion, recursion_from_All}
+use Rattle.std.proofs.{Common.{◌≡◌, inl, inr, ℕ, zero, suc, ◌+◌, ◌<◌, ◌≤◌, false, not, eqb, List, [], ◌∷◌, ◌++◌, length, map, get_or, None, refl, ap, ◌∙◌, arith, All}, lemmas.Bool.{cases_eq, eqb-true, eq-eqb, not-false, not_from_true}}
+use Rattle.std.{proofs.lemmas.List.Elements.{All-from_recursion, recursion_from_All}, specs.List.{AllByRecursion, range_with_len}}
 use Rattle.schedule.{specs.Bags.{Bag, Bags, one_of_each}, proofs.{Bagging.one_each, First.{found_none, none_found, each_append}}}
 use Rattle.inversion.specs.Judging.{count_of, counts_due, first_uneven}
 

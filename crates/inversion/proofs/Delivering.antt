@@ -1,11 +1,9 @@
 -- The inverse of a schedule that adds each chunk up somewhere brings it from there everywhere.
-use Rattle.std.proofs.{Common.{◌≡◌, ℕ, ◌<◌, true, List, length, get_or, sym, ap, ◌∙◌, subst, arith}, lemmas.List.FromFn.get_or-map-range_with_len}
-use Rattle.std.proofs.lemmas.List.Elements.{All-from_recursion, recursion_from_All}
-use Rattle.schedule.specs.{Links.{TopologyValue, reversed_of}, Sends.{ScheduleValue, IsSchedule, IsInRange}, Placed.{PlacementValue, all_pairs, holds}}
-use Rattle.schedule.specs.{Running.after, Fitting.Fits, Solving.{Solves, Solvable}, Bags.{contributions, one_of_each}, Inverse.inverse_of, Rows.everywhere}
-use Rattle.schedule.specs.Summing.{SummedSolvable, Sums, bags_after}
-use Rattle.schedule.proofs.{First.{among_each, each_filter, each_weaker}, Inverting.{inverse_in_range, inverse_inverse, same_rounds, valid_inverse}}
-use Rattle.schedule.proofs.{Ordered.{IsCell, among_from_any, grid_cells}, Returning.{own, returned}, Turning.fits_both_ways}
+use Rattle.std.proofs.{Common.{◌≡◌, ℕ, ◌<◌, true, List, length, get_or, sym, ap, ◌∙◌, subst, arith}, lemmas.List.{FromFn.get_or-map-range_with_len, Elements.{All-from_recursion, recursion_from_All}}}
+use Rattle.schedule.specs.{Links.{TopologyValue, reversed_of}, Sends.{ScheduleValue, IsSchedule, IsInRange}, Placed.{PlacementValue, all_pairs, holds}, Running.after, Fitting.Fits, Solving.{Solves, Solvable}}
+use Rattle.schedule.specs.{Bags.{contributions, one_of_each}, Inverse.inverse_of, Rows.everywhere, Summing.{SummedSolvable, Sums, bags_after}}
+use Rattle.schedule.proofs.{First.{among_each, each_filter, each_weaker}, Inverting.{inverse_in_range, inverse_inverse, same_rounds, valid_inverse}, Ordered.{IsCell, among_from_any, grid_cells}, Returning.{own, returned}}
+use Rattle.schedule.proofs.Turning.{fits_both_ways}
 use Rattle.inversion.{specs.Reductions.HeldBySome, proofs.Reaching.reached_back}
 
 -- where a bag has one of each node, it counts each node

@@ -1,12 +1,10 @@
 -- The counts of a store, which are held at 2, tell the first uneven count, and which it is.
-use Rattle.std.proofs.Common.{◌≡◌, ℕ, zero, suc, ◌+◌, ◌<◌, ◌≤◌, Bool, true, false, not, cond, eqb, List, [], ◌∷◌, length, map, get_or, Some, None, refl, sym, ap, ◌∙◌, subst, arith, min}
-use Rattle.std.{specs.{List.{AllByRecursion, find, range_with_len}, Option.{option_map, option_or}}, proofs.lemmas.Bool.{eq-eqb, ne_eqb, Decides.nat_tests}}
-use Rattle.schedule.specs.{Placed.{PlacementValue, IsPlacement}, Sends.{IsInRange, ScheduleValue}, Bags.{Bag, Bags, contributions, held_at_2}}
-use Rattle.schedule.specs.JoinedRuns.{joined_after}
+use Rattle.std.proofs.{Common.{◌≡◌, ℕ, zero, suc, ◌+◌, ◌<◌, ◌≤◌, Bool, true, false, not, cond, eqb, List, [], ◌∷◌, length, map, get_or, Some, None, refl, sym, ap, ◌∙◌, subst, arith, min}, lemmas.Bool.{eq-eqb, ne_eqb, Decides.nat_tests}}
+use Rattle.std.specs.{List.{AllByRecursion, find, range_with_len}, Option.{option_map, option_or}}
+use Rattle.schedule.specs.{Placed.{PlacementValue, IsPlacement}, Sends.{IsInRange, ScheduleValue}, Bags.{Bag, Bags, contributions, held_at_2}, JoinedRuns.joined_after}
 use Rattle.schedule.proofs.{First.{each_filter, each_weaker, each_append}, Placing.all_below}
 use Rattle.bag_runs.{specs.{Stores.{StoreValue, bag_in, bags_in, stored}, Kept.counted}, proofs.{Counting.counted_at, Tables.table_cell, Merging.min_none}}
-use Rattle.inversion.specs.{declared.verdict.SumVerdict.SumVerdict, Judging.{count_of, counts_due, counts_judged, first_uneven}}
-use Rattle.inversion.proofs.Uneven.{uneven_cons, uneven_node}
+use Rattle.inversion.{specs.{declared.verdict.SumVerdict.SumVerdict, Judging.{count_of, counts_due, counts_judged, first_uneven}}, proofs.Uneven.{uneven_cons, uneven_node}}
 use Rattle.inversion.specs.declared.verdict.SumVerdict.TheVariants as verdict
 
 -- ---- a bag is kept with places for more counts

@@ -1,10 +1,7 @@
 -- Of the sends of one chunk to one node, the first: what stands among them, in which order, and how many.
-use Rattle.std.proofs.Common.{◌≡◌, ℕ, zero, suc, ◌+◌, ◌≤◌, inl, inr, Bool, true, false, cond, List, [], ◌∷◌, refl, ap, ◌∙◌, arith, count_by, filter}
-use Rattle.std.{specs.List.{AllByRecursion, AllPairs}, proofs.lemmas.{Bool.{cases_Bool, not-true, not-false}, List.Elements.All-from_recursion}}
-use Rattle.std.proofs.lemmas.List.Sums.{sum_by-cons}
-use Rattle.schedule.specs.{declared.hop.Hop.Hop, Placed.same_pair}
-use Rattle.schedule.proofs.{First.{Among, InOrder, InOrder-filter, among_each, each_among, each_filter, among_kept, each_passes}, Placing.pair_is}
-use Rattle.schedule.proofs.Wasting.{to_pair}
+use Rattle.std.proofs.{Common.{◌≡◌, ℕ, zero, suc, ◌+◌, ◌≤◌, inl, inr, Bool, true, false, cond, List, [], ◌∷◌, refl, ap, ◌∙◌, arith, count_by, filter}, lemmas.{Bool.{cases_Bool, not-true, not-false}, List.Elements.All-from_recursion}}
+use Rattle.std.{proofs.lemmas.List.Sums.sum_by-cons, specs.List.{AllByRecursion, AllPairs}}
+use Rattle.schedule.{specs.{declared.hop.Hop.Hop, Placed.same_pair}, proofs.{First.{Among, InOrder, InOrder-filter, among_each, each_among, each_filter, among_kept, each_passes}, Placing.pair_is, Wasting.to_pair}}
 use Rattle.inversion.specs.Reductions.{firsts, is_other}
 
 -- ---- what stands in a list, and passes a test

@@ -1,6 +1,5 @@
 -- A right and searched frontier of a question of copying, with its schedules inverted, is one of another question, where the two fit.
-use Rattle.std.proofs.Common.{◌≡◌, ℕ, zero, suc, inl, inr, List, [], ◌∷◌, get_or, map, refl, sym, ap, ◌∙◌, subst, arith, ◌≢◌, ◌↔◌, ◌⊎◌, All, AllPairs, Any, Contains}
-use Rattle.std.proofs.lemmas.List.{length-map, Elements.{All-map, All-weaker}}
+use Rattle.std.proofs.{Common.{◌≡◌, ℕ, zero, suc, inl, inr, List, [], ◌∷◌, get_or, map, refl, sym, ap, ◌∙◌, subst, arith, ◌≢◌, ◌↔◌, ◌⊎◌, All, AllPairs, Any, Contains}, lemmas.List.{length-map, Elements.{All-map, All-weaker}}}
 use Rattle.schedule.specs.Inverse.{inverse_of}
 use Rattle.collective_spec.specs.declared.kind.Kind.TheVariants as kind
 use Rattle.collective_spec.specs.Collectives.{adds_up, kind_in}

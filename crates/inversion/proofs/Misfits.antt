@@ -1,11 +1,9 @@
 -- The first part of a schedule that does not fit, and the verdict where there is one and where there is none.
 use Rattle.std.proofs.Common.{arith, ◌≡◌, ℕ, ◌≤◌, length, Option, Some, None, refl, ◌↔◌, sum}
-use Rattle.schedule.specs.{declared.hop.Hop.Hop, Links.{GroupValue, TopologyValue}, Sends.ScheduleValue, Fitting.load, Placed.PlacementValue, Summing.Sums}
-use Rattle.schedule.specs.{Judging.{first_unlinked, first_overfull, group_at}, Bags.{Bags, contributions}, JoinedRuns.joined_after}
+use Rattle.schedule.specs.{declared.hop.Hop.Hop, Links.{GroupValue, TopologyValue}, Sends.ScheduleValue, Fitting.load, Placed.PlacementValue, Summing.Sums, Judging.{first_unlinked, first_overfull, group_at}, Bags.{Bags, contributions}}
+use Rattle.schedule.specs.JoinedRuns.{joined_after}
 use Rattle.bag_runs.proofs.JoinedSteps.{adding_throughout}
-use Rattle.inversion.specs.declared.verdict.SumVerdict.{SumVerdict}
-use Rattle.inversion.specs.Judging.{counts_judged, first_uneven, misfit_at, misfit_of, sum_judged, sum_verdict_of}
-use Rattle.inversion.proofs.Told.{sums_exactly}
+use Rattle.inversion.{specs.{declared.verdict.SumVerdict.SumVerdict, Judging.{counts_judged, first_uneven, misfit_at, misfit_of, sum_judged, sum_verdict_of}}, proofs.Told.sums_exactly}
 use Rattle.inversion.specs.declared.verdict.SumVerdict.TheVariants as verdict
 
 pub misfit_overfull : (t : TopologyValue) (s : ScheduleValue) (step group count : ℕ) (carrier : GroupValue) → None ≡ first_unlinked t s → Some (step, group) ≡ first_overfull t s → carrier ≡ group_at t group → count ≡ load carrier step s.sends → Some (verdict.Overfull step group count) ≡ misfit_of t s

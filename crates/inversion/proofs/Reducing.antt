@@ -1,17 +1,12 @@
 -- The questions of a reduction and of the collective that copies fit, over links turned round.
 use Rattle.std.proofs.{Common.{◌≡◌, ℕ, ◌*◌, ◌<◌, true, refl, sym, ap, ◌∙◌, arith, ◌≢◌, ◌%◌, filter}, Math.Nat.mod-lt, lemmas.Bool.{eqb-true, eq-eqb}}
-use Rattle.schedule.specs.{Links.{TopologyValue, reversed_of}, Sends.{ScheduleValue, IsSchedule, IsInRange}, Placed.{HeldByOne, all_pairs, holds}}
-use Rattle.schedule.specs.{Solving.{Solvable, Solves, Tight}, Summing.{SummedSolvable, Sums}, Inverse.inverse_of, Rows.everywhere}
-use Rattle.schedule.proofs.{First.{among_each, each_passes}, Inverted.inverse_sums, Inverting.{inverse_in_range, valid_inverse}, Ordered.among_from_any}
-use Rattle.schedule.proofs.Placing.{holds-placed, placement-placed}
-use Rattle.inversion.specs.{Reductions.HeldBySome, Inverted.inverted_frontier}
-use Rattle.inversion.proofs.{Delivering.solvable_back, Inverted.{Inverts, right_inverted, searched_inverted}}
-use Rattle.collective_spec.specs.{declared.{layout.Layout.{Layout, TheVariants.{Root, Scattered}}, kind.Kind.Kind, spec.Spec.Spec}, Layouts.{laid_out, stands}}
-use Rattle.collective_spec.specs.Collectives.{IsSpec, adds_up, reduces}
+use Rattle.schedule.specs.{Links.{TopologyValue, reversed_of}, Sends.{ScheduleValue, IsSchedule, IsInRange}, Placed.{HeldByOne, all_pairs, holds}, Solving.{Solvable, Solves, Tight}, Summing.{SummedSolvable, Sums}, Inverse.inverse_of}
+use Rattle.schedule.{specs.Rows.everywhere, proofs.{First.{among_each, each_passes}, Inverted.inverse_sums, Inverting.{inverse_in_range, valid_inverse}, Ordered.among_from_any, Placing.{holds-placed, placement-placed}}}
+use Rattle.inversion.{specs.{Reductions.HeldBySome, Inverted.inverted_frontier}, proofs.{Delivering.solvable_back, Inverted.{Inverts, right_inverted, searched_inverted}}}
+use Rattle.collective_spec.specs.{declared.{layout.Layout.{Layout, TheVariants.{Root, Scattered}}, kind.Kind.Kind, spec.Spec.Spec}, Layouts.{laid_out, stands}, Collectives.{IsSpec, adds_up, reduces}}
 use Rattle.collective_spec.specs.declared.kind.Kind.TheVariants as kind
 use Rattle.collective_spec.specs.declared.spec.Spec.TheVariants as spec
-use Rattle.candidate_order.specs.{Ranges.LimitsValue, Frontiers.{QuestionValue, FrontierValue, RightFrontier, Searched}, Copied.{copied_kind, copied_question}}
-use Rattle.candidate_order.proofs.Achieved.{achieved, solvable_by_one}
+use Rattle.candidate_order.{specs.{Ranges.LimitsValue, Frontiers.{QuestionValue, FrontierValue, RightFrontier, Searched}, Copied.{copied_kind, copied_question}}, proofs.Achieved.{achieved, solvable_by_one}}
 
 -- ---- layouts that place each chunk at one node
 

@@ -1,11 +1,9 @@
 -- Sends that are sorted: the images of a schedule's sends, in ascending order, are the sends of its inverse.
 use Rattle.std.proofs.Common.{◌≡◌, ℕ, Bool, true, false, not, ◌&&◌, List, [], ◌∷◌, length, map, get_or, inl, inr, ap, ◌∙◌, arith, ◌≢◌, reverse, AllPairs, IsPermutation}
-use Rattle.std.{specs.{Cmp.IsStrictWeakOrder, List.{IsDistinct, Sorted.IsSortedBy}}, proofs.lemmas.Bool.{and_parts, and_from, cases_Bool, both_ways, false_from_ne_true, not-true, true_from_ne_false}}
-use Rattle.std.proofs.{lemmas.List.{Elements.recursion_from_All, Sorted.{Contains-permutation, IsPermutation-sym, sorted_far}}, Math.Bool.and_comm}
-use Rattle.std.proofs.lemmas.Map.Keys.{IsDistinct-IsPermutation, IsDistinct-cons, apart_from_distinct}
+use Rattle.std.proofs.lemmas.{Bool.{and_parts, and_from, cases_Bool, both_ways, false_from_ne_true, not-true, true_from_ne_false}, List.{Elements.recursion_from_All, Sorted.{Contains-permutation, IsPermutation-sym, sorted_far}}}
+use Rattle.std.{proofs.{Math.Bool.and_comm, lemmas.Map.Keys.{IsDistinct-IsPermutation, IsDistinct-cons, apart_from_distinct}}, specs.{Cmp.IsStrictWeakOrder, List.{IsDistinct, Sorted.IsSortedBy}}}
 use Rattle.schedule.specs.{declared.hop.Hop.Hop, Sends.{ScheduleValue, IsSchedule, IsStep, hop_before}, Inverse.{in_order, inverse_hop, inverse_of}}
-use Rattle.schedule.proofs.{First.{Among-from_Contains, Contains-from_Among, InOrder-from_pairs, each_weaker}, Verdicts.sends_one_way}
-use Rattle.schedule.proofs.HopOrder.{Apart, among_in_order, ascending_apart, before_all, in_order_among, neither_before}
+use Rattle.schedule.proofs.{First.{Among-from_Contains, Contains-from_Among, InOrder-from_pairs, each_weaker}, Verdicts.sends_one_way, HopOrder.{Apart, among_in_order, ascending_apart, before_all, in_order_among, neither_before}}
 use Rattle.schedule.proofs.Inverting.{apart_inverses, one_order, valid_inverse}
 
 -- ---- the order is one that a sort can use

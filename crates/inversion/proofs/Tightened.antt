@@ -1,14 +1,9 @@
 -- Where some schedule solves an instance, one that wastes no send does; so where chunks can be brought everywhere, their sums can be had.
-use Rattle.std.{proofs.Common.{◌≡◌, ℕ, ◌-◌, ◌*◌, ◌≤◌, true, ◌&&◌, eqb, length, sym, subst, arith, ◌↔◌, filter}, specs.List.All}
-use Rattle.std.proofs.lemmas.List.Elements.{All-from_recursion, All-weaker, recursion_from_All}
-use Rattle.schedule.specs.{declared.hop.Hop.Hop, Links.{GroupValue, TopologyValue, has_link, is_usable, reversed_of}, Summing.SummedSolvable}
-use Rattle.schedule.specs.{Sends.{ScheduleValue, IsSchedule, IsInRange, IsStep, hop_before, is_hop_below, link_of}, Fitting.{Fits, load, rounds_at}}
-use Rattle.schedule.specs.{Placed.{PlacementValue, HeldByOne, IsPlacement, holds}, Solving.{Solvable, Solves, Tight}, Inverse.inverse_of, Rows.everywhere}
-use Rattle.schedule.proofs.{First.{InOrder-filter, InOrder-from_pairs, each_filter, each_weaker}, Inverted.inverse_sums}
-use Rattle.schedule.proofs.Inverting.{inverse_in_range, pairs_from_InOrder, valid_inverse}
-use Rattle.inversion.specs.Reductions.{HeldBySome, is_useful, tightened}
-use Rattle.inversion.proofs.{Delivering.solvable_back, Firsts.{counted_firsts, counted_kept, each_first, once_firsts, ordered_firsts}}
-use Rattle.inversion.proofs.Tightening.{kept_useful, same_after, useful_is}
+use Rattle.std.{proofs.{Common.{◌≡◌, ℕ, ◌-◌, ◌*◌, ◌≤◌, true, ◌&&◌, eqb, length, sym, subst, arith, ◌↔◌, filter}, lemmas.List.Elements.{All-from_recursion, All-weaker, recursion_from_All}}, specs.List.All}
+use Rattle.schedule.specs.{declared.hop.Hop.Hop, Links.{GroupValue, TopologyValue, has_link, is_usable, reversed_of}, Summing.SummedSolvable, Sends.{ScheduleValue, IsSchedule, IsInRange, IsStep, hop_before, is_hop_below, link_of}}
+use Rattle.schedule.specs.{Fitting.{Fits, load, rounds_at}, Placed.{PlacementValue, HeldByOne, IsPlacement, holds}, Solving.{Solvable, Solves, Tight}, Inverse.inverse_of, Rows.everywhere}
+use Rattle.schedule.proofs.{First.{InOrder-filter, InOrder-from_pairs, each_filter, each_weaker}, Inverted.inverse_sums, Inverting.{inverse_in_range, pairs_from_InOrder, valid_inverse}}
+use Rattle.inversion.{specs.Reductions.{HeldBySome, is_useful, tightened}, proofs.{Delivering.solvable_back, Firsts.{counted_firsts, counted_kept, each_first, once_firsts, ordered_firsts}, Tightening.{kept_useful, same_after, useful_is}}}
 
 -- what each send has, each that is kept has
 each_kept : (P : Hop → Type 0) (pre : PlacementValue) (s : ScheduleValue) → All P s.sends → All P (tightened pre s).sends

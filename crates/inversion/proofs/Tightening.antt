@@ -1,12 +1,9 @@
 -- A schedule without its wasted sends holds the same after each step, and wastes none.
-use Rattle.std.proofs.Common.{◌≡◌, ℕ, zero, suc, ◌+◌, ◌-◌, ◌<◌, Bool, true, false, ◌&&◌, ◌||◌, eqb, refl, sym, ap, ◌∙◌, subst, arith, filter, not}
-use Rattle.std.{specs.List.{AllByRecursion, list_any}, proofs.lemmas.Bool.{and_parts, and_from, eqb-true, eq-eqb, false≢true, not-true}}
-use Rattle.schedule.specs.{declared.hop.Hop.Hop, Sends.{ScheduleValue, IsSchedule, IsInRange}, Placed.{PlacementValue, holds, same_pair}}
-use Rattle.schedule.specs.Running.{after, brings, step_of}
-use Rattle.schedule.proofs.{First.{Among, among_each, each_among, each_filter, any_found, any_among, among_kept, each_passes}, Wasting.to_pair}
-use Rattle.schedule.proofs.{Placing.{pair_is, pair_itself, placed-alike}, Inverting.step_is}
-use Rattle.inversion.specs.Reductions.{is_useful, tightened}
-use Rattle.inversion.proofs.{Firsts.{each_first, first_among, first_of}, Reaching.{below_of, send_brings, still_held}}
+use Rattle.std.proofs.{Common.{◌≡◌, ℕ, zero, suc, ◌+◌, ◌-◌, ◌<◌, Bool, true, false, ◌&&◌, ◌||◌, eqb, refl, sym, ap, ◌∙◌, subst, arith, filter, not}, lemmas.Bool.{and_parts, and_from, eqb-true, eq-eqb, false≢true, not-true}}
+use Rattle.std.specs.List.{AllByRecursion, list_any}
+use Rattle.schedule.specs.{declared.hop.Hop.Hop, Sends.{ScheduleValue, IsSchedule, IsInRange}, Placed.{PlacementValue, holds, same_pair}, Running.{after, brings, step_of}}
+use Rattle.schedule.proofs.{First.{Among, among_each, each_among, each_filter, any_found, any_among, among_kept, each_passes}, Wasting.to_pair, Placing.{pair_is, pair_itself, placed-alike}, Inverting.step_is}
+use Rattle.inversion.{specs.Reductions.{is_useful, tightened}, proofs.{Firsts.{each_first, first_among, first_of}, Reaching.{below_of, send_brings, still_held}}}
 
 -- what is held stays held to any later step
 pub held_until : (pre : PlacementValue) (s : ScheduleValue) (k n j : ℕ) (pair : ℕ × ℕ) → k + j ≡ n → pair.0 < pre.chunks → pair.1 < pre.nodes → holds (after pre s k) pair ≡ true → holds (after pre s n) pair ≡ true

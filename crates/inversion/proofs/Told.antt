@@ -1,8 +1,6 @@
 -- The verdict is that it sums exactly where nothing fails.
 use Rattle.std.proofs.Common.{arith, ◌≡◌, ℕ, Bool, true, false, eqb, Option, Some, None, refl, length, ◌↔◌, cond, sum}
-use Rattle.schedule.specs.{declared.hop.Hop.Hop, Links.TopologyValue, Sends.ScheduleValue, Placed.PlacementValue}
-use Rattle.schedule.specs.{Bags.Bags, Summing.Sums}
-use Rattle.schedule.proofs.{Verdicts.fits_exactly, Bagging.counted_after}
+use Rattle.schedule.{specs.{declared.hop.Hop.Hop, Links.TopologyValue, Sends.ScheduleValue, Placed.PlacementValue, Bags.Bags, Summing.Sums}, proofs.{Verdicts.fits_exactly, Bagging.counted_after}}
 use Rattle.inversion.specs.declared.verdict.SumVerdict.TheVariants as verdict
 use Rattle.inversion.{specs.Judging.{count_of, sum_judged, sum_verdict_of}, proofs.Counts.{even_everywhere, none_uneven}}
 

@@ -1,10 +1,8 @@
 -- The first uneven count, row by row and node by node.
-use Rattle.std.proofs.Common.{arith, ◌≡◌, ℕ, ◌+◌, ◌-◌, ◌<◌, ◌≤◌, Bool, true, false, not, cond, eqb, List, ◌∷◌, map, get_or, Option, None, refl, sym, ap, ◌∙◌}
-use Rattle.std.{specs.{List.{filter, find, flat_map, range_with_len}, Option.{option_map, option_or}}, proofs.lemmas.List.Elements.filter-append}
-use Rattle.std.proofs.lemmas.List.{Concat.flat_map-append, Folds.find-append}
+use Rattle.std.proofs.{Common.{arith, ◌≡◌, ℕ, ◌+◌, ◌-◌, ◌<◌, ◌≤◌, Bool, true, false, not, cond, eqb, List, ◌∷◌, map, get_or, Option, None, refl, sym, ap, ◌∙◌}, lemmas.List.{Elements.filter-append, Concat.flat_map-append, Folds.find-append}}
+use Rattle.std.specs.{List.{filter, find, flat_map, range_with_len}, Option.{option_map, option_or}}
 use Rattle.list_laws.proofs.Tests.{find-map}
-use Rattle.schedule.specs.{Placed.{PlacementValue, IsPlacement, holds}, Bags.{Bag, Bags}}
-use Rattle.schedule.proofs.Grids.{range_more, range_none, rows_from, rows_start}
+use Rattle.schedule.{specs.{Placed.{PlacementValue, IsPlacement, holds}, Bags.{Bag, Bags}}, proofs.Grids.{range_more, range_none, rows_from, rows_start}}
 use Rattle.inversion.specs.Judging.{first_uneven}
 
 -- the first node that has not contributed to the bag exactly once

@@ -1,7 +1,6 @@
 -- The verdict on a schedule that adds up: the first part of the claim that it sums that does not hold (this project's own order).
 use Rattle.std.specs.{Prelude.{◌==◌, ℕ, not, if◌then◌else◌, List, length, map, Option, None, Some, find, slice_index_or}, List.{flat_map, range_with_len}}
-use Rattle.schedule.specs.{declared.hop.Hop.Hop, Links.TopologyValue, Sends.ScheduleValue, Placed.PlacementValue, Fitting.load, Bags.{Bags, contributions}}
-use Rattle.schedule.specs.{Judging.{first_unlinked, first_overfull, group_at}, Summing.bags_after}
+use Rattle.schedule.specs.{declared.hop.Hop.Hop, Links.TopologyValue, Sends.ScheduleValue, Placed.PlacementValue, Fitting.load, Bags.{Bags, contributions}, Judging.{first_unlinked, first_overfull, group_at}, Summing.bags_after}
 use Rattle.inversion.specs.declared.verdict.SumVerdict.{SumVerdict, TheVariants.{Sums, Missing, Twice, Overfull, NoLink, Clash}}
 
 -- each of these pairs of a chunk and a node, with each of so many nodes that contribute

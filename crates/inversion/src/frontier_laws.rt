@@ -3,8 +3,7 @@
 
 ghost use Rattle.std.specs.Prelude.{◌≡◌, ◌≢◌, ◌↔◌, ℕ, true};
 ghost use Rattle.collective_spec.specs.{Collectives.{IsSpec, adds_up, chunks_in, kind_in}, Kinds.allows};
-ghost use Rattle.candidate_order.specs.Frontiers.{QuestionValue, FrontierValue, IsSolvable, RightFrontier, Searched, instance_for};
-ghost use Rattle.candidate_order.specs.Copied.{copied_question, copied_spec};
+ghost use Rattle.candidate_order.specs.{Frontiers.{QuestionValue, FrontierValue, IsSolvable, RightFrontier, Searched, instance_for}, Copied.{copied_question, copied_spec}};
 ghost use Rattle.inversion.specs.Inverted.{inverted_frontier};
 
 use candidate_order::Candidate;

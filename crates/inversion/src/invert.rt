@@ -1,8 +1,7 @@
 //! Schedules that run backwards, over links turned round (Cai et al., PPoPP 2021, inversion).
 
 ghost use Rattle.std.specs.Prelude.{◌≡◌, ℕ, map, true, length, IfOk};
-ghost use Rattle.schedule.specs.{Links.{TopologyValue, reversed_of}, Placed.{PlacementValue, HeldByOne, IsPlacement}, Sends.IsInRange, Solving.{Solves, Tight}};
-ghost use Rattle.schedule.specs.{Summing.Sums, Inverse.{inverse_hop, inverse_of}, Rows.everywhere};
+ghost use Rattle.schedule.specs.{Links.{TopologyValue, reversed_of}, Placed.{PlacementValue, HeldByOne, IsPlacement}, Sends.IsInRange, Solving.{Solves, Tight}, Summing.Sums, Inverse.{inverse_hop, inverse_of}, Rows.everywhere};
 ghost use Rattle.collective_spec.specs.Collectives.{IsSpec, adds_up};
 ghost use Rattle.candidate_order.specs.{Frontiers.{QuestionValue, RightFrontier, Searched}, Copied.copied_question};
 ghost use Rattle.inversion.specs.Inverted.{inverted_frontier, inverted_point};

@@ -2,16 +2,14 @@
 use Rattle.std.proofs.{Common.{◌≡◌, ℕ, ◌≤◌, nat_lt, Bool, true, false, List, [], length, None, Result, Ok, Err, sym, ap, ◌∙◌, refl}, lemmas.Bool.le-ltb}
 use Rattle.text_lines.specs.Check.{◌>>=◌, refuse}
 use Rattle.topology_text.{specs.{declared.fault.TopologyCode.TopologyCode, Reading.topology_of, Value.NamedTopologyValue}, proofs.Laws.all_take}
-use Rattle.report_form.specs.{declared.fault.ReportCode.ReportCode, Answer.report_number, Reading.report_of, Reports.ReportValue}
-use Rattle.report_form.proofs.ReportTaken.{report_take}
+use Rattle.report_form.{specs.{declared.fault.ReportCode.ReportCode, Answer.report_number, Reading.report_of, Reports.ReportValue}, proofs.ReportTaken.report_take}
 use Rattle.json_values.{specs.{Json.printed, TopologyJson.topology_json, Answer.topology_of_json}, proofs.Built.topology_back}
 use Rattle.json_rules.specs.{ReportForm.report as report_form, Answer.report_of_json, ReportJson.report_json}
 use Rattle.json_reports.proofs.Built.{report_back}
 use Rattle.command_words.specs.{declared.command.{Command.Command, JsonWhat.JsonWhat}, Words.command_of}
 use Rattle.command_words.specs.declared.command.Command.TheVariants as command
 use Rattle.command_words.specs.declared.command.JsonWhat.TheVariants as what
-use Rattle.run_rules.specs.{declared.status.Status.TheVariants.{BadReport, TooLong}, Commands.reads_source, Steps.whole_text}
-use Rattle.run_rules.specs.Refusals.{Refusal, refused_as, refused_at}
+use Rattle.run_rules.specs.{declared.status.Status.TheVariants.{BadReport, TooLong}, Commands.reads_source, Steps.whole_text, Refusals.{Refusal, refused_as, refused_at}}
 use Rattle.run_rules.specs.Tasks.{Task, Write, due, json_asked, json_programs_in, limit, read_report, task_of, unjson_asked, words_asked}
 use Rattle.json_command.proofs.Exchanged.{topology_due, topology_read_due, topology_same, report_read_due, report_same}
 

@@ -3,16 +3,13 @@ use Rattle.std.proofs.Common.{◌≡◌, ◌≢◌, ◌⊎◌, inl, inr, ℕ, Li
 use Rattle.outer_ports.specs.declared.part.Part.{Part}
 use Rattle.text_lines.specs.Check.{◌>>=◌, need}
 use Rattle.candidate_order.specs.Frontiers.{PointValue}
-use Rattle.topology_text.specs.{declared.fault.TopologyCode.TopologyCode, Value.NamedTopologyValue, Answer.topology_number, Reading.topology_of}
-use Rattle.topology_text.specs.Spelling.{spelling}
+use Rattle.topology_text.specs.{declared.fault.TopologyCode.TopologyCode, Value.NamedTopologyValue, Answer.topology_number, Reading.topology_of, Spelling.spelling}
 use Rattle.report_form.specs.{Reading.report_of, Reports.ReportValue, Numbered.point_at, Spelling.report_text}
 use Rattle.json_values.specs.{declared.fault.JsonCode.JsonCode, Answer.{json_number, topology_of_json}, Json.printed, Reading.read_json, TopologyForm.topology as topology_form}
 use Rattle.json_rules.{specs.{ReportForm.report as report_form, Answer.report_of_json}, proofs.ReadJson.read_alike}
 use Rattle.command_words.specs.declared.{command.PointWord.PointWord, fault.WordCode.TheVariants.UnknownPoint}
-use Rattle.run_rules.specs.declared.{status.Status.{Status, TheVariants.{BadJson, BadTopology, BadWords}}, answer.Answer.Answer}
-use Rattle.run_rules.specs.{Answers.{IsAnswerAlone, Says}, Refusals.{Refusal, refused_as, refused_at, refused_word, refusal_line}}
-use Rattle.run_rules.specs.Tasks.{Task, Write, json_programs_in, programs_value}
-use Rattle.run_rules.proofs.Answered.{refused_answers}
+use Rattle.run_rules.specs.{declared.{status.Status.{Status, TheVariants.{BadJson, BadTopology, BadWords}}, answer.Answer.Answer}, Answers.{IsAnswerAlone, Says}, Refusals.{Refusal, refused_as, refused_at, refused_word, refusal_line}}
+use Rattle.run_rules.{specs.Tasks.{Task, Write, json_programs_in, programs_value}, proofs.Answered.refused_answers}
 
 -- a refusal at a line or a place, as the answer says it
 abbrev pub SaysAt : Status → ℕ → ℕ → Answer → Type 0

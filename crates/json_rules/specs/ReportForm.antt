@@ -8,9 +8,7 @@ use Rattle.candidate_order.specs.declared.mark.Mark.TheVariants as mark
 use Rattle.topology_text.specs.Spelling.{name_at}
 use Rattle.report_form.specs.{Reports.{WordsValue, ReportValue}, Spelling.{mark_words, part_words}}
 use Rattle.serde_json.specs.Find.{as_array, get}
-use Rattle.json_values.specs.Shape.{◌>>=◌, headed}
-use Rattle.json_values.specs.Forms.{Form, count, name, word, via, with_key, lined, each, row_read, row, Part as Members, seen, at, at_if, ◌&◌, line_of, fields, says_word}
-use Rattle.json_values.specs.TopologyForm.{version, topology}
+use Rattle.json_values.specs.{Shape.{◌>>=◌, headed}, Forms.{Form, count, name, word, via, with_key, lined, each, row_read, row, Part as Members, seen, at, at_if, ◌&◌, line_of, fields, says_word}, TopologyForm.{version, topology}}
 
 -- ---- points
 

@@ -1,13 +1,11 @@
 -- The JSON of a topology: its numbers are small, its texts are names, and what is printed of it is read back.
-use Rattle.std.proofs.Common.{◌≡◌, ℕ, zero, suc, ◌^◌, ◌<◌, ◌||◌, true, false, List, [], ◌∷◌, map, Option, Some, None, option_map, refl, ap, ap₂, ◌∙◌, arith, Ok, All}
-use Rattle.std.proofs.lemmas.{List.Elements.{All-head, All-tail}, Str.IsUtf8-nil}
+use Rattle.std.proofs.{Common.{◌≡◌, ℕ, zero, suc, ◌^◌, ◌<◌, ◌||◌, true, false, List, [], ◌∷◌, map, Option, Some, None, option_map, refl, ap, ap₂, ◌∙◌, arith, Ok, All}, lemmas.{List.Elements.{All-head, All-tail}, Str.IsUtf8-nil}}
 use Rattle.text_lines.specs.{Text.text_of, Check.◌>>=◌}
 use Rattle.schedule.specs.Links.{GroupValue, IsGroup}
 use Rattle.collective_spec.specs.Patterns.{PatternValue}
 use Rattle.topology_text.{specs.{Names.is_name, Value.{NamedTopologyValue, IsNamed}, Spelling.{name_at, lines_of, spelling}, Reading.topology_of}, proofs.Laws.all_again}
 use Rattle.serde_json.specs.{Data.{Data, string}, View.items_of, Written.{has_float, items_have_float}}
-use Rattle.json_values.specs.{Json.{printed, array_of}, Answer.{of_json, of_text, topology_of_json}}
-use Rattle.json_values.specs.{Forms.{each, name, via}, TopologyForm.{link, group, custom}, TopologyJson.{topology_json, topology_text_in}}
+use Rattle.json_values.specs.{Json.{printed, array_of}, Answer.{of_json, of_text, topology_of_json}, Forms.{each, name, via}, TopologyForm.{link, group, custom}, TopologyJson.{topology_json, topology_text_in}}
 use Rattle.json_values.proofs.{Plain.{Plain, deeper, plain_array, plain_count, plain_list, plain_object, plain_text, text_back}, Printing.name_utf8, TopologyForm.topology_form}
 
 -- where no item is a float, there is none in the list

@@ -1,15 +1,11 @@
 -- Values of numbers that are whole and below 2^64, of texts in UTF-8, of lists, and of objects with ascending keys: what is printed of them is read back.
 use Rattle.std.proofs.Common.{◌≡◌, ℕ, suc, ◌^◌, ◌<◌, ◌≤◌, ◌||◌, Bool, true, false, List, [], ◌∷◌, ◌++◌, map, Option, Some, option_map, Ok, option_and_then, decimal, refl, sym, ap, ap₂, ◌∙◌, append-nil, arith, IsUtf8, All}
-use Rattle.std.{specs.Prelude.⊤, proofs.lemmas.{List.Elements.{All-head, All-tail}, Str.{IsUtf8-append, IsUtf8-nil, IsUtf8-from_ascii}, Fmt.IsAscii-decimal}}
+use Rattle.std.{proofs.lemmas.{List.Elements.{All-head, All-tail}, Str.{IsUtf8-append, IsUtf8-nil, IsUtf8-from_ascii}, Fmt.IsAscii-decimal}, specs.Prelude.⊤}
 use Rattle.json.specs.Json as json
-use Rattle.json.specs.{Lex.tokens, Print.quoted}
-use Rattle.json.proofs.Printed.{Decimals.IsNumber-decimal, Tokens.tokens-print, Trees.{ArePrintable-json_tokens, value-json_tokens}}
-use Rattle.json.proofs.Printed.Utf8.{IsUtf8-are_ascii, IsUtf8-quoted, are_ascii}
+use Rattle.json.{specs.{Lex.tokens, Print.quoted}, proofs.Printed.{Decimals.IsNumber-decimal, Tokens.tokens-print, Trees.{ArePrintable-json_tokens, value-json_tokens}, Utf8.{IsUtf8-are_ascii, IsUtf8-quoted, are_ascii}}}
 use Rattle.json.specs.Tree as tree
-use Rattle.serde_json.specs.Data.{Data, number, unsigned, string, array, object, Items, no_items, item, Members, no_members, member, put}
-use Rattle.serde_json.specs.{Read.{of_json, of_items, of_members, read, max_depth}, View.items_of}
-use Rattle.serde_json.specs.Written.{outline, items_outline, members_outline, compact_text, items_text, members_text, comma_if, has_float, items_have_float, members_have_float}
-use Rattle.serde_json.proofs.{Numbers.number_of-decimal, Texts.print-outline}
+use Rattle.serde_json.specs.{Data.{Data, number, unsigned, string, array, object, Items, no_items, item, Members, no_members, member, put}, Read.{of_json, of_items, of_members, read, max_depth}, View.items_of}
+use Rattle.serde_json.{specs.Written.{outline, items_outline, members_outline, compact_text, items_text, members_text, comma_if, has_float, items_have_float, members_have_float}, proofs.{Numbers.number_of-decimal, Texts.print-outline}}
 use Rattle.json_values.{specs.{Json.printed, Answer.text_of_json}, proofs.{Blank.same_value, Standing.text_given, Values.value_is}}
 
 -- it nests at most n deep, and what is printed of it is read back

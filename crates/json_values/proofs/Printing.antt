@@ -1,7 +1,6 @@
 -- Values of JSON that are built, and what a name is as a text.
-use Rattle.std.proofs.Common.{◌≡◌, ℕ, zero, suc, ◌+◌, ◌<◌, Bool, true, cond, List, [], ◌∷◌, ◌++◌, map, refl, ap, ◌∙◌, arith, IsUtf8, Result, Ok, Err}
-use Rattle.std.{specs.{List.{list_all, filter, range_with_len}, Str.IsAscii}, proofs.lemmas.{Bool.{and_parts, Decides.nat_tests}, List.map-append}}
-use Rattle.std.{proofs.lemmas.{List.FromFn.map-range_with_len_more, Str.IsUtf8-from_ascii}, specs.Result.{IsOk, MatchResult}}
+use Rattle.std.proofs.{Common.{◌≡◌, ℕ, zero, suc, ◌+◌, ◌<◌, Bool, true, cond, List, [], ◌∷◌, ◌++◌, map, refl, ap, ◌∙◌, arith, IsUtf8, Result, Ok, Err}, lemmas.{Bool.{and_parts, Decides.nat_tests}, List.map-append}}
+use Rattle.std.{proofs.lemmas.{List.FromFn.map-range_with_len_more, Str.IsUtf8-from_ascii}, specs.{List.{list_all, filter, range_with_len}, Str.IsAscii, Result.{IsOk, MatchResult}}}
 use Rattle.topology_text.{specs.Names.{is_name_byte, is_name}, proofs.Printed.passing_more}
 use Rattle.serde_json.specs.{Data.Data, View.view, declared.value.Value.Value}
 

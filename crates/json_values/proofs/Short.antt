@@ -1,11 +1,10 @@
 -- How long the text is that values stand for: at most so many bytes for each value in them.
 use Rattle.std.proofs.Common.{◌≡◌, ℕ, zero, suc, ◌+◌, ◌*◌, ◌/◌, ◌%◌, ◌≤◌, ◌==◌, Bool, true, false, List, [], ◌∷◌, ◌++◌, length, map, Option, Some, None, option_map, Ordering, Less, Equal, Greater, refl, ap, arith, length-append, Ok, decimal, if◌then◌else◌, nat_lt, nat_le}
-use Rattle.std.specs.{Fmt.{digits, digits_onto, digit_glyph}, List.{AllByRecursion, flat_map, join_with_byte}, Ordering.match_ordering}
 use Rattle.std.proofs.{lemmas.{Bool.{and_parts, leb-true}, Grind.flat_map-append, List.append-nil}, Math.Nat.{mul-le-mul_left, mul-le-mul_right}}
+use Rattle.std.specs.{Fmt.{digits, digits_onto, digit_glyph}, List.{AllByRecursion, flat_map, join_with_byte}, Ordering.match_ordering}
 use Rattle.text_lines.{specs.Text.{line, text_of}, proofs.Words.join_fields}
 use Rattle.topology_text.specs.Names.{is_name, name_of}
-use Rattle.serde_json.specs.Data.{Data, null, boolean, number, string, array, object, Items, no_items, item, Members, no_members, member}
-use Rattle.serde_json.specs.Find.{get, get_member, as_str, as_array, as_object}
+use Rattle.serde_json.specs.{Data.{Data, null, boolean, number, string, array, object, Items, no_items, item, Members, no_members, member}, Find.{get, get_member, as_str, as_array, as_object}}
 use Rattle.json_values.specs.{Size.{size, items_size, members_size}, Shape.{◌>>=◌, ◌⊕◌, one, headed, name_in, field}, Forms.{each_read, row_read, same_keys}, Pieces.each_in, Answer.text_of_json}
 use Rattle.json_values.proofs.{Size.size_of_value, Standing.stands_for}
 

@@ -1,14 +1,11 @@
 -- The JSON of a topology has the form, and stands for the topology's text.
 use Rattle.std.proofs.Common.{◌≡◌, ℕ, zero, suc, ◌+◌, ◌<◌, ◌≤◌, Bool, true, false, cond, List, [], ◌∷◌, ◌++◌, map, length, Option, Some, None, refl, sym, ap, ap₂, ◌∙◌, subst, arith, codes, decimal, if◌then◌else◌, IfSome, option_map}
-use Rattle.std.{specs.List.{All, AllByRecursion, filter, flat_map, join_with_byte, range_with_len}, proofs.lemmas.List.map-id}
-use Rattle.std.proofs.lemmas.List.Elements.{recursion_from_All, All-get_or}
+use Rattle.std.{proofs.lemmas.List.{map-id, Elements.{recursion_from_All, All-get_or}}, specs.List.{All, AllByRecursion, filter, flat_map, join_with_byte, range_with_len}}
 use Rattle.schedule.{specs.{Links.{GroupValue, IsBelow}, Placed.{PlacementValue, holds}}, proofs.First.each_weaker}
 use Rattle.collective_spec.specs.Patterns.{PatternValue, IsPattern}
-use Rattle.topology_text.specs.{Names.{is_name, AreNames}, Value.{NamedTopologyValue, IsNamed}}
-use Rattle.topology_text.specs.Spelling.{name_at, link_word, header_words, nodes_words, group_words, holder_words, custom_lines, lines_of}
+use Rattle.topology_text.specs.{Names.{is_name, AreNames}, Value.{NamedTopologyValue, IsNamed}, Spelling.{name_at, link_word, header_words, nodes_words, group_words, holder_words, custom_lines, lines_of}}
 use Rattle.serde_json.specs.{Data.{string, Items}, Events.items_len, View.items_of}
-use Rattle.json_values.specs.{Shape.{◌⊕◌, one, headed}, Forms.{Form, each, name, via}}
-use Rattle.json_values.specs.{TopologyForm.{link, group, custom, chunks_read}, TopologyJson.{topology_json, topology_in}}
+use Rattle.json_values.specs.{Shape.{◌⊕◌, one, headed}, Forms.{Form, each, name, via}, TopologyForm.{link, group, custom, chunks_read}, TopologyJson.{topology_json, topology_in}}
 
 -- where the JSON of each stands for one token or line, that of the list stands for them all
 pub each_one : {X A : Type 0} (form : Form A X) (shown : X → A) (xs : List X) → AllByRecursion (λ x. form.read (form.json x) ≡ Some (shown x ∷ [])) xs → (each form).read ((each form).json xs) ≡ Some (map shown xs)

@@ -1,10 +1,9 @@
 -- How long the text is that the JSON of a topology stands for.
-use Rattle.std.proofs.Common.{ℕ, ◌+◌, ◌*◌, ◌≤◌, ◌==◌, List, [], ◌∷◌, length, Option, Some, None, option_map, arith, length-append, codes, decimal, if◌then◌else◌}
-use Rattle.std.specs.List.{flat_map, join_with_byte}
+use Rattle.std.{proofs.Common.{ℕ, ◌+◌, ◌*◌, ◌≤◌, ◌==◌, List, [], ◌∷◌, length, Option, Some, None, option_map, arith, length-append, codes, decimal, if◌then◌else◌}, specs.List.{flat_map, join_with_byte}}
 use Rattle.text_lines.specs.Text.{line}
 use Rattle.serde_json.specs.{Data.{Data, null, Items, no_items, item, no_members, member, put}, Events.items_len, Find.{as_array, get}}
-use Rattle.json_values.specs.{Size.{size, items_size}, Shape.{◌>>=◌, ◌⊕◌, one, headed, count_in, name_in}, Forms.{each, name, row_read, says_word}}
-use Rattle.json_values.specs.{TopologyForm.{version, link, group, chunks_read}, TopologyJson.topology_in, inner.Chunks.chunks_in}
+use Rattle.json_values.specs.{Size.{size, items_size}, Shape.{◌>>=◌, ◌⊕◌, one, headed, count_in, name_in}, Forms.{each, name, row_read, says_word}, TopologyForm.{version, link, group, chunks_read}, TopologyJson.topology_in}
+use Rattle.json_values.specs.inner.Chunks.{chunks_in}
 use Rattle.json_values.proofs.Short.{amount, len, Short, found_most, always_most, either_most, some_size, items_within, within, decimal_short, name_short, number_short, both, ahead, row_most, one_token, wider, fixed_short, both_short, headed_short, each_short, field_short, object_short, if_short, nothing_short, token_short, lined_short}
 
 pub name_token : Short (λ w. 32 ∷ w) 17 name.read

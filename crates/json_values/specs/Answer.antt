@@ -3,8 +3,7 @@ use Rattle.std.specs.{Prelude.{◌≡◌, ℕ, List, Option, Result, Ok, Err, �
 use Rattle.text_lines.specs.Check.{◌>>=◌, need}
 use Rattle.topology_text.specs.{Value.NamedTopologyValue, Reading.topology_of}
 use Rattle.serde_json.specs.Data.{Data}
-use Rattle.json_values.specs.{declared.fault.{JsonCode.{JsonCode, TheVariants.{NotJson, BadShape, BadText, OutOfMemory}}, JsonFault.JsonFault}, Json.value_of}
-use Rattle.json_values.specs.TopologyJson.{topology_text_in}
+use Rattle.json_values.specs.{declared.fault.{JsonCode.{JsonCode, TheVariants.{NotJson, BadShape, BadText, OutOfMemory}}, JsonFault.JsonFault}, Json.value_of, TopologyJson.topology_text_in}
 
 -- the numbers of the codes, by which refusals name them
 abbrev pub json_number : JsonCode → ℕ

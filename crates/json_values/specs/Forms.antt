@@ -1,9 +1,7 @@
 -- Forms of JSON: which value is printed of something, and which tokens or lines a value of the form stands for. `None` is a value that does not have it.
-use Rattle.std.specs.Prelude.{ℕ, ◌&&◌, Bool, true, false, if◌then◌else◌, List, [], ◌∷◌, ◌++◌, map, Option, Some, None, option_map, unwrap_or, slice_index_or, bytes_eq, decimal}
-use Rattle.std.specs.List.{list_any}
+use Rattle.std.specs.{Prelude.{ℕ, ◌&&◌, Bool, true, false, if◌then◌else◌, List, [], ◌∷◌, ◌++◌, map, Option, Some, None, option_map, unwrap_or, slice_index_or, bytes_eq, decimal}, List.list_any}
 use Rattle.topology_text.specs.Names.{name_of}
-use Rattle.serde_json.specs.{Data.{Data, null, number, unsigned, string, array, object, Items, no_items, item, Members, no_members, member, put}, View.items_of}
-use Rattle.serde_json.specs.Find.{as_number, as_u64, as_str, as_array, as_object, get}
+use Rattle.serde_json.specs.{Data.{Data, null, number, unsigned, string, array, object, Items, no_items, item, Members, no_members, member, put}, View.items_of, Find.{as_number, as_u64, as_str, as_array, as_object, get}}
 use Rattle.json_values.specs.Shape.{◌>>=◌, ◌⊕◌, one, headed}
 
 -- a form of the values X, which stand for tokens or for lines A

@@ -2,8 +2,7 @@
 use Rattle.std.specs.{Prelude.{ℕ, Bool, false, if◌then◌else◌, List, [], ◌∷◌, map, Option, Some, None, option_map, unwrap_or, bytes_eq, decimal, is_some}, List.list_any, Borrow.Bor}
 use Rattle.topology_text.specs.Names.{name_of}
 use Rattle.serde_json.specs.{Data.{Data, null, Members, no_members, member}, Find.{as_number, as_u64, as_str, as_array, as_object, get}}
-use Rattle.json_values.specs.{Shape.{◌>>=◌, one, field}, Forms.{each_read, row_read, same_keys}}
-use Rattle.json_values.specs.declared.token.Token.{Token, TheVariants.{Count, Name, OneOf}}
+use Rattle.json_values.specs.{Shape.{◌>>=◌, one, field}, Forms.{each_read, row_read, same_keys}, declared.token.Token.{Token, TheVariants.{Count, Name, OneOf}}}
 
 -- the one token
 abbrev pub token_in : Token → Data → Option (List ℕ)

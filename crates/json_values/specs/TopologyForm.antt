@@ -1,12 +1,10 @@
 -- The JSON of a topology and the lines that it stands for, in one table. The form is this project's own.
-use Rattle.std.specs.Prelude.{ℕ, ◌+◌, ◌==◌, if◌then◌else◌, List, [], ◌∷◌, map, filter, Option, Some, None, option_map, is_some, codes, decimal}
-use Rattle.std.specs.List.{range_with_len, join_with_byte}
+use Rattle.std.specs.{Prelude.{ℕ, ◌+◌, ◌==◌, if◌then◌else◌, List, [], ◌∷◌, map, filter, Option, Some, None, option_map, is_some, codes, decimal}, List.{range_with_len, join_with_byte}}
 use Rattle.schedule.specs.{Links.GroupValue, Placed.{PlacementValue, holds}}
 use Rattle.collective_spec.specs.Patterns.{PatternValue}
 use Rattle.topology_text.specs.{Value.NamedTopologyValue, Spelling.name_at}
 use Rattle.serde_json.specs.{Data.{Data, number, unsigned, Items, no_items, item}, Events.items_len, Find.{as_number, as_u64, as_array, get}}
-use Rattle.json_values.specs.Shape.{◌>>=◌, ◌⊕◌, one, headed}
-use Rattle.json_values.specs.Forms.{Form, count, name, via, each, row, Part, at, at_if, ◌&◌, line_of, fields, says_word}
+use Rattle.json_values.specs.{Shape.{◌>>=◌, ◌⊕◌, one, headed}, Forms.{Form, count, name, via, each, row, Part, at, at_if, ◌&◌, line_of, fields, says_word}}
 
 -- 1, or 2 where there is a pattern
 abbrev pub version : Form (List ℕ) (Option PatternValue)

@@ -1,7 +1,6 @@
 //! Tokens that single values of JSON stand for.
 
-ghost use Rattle.std.specs.Prelude.{◌≡◌, ◌∷◌, ◌++◌, bytes_eq, map, option_map};
-ghost use Rattle.std.specs.List.{list_any};
+ghost use Rattle.std.specs.{Prelude.{◌≡◌, ◌∷◌, ◌++◌, bytes_eq, map, option_map}, List.list_any};
 ghost use Rattle.serde_json.specs.View.{view};
 ghost use Rattle.json_values.specs.{Appends.Appends, Pieces.{token_in, tokens_in, row_in}};
 

@@ -4,8 +4,7 @@ ghost use Rattle.std.specs.Prelude.{◌≡◌, true, false, ◌∷◌, [], ◌++
 ghost use Rattle.text_lines.specs.Text.{text_of};
 ghost use Rattle.serde_json.specs.{Data.Data, View.{view, items_view}};
 ghost use Rattle.topology_text.specs.{Value.IsNamed, Spelling.spelling};
-ghost use Rattle.json_values.specs.{Forms.says_word, TopologyForm.{version, link, group, custom, topology, chunks_read}};
-ghost use Rattle.json_values.specs.{Appends.Appends, Json.value_of, TopologyJson.topology_text_in, Answer.{topology_of_json, Answers}};
+ghost use Rattle.json_values.specs.{Forms.says_word, TopologyForm.{version, link, group, custom, topology, chunks_read}, Appends.Appends, Json.value_of, TopologyJson.topology_text_in, Answer.{topology_of_json, Answers}};
 ghost use Rattle.json_values.specs.inner.Chunks.{chunks_in};
 
 use crate::fault::{JsonCode, JsonFault};

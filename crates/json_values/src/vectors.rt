@@ -4,8 +4,7 @@
 ghost use Rattle.std.specs.Prelude.{◌≡◌, ◌∷◌, [], codes, Ok, Err};
 ghost use Rattle.schedule.specs.Rows.{line_of_2};
 ghost use Rattle.topology_text.specs.Value.{named};
-ghost use Rattle.json_values.specs.{declared.fault.JsonCode.JsonCode, Json.printed, TopologyJson.topology_json, Answer.topology_of_json};
-ghost use Rattle.json_values.specs.Rows.{moved, two_nodes_json, moved_json};
+ghost use Rattle.json_values.specs.{declared.fault.JsonCode.JsonCode, Json.printed, TopologyJson.topology_json, Answer.topology_of_json, Rows.{moved, two_nodes_json, moved_json}};
 
 /// Two nodes in a row; and three nodes, of which the first has a chunk that the third is to have.
 pub fn topologies_printed()

@@ -5,9 +5,7 @@ use Rattle.cnf_formula.specs.Formulas.{FormulaValue}
 use Rattle.lrat_text.specs.Printing.{cnf_text}
 use Rattle.candidate_order.specs.{declared.candidate.Candidate.Candidate, Frontiers.QuestionValue}
 use Rattle.candidate_formula.specs.{Formulas.formula_for, Files.{file_of, HasRefutation}}
-use Rattle.proof_audit.specs.declared.{fault.AuditFault.AuditFault, verdict.FileVerdict.{FileVerdict, TheVariants.Stands}}
-use Rattle.proof_audit.specs.{Files.file_verdict, Proving.is_refutation}
-use Rattle.proof_audit.proofs.Standing.{standing_refute}
+use Rattle.proof_audit.{specs.{declared.{fault.AuditFault.AuditFault, verdict.FileVerdict.{FileVerdict, TheVariants.Stands}}, Files.file_verdict, Proving.is_refutation}, proofs.Standing.standing_refute}
 use Rattle.proof_audit.specs.declared.fault.AuditFault.TheVariants as audit
 use Rattle.kept_proofs.specs.inner.Judged.{stands}
 

@@ -1,14 +1,12 @@
 -- What one call of an engine that takes up refutations changes.
-use Rattle.std.proofs.Common.{◌≡◌, Bool, [], ◌∷◌, ◌++◌, None, Some, refl, sym, ap, ◌∙◌, subst, ⊎_elim, All, Contains, IsTrue}
-use Rattle.std.proofs.lemmas.List.Elements.{All-contains, Contains-push_cases, Contains-push}
+use Rattle.std.proofs.{Common.{◌≡◌, Bool, [], ◌∷◌, ◌++◌, None, Some, refl, sym, ap, ◌∙◌, subst, ⊎_elim, All, Contains, IsTrue}, lemmas.List.Elements.{All-contains, Contains-push_cases, Contains-push}}
 use Rattle.list_laws.proofs.Each.{all_contained}
 use Rattle.outer_ports.specs.{declared.{part.Part.Part, proof_name.FileKind.{FileKind, TheVariants.{Cnf, Lrat}}}, Files.Files, Port.Tells, Shelf.FilesStay}
 use Rattle.candidate_order.specs.{declared.candidate.Candidate.Candidate, Frontiers.QuestionValue}
 use Rattle.cnf_formula.specs.Formulas.{FormulaValue}
 use Rattle.candidate_formula.{specs.{Formulas.formula_for, Files.{candidate_of, file_of, HasRefutation}}, proofs.BegunFiles.{begun_trans, begun_weaker}}
 use Rattle.engine_rules.specs.{declared.settled.Settled.{Settled, TheVariants.Refuted}, Outcomes.{RecordValue, IsNew}}
-use Rattle.candidate_solver.specs.{Kept.{EngineState, HasFiles, KeptAgrees, KeptMoves}, Trying.BeginsOwn}
-use Rattle.candidate_solver.proofs.Settling.{IsSettled, settled_moves, failed_moves}
+use Rattle.candidate_solver.{specs.{Kept.{EngineState, HasFiles, KeptAgrees, KeptMoves}, Trying.BeginsOwn}, proofs.Settling.{IsSettled, settled_moves, failed_moves}}
 use Rattle.proof_audit.specs.Kept.{BothStay, KeepsEach}
 use Rattle.kept_proofs.{proofs.Taken.begins_none, specs.{Keeping.{TakesUpEach, KeepingMoves}, Members.has_entry}}
 

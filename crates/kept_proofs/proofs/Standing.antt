@@ -1,6 +1,6 @@
 -- What holds of an engine beside the one that searches, from record to record.
-use Rattle.std.proofs.Common.{◌≡◌, ℕ, Bool, true, false, List, [], ◌∷◌, ◌++◌, Option, None, Some, Result, Ok, Err, refl, sym, ap, ◌∙◌, subst, ⊎_elim, arith, Contains, OnOk, OnErr}
-use Rattle.std.proofs.lemmas.{Bool.false≢true, Option.none-some, List.Elements.{Contains-append_left, Contains-push, Contains-push_cases}}
+use Rattle.std.proofs.{Common.{◌≡◌, ℕ, Bool, true, false, List, [], ◌∷◌, ◌++◌, Option, None, Some, Result, Ok, Err, refl, sym, ap, ◌∙◌, subst, ⊎_elim, arith, Contains, OnOk, OnErr}, lemmas.{Bool.false≢true, Option.none-some}}
+use Rattle.std.proofs.lemmas.List.Elements.{Contains-append_left, Contains-push, Contains-push_cases}
 use Rattle.schedule.specs.Links.{TopologyValue}
 use Rattle.collective_spec.specs.declared.spec.Spec.{Spec}
 use Rattle.cnf_formula.specs.{Formulas.FormulaValue, Lines.ProofLineValue}
@@ -8,8 +8,7 @@ use Rattle.proof_rules.{specs.Refuting.Exhausted, proofs.Tested.not_rup}
 use Rattle.ledger_rules.specs.Logs.{checker_of}
 use Rattle.candidate_order.specs.{declared.{candidate.Candidate.Candidate, outcome.Outcome.Outcome}, Ranges.LimitsValue, Frontiers.{QuestionValue, IsSolvable}}
 use Rattle.candidate_formula.specs.Questions.{copying_question}
-use Rattle.engine_rules.specs.declared.{fault.EngineFault.EngineFault, settled.Settled.{Settled, TheVariants.{Refuted, Unknown}}}
-use Rattle.engine_rules.specs.Outcomes.{RecordValue, SpentOn, kind_of}
+use Rattle.engine_rules.specs.{declared.{fault.EngineFault.EngineFault, settled.Settled.{Settled, TheVariants.{Refuted, Unknown}}}, Outcomes.{RecordValue, SpentOn, kind_of}}
 use Rattle.candidate_order.specs.declared.outcome.Outcome.TheVariants as outcome
 
 -- of the inner engine's record, and the candidate at which it failed, beside the engine's own

@@ -1,7 +1,6 @@
 -- What is taken up, by the files of a candidate.
 use Rattle.std.proofs.Common.{◌≡◌, ◌≢◌, [], Some, ap, ◌∙◌, inl, inr, subst}
-use Rattle.outer_ports.specs.{declared.{part.Part.Part, proof_name.{FileKind.TheVariants.{Cnf, Lrat, Partial}, ProofName.ProofName}}, Files.Files}
-use Rattle.outer_ports.specs.Shelf.{FilesStay, OthersStay}
+use Rattle.outer_ports.specs.{declared.{part.Part.Part, proof_name.{FileKind.TheVariants.{Cnf, Lrat, Partial}, ProofName.ProofName}}, Files.Files, Shelf.{FilesStay, OthersStay}}
 use Rattle.cnf_formula.specs.Formulas.{FormulaValue}
 use Rattle.candidate_order.specs.{declared.candidate.Candidate.Candidate, Frontiers.QuestionValue}
 use Rattle.candidate_formula.specs.Files.{file_of, HasRefutation, RefutedFiles}

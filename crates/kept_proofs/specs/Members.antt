@@ -1,7 +1,6 @@
 -- Whether a candidate is in a record.
 use Rattle.std.specs.{Prelude.{◌≡◌, ◌⊎◌, ◌==◌, ◌&&◌, Bool, true, false, [], ◌∷◌, Contains}, Bool.Decides}
-use Rattle.std.proofs.{Common.{refl, ap, inl, inr, ⊎_elim, arith}, lemmas.Bool.{false≢true, Decides.{Decides-and, Decides-eqb, Decides-like}}}
-use Rattle.std.proofs.lemmas.List.Elements.{Contains-append_right, Contains-append_cases, Contains-push_cases}
+use Rattle.std.proofs.{Common.{refl, ap, inl, inr, ⊎_elim, arith}, lemmas.{Bool.{false≢true, Decides.{Decides-and, Decides-eqb, Decides-like}}, List.Elements.{Contains-append_right, Contains-append_cases, Contains-push_cases}}}
 use Rattle.candidate_order.specs.declared.candidate.Candidate.{Candidate}
 use Rattle.engine_rules.specs.{declared.settled.Settled.{Settled, TheVariants.{Solved, Refuted, Unknown}}, Outcomes.{RecordValue, IsNew}}
 

@@ -1,7 +1,6 @@
 -- Lines that lie one after another in two lists, as these grow.
 use Rattle.std.proofs.Common.{◌≡◌, ℕ, ◌+◌, ◌-◌, ◌≤◌, List, [], ◌∷◌, ◌++◌, map, length, take, drop, refl, sym, ap, ◌∙◌, arith, pos, All, slice_range}
-use Rattle.std.proofs.lemmas.List.{take-append-le, drop-append-le, drop_at, drop_all, take_all, length-drop, length-append, map_push}
-use Rattle.std.proofs.lemmas.List.Elements.{All-head, All-tail}
+use Rattle.std.proofs.lemmas.List.{take-append-le, drop-append-le, drop_at, drop_all, take_all, length-drop, length-append, map_push, Elements.{All-head, All-tail}}
 use Rattle.cnf_formula.specs.{Literals.LitValue, Lines.ProofLineValue}
 use Rattle.ledger_rules.specs.{Logs.learned, declared.line_list.LineRow.LineRow, inner.Stored.{line_in, Lies}}
 

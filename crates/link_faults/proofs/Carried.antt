@@ -1,16 +1,10 @@
 -- What some schedule does after a fault, one does before it, of fewer chunks and in no fewer rounds.
-use Rattle.std.proofs.lemmas.Bool.Decides.{nat_tests}
-use Rattle.std.proofs.lemmas.Grind.{common_steps}
-use Rattle.std.proofs.Common.{ℕ, ◌+◌, ◌*◌, ◌≤◌, Bool, true, false, subst, sym, arith}
+use Rattle.std.proofs.{lemmas.{Bool.Decides.nat_tests, Grind.common_steps}, Common.{ℕ, ◌+◌, ◌*◌, ◌≤◌, Bool, true, false, subst, sym, arith}}
 use Rattle.schedule.specs.{Links.TopologyValue, Placed.PlacementValue, Judging.group_at, Solving.Solvable, Summing.SummedSolvable}
-use Rattle.collective_spec.specs.{declared.spec.Spec.Spec, Collectives.{chunks_of, spec_instance, spec_demand, layout_after, adds_up}, Layouts.stands}
-use Rattle.collective_spec.specs.Patterns.{in_copies}
-use Rattle.collective_spec.proofs.Chunks.{chunks_more}
+use Rattle.collective_spec.{specs.{declared.spec.Spec.Spec, Collectives.{chunks_of, spec_instance, spec_demand, layout_after, adds_up}, Layouts.stands, Patterns.in_copies}, proofs.Chunks.chunks_more}
 use Rattle.collective_spec.specs.declared.spec.Spec.TheVariants as spec
-use Rattle.candidate_order.specs.{declared.candidate.Candidate.Candidate, Frontiers.{QuestionValue, IsSolvable}}
-use Rattle.candidate_order.proofs.Achieved.{Achievable, achieved, solvable_by_one}
-use Rattle.link_faults.specs.{Narrowed.narrowed, Carrying.{Carries, HasFewRounds, narrowed_question}}
-use Rattle.link_faults.proofs.{Fitting.fits_before, Fewer.solvable_fewer, Sums.summed_fewer}
+use Rattle.candidate_order.{specs.{declared.candidate.Candidate.Candidate, Frontiers.{QuestionValue, IsSolvable}}, proofs.Achieved.{Achievable, achieved, solvable_by_one}}
+use Rattle.link_faults.{specs.{Narrowed.narrowed, Carrying.{Carries, HasFewRounds, narrowed_question}}, proofs.{Fitting.fits_before, Fewer.solvable_fewer, Sums.summed_fewer}}
 
 pub solvable_before : (t : TopologyValue) (g w : ℕ) (pre post : PlacementValue) (steps rounds : ℕ) → w ≤ (group_at t g).width → Solvable (narrowed t g w) pre post steps rounds → Solvable t pre post steps rounds
 solvable_before t g w pre post steps rounds less solvable =

@@ -1,11 +1,9 @@
 -- A schedule of more chunks, cut down to the first of them: it does for these what it did, also with rounds to spare.
-use Rattle.std.proofs.Common.{◌≡◌, ℕ, zero, suc, ◌+◌, ◌<◌, ◌≤◌, ◌*◌, ◌-◌, Bool, true, false, ◌||◌, ◌&&◌, eqb, ltb, cond, List, [], ◌∷◌, length, get_or, sum, refl, sym, ap, ◌∙◌, subst, ⊎_elim, arith, filter, All}
-use Rattle.std.{specs.List.{list_any, AllByRecursion}, proofs.lemmas.{Nat.mul-le, List.Kept.AllPairs-filter}}
-use Rattle.std.proofs.lemmas.Bool.{false≢true, and_parts, and_from, cases_Bool, ltb-true, lt-ltb, false_from_ne_true}
-use Rattle.std.proofs.lemmas.List.Elements.{All-filter, filter_passes, All-from_recursion, All-weaker, recursion_from_All}
+use Rattle.std.proofs.{Common.{◌≡◌, ℕ, zero, suc, ◌+◌, ◌<◌, ◌≤◌, ◌*◌, ◌-◌, Bool, true, false, ◌||◌, ◌&&◌, eqb, ltb, cond, List, [], ◌∷◌, length, get_or, sum, refl, sym, ap, ◌∙◌, subst, ⊎_elim, arith, filter, All}, lemmas.Nat.mul-le}
+use Rattle.std.proofs.lemmas.{List.{Kept.AllPairs-filter, Elements.{All-filter, filter_passes, All-from_recursion, All-weaker, recursion_from_All}}, Bool.{false≢true, and_parts, and_from, cases_Bool, ltb-true, lt-ltb, false_from_ne_true}}
+use Rattle.std.specs.List.{list_any, AllByRecursion}
 use Rattle.schedule.specs.{declared.hop.Hop.Hop, Links.{TopologyValue, has_link, is_usable}, Placed.{PlacementValue, holds, placed, same_pair, all_pairs}}
-use Rattle.schedule.specs.{Sends.{ScheduleValue, IsSchedule, IsInRange, IsRound, IsStep, hop_before, is_hop_below, link_of}, Running.{after, brings}}
-use Rattle.schedule.specs.{Fitting.{Fits, load, rounds_at}, Solving.Solvable}
+use Rattle.schedule.specs.{Sends.{ScheduleValue, IsSchedule, IsInRange, IsRound, IsStep, hop_before, is_hop_below, link_of}, Running.{after, brings}, Fitting.{Fits, load, rounds_at}, Solving.Solvable}
 use Rattle.schedule.proofs.{First.{among_each, each_among, each_weaker, filter_among}, Ordered.among_from_any, Placing.{IsBelow, all_below, holds-placed, pair_is}, Stepping.{chunks-after, nodes-after}}
 use Rattle.inversion.proofs.Firsts.{counted_kept}
 use Rattle.round_encoding.proofs.Rounds.{sum_cons}

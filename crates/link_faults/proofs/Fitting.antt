@@ -1,9 +1,6 @@
 -- A schedule that fits after the fault fitted before it.
-use Rattle.std.{proofs.Common.{◌≡◌, ℕ, zero, suc, ◌≤◌, ◌*◌, true, false, List, [], refl, sym, ◌∙◌, arith, slice_set}, specs.List.{list_any, AllByRecursion}}
-use Rattle.std.proofs.lemmas.{Nat.mul-le, List.Elements.{All-from_recursion, recursion_from_All}}
-use Rattle.schedule.specs.{Links.{GroupValue, TopologyValue, has_link, is_usable}, Sends.{ScheduleValue, link_of}, Fitting.{Fits, load, rounds_at}}
-use Rattle.schedule.specs.Judging.{group_at}
-use Rattle.schedule.proofs.First.{each_weaker}
+use Rattle.std.{proofs.{Common.{◌≡◌, ℕ, zero, suc, ◌≤◌, ◌*◌, true, false, List, [], refl, sym, ◌∙◌, arith, slice_set}, lemmas.{Nat.mul-le, List.Elements.{All-from_recursion, recursion_from_All}}}, specs.List.{list_any, AllByRecursion}}
+use Rattle.schedule.{specs.{Links.{GroupValue, TopologyValue, has_link, is_usable}, Sends.{ScheduleValue, link_of}, Fitting.{Fits, load, rounds_at}, Judging.group_at}, proofs.First.each_weaker}
 use Rattle.link_faults.{specs.Narrowed.{with_width, left_of, narrowed}, proofs.Links.{left_usable, left_within, set_any, set_each}}
 
 module _ (t : TopologyValue) (g : ℕ) (s : ScheduleValue) where

@@ -1,7 +1,6 @@
 -- What links and groups are left after a fault, and what they carry.
 use Rattle.std.proofs.Common.{◌≡◌, ℕ, zero, suc, ◌≤◌, ◌*◌, Bool, true, false, ◌||◌, ◌&&◌, eqb, cond, List, [], ◌∷◌, length, get_or, map, refl, sym, ap, ◌∙◌, ⊎_elim, arith, not, slice_set}
-use Rattle.std.{specs.List.{list_any, AllByRecursion}, proofs.lemmas.Bool.{false≢true, and_parts, cases_Bool, lt-ltb, not-true}}
-use Rattle.std.proofs.{lemmas.{List.Sums.sum_by-cons, Map.Views.any-filter_same}, Math.Bool.and-false}
+use Rattle.std.{proofs.{lemmas.{Bool.{false≢true, and_parts, cases_Bool, lt-ltb, not-true}, List.Sums.sum_by-cons, Map.Views.any-filter_same}, Math.Bool.and-false}, specs.List.{list_any, AllByRecursion}}
 use Rattle.schedule.specs.{declared.hop.Hop.Hop, Links.{GroupValue, has_link}, Placed.same_pair, Sends.link_of, Fitting.load}
 use Rattle.schedule.proofs.{First.{among_each, among_kept, among_map, any_among, any_found, each_among, filter_among, map_among}, Placing.pair_is}
 use Rattle.link_faults.specs.Narrowed.{without_links, has_links, left_of}

@@ -1,12 +1,11 @@
 -- A search over the links that a fault left is no larger than over those that were given.
-use Rattle.std.proofs.Common.{◌≡◌, ℕ, zero, suc, ◌+◌, ◌*◌, ◌<◌, ◌≤◌, Bool, true, false, cond, List, [], ◌∷◌, length, get_or, refl, sym, ◌∙◌, arith, filter, not, slice_set, sum_by}
-use Rattle.std.proofs.lemmas.{Bool.false≢true, Nat.mul-le, List.Sums.{count_by-le-length, length-filter, sum_by-cons, sum_by-le-sum_by}}
+use Rattle.std.proofs.{Common.{◌≡◌, ℕ, zero, suc, ◌+◌, ◌*◌, ◌<◌, ◌≤◌, Bool, true, false, cond, List, [], ◌∷◌, length, get_or, refl, sym, ◌∙◌, arith, filter, not, slice_set, sum_by}, lemmas.{Bool.false≢true, Nat.mul-le}}
+use Rattle.std.proofs.lemmas.List.Sums.{count_by-le-length, length-filter, sum_by-cons, sum_by-le-sum_by}
 use Rattle.schedule.specs.{Links.{GroupValue, TopologyValue, has_link, is_usable, usable_links}, Placed.all_pairs, Judging.group_at}
 use Rattle.candidate_order.specs.Frontiers.{QuestionValue}
 use Rattle.round_encoding.specs.Candidates.{group_size}
 use Rattle.candidate_formula.specs.{Questions.IsSmallQuestion, Sizes.size_of}
-use Rattle.link_faults.specs.{Narrowed.{with_width, without_links, has_links, left_of, narrowed}, Carrying.narrowed_question}
-use Rattle.link_faults.proofs.{Links.{left_usable, set_any}, Sound.narrowed_topology}
+use Rattle.link_faults.{specs.{Narrowed.{with_width, without_links, has_links, left_of, narrowed}, Carrying.narrowed_question}, proofs.{Links.{left_usable, set_any}, Sound.narrowed_topology}}
 
 -- ---- links
 

@@ -1,9 +1,6 @@
 -- What a fault leaves is a topology.
-use Rattle.std.proofs.lemmas.Bool.Decides.{nat_tests}
-use Rattle.std.proofs.lemmas.Grind.{common_steps}
-use Rattle.std.proofs.Common.{◌≡◌, ℕ, zero, suc, ◌<◌, ◌≤◌, Bool, true, List, [], ◌∷◌, length, refl, sym, subst, arith, ◌≢◌, filter, not, slice_set, All}
-use Rattle.std.{specs.List.AllByRecursion, proofs.lemmas.{Bool.{ltb-true, lt-ltb}, List.{length-map, length-set, Kept.AllPairs-filter, Sums.{count_by-le-length, length-filter}}}}
-use Rattle.std.proofs.lemmas.List.Elements.{All-filter, All-from_recursion, recursion_from_All}
+use Rattle.std.proofs.{lemmas.{Bool.{Decides.nat_tests, ltb-true, lt-ltb}, Grind.common_steps}, Common.{◌≡◌, ℕ, zero, suc, ◌<◌, ◌≤◌, Bool, true, List, [], ◌∷◌, length, refl, sym, subst, arith, ◌≢◌, filter, not, slice_set, All}}
+use Rattle.std.{proofs.lemmas.List.{length-map, length-set, Kept.AllPairs-filter, Sums.{count_by-le-length, length-filter}, Elements.{All-filter, All-from_recursion, recursion_from_All}}, specs.List.AllByRecursion}
 use Rattle.schedule.{specs.{Links.{GroupValue, TopologyValue, IsBelow, IsGroup, IsLink, IsTopology, has_link}, Judging.group_at}, proofs.First.{among_each, each_among, filter_among, map_among}}
 use Rattle.link_faults.specs.Narrowed.{with_width, without_links, has_links, left_of, groups_after, narrowed}
 

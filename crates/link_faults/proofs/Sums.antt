@@ -1,8 +1,7 @@
 -- Sums of fewer chunks: the bags of the first chunks are what they were.
-use Rattle.std.proofs.Common.{◌≡◌, ℕ, zero, suc, ◌+◌, ◌-◌, ◌<◌, ◌≤◌, Bool, true, false, eqb, ltb, cond, List, [], ◌∷◌, length, map, refl, sym, ap, ◌∙◌, subst, ⊎_elim, arith, filter, fold, All}
-use Rattle.std.proofs.lemmas.{Bool.{and_parts, cases_Bool, lt-ltb}, List.Elements.All-from_recursion}
-use Rattle.schedule.specs.{declared.hop.Hop.Hop, Links.TopologyValue, Placed.{placed, same_pair}, Sends.ScheduleValue}
-use Rattle.schedule.specs.{Bags.{Bag, Bags, added, contributions, one_of_each}, Summing.{arriving, bags_after, goes_to, SummedSolvable}}
+use Rattle.std.proofs.{Common.{◌≡◌, ℕ, zero, suc, ◌+◌, ◌-◌, ◌<◌, ◌≤◌, Bool, true, false, eqb, ltb, cond, List, [], ◌∷◌, length, map, refl, sym, ap, ◌∙◌, subst, ⊎_elim, arith, filter, fold, All}, lemmas.Bool.{and_parts, cases_Bool, lt-ltb}}
+use Rattle.std.proofs.lemmas.List.Elements.{All-from_recursion}
+use Rattle.schedule.specs.{declared.hop.Hop.Hop, Links.TopologyValue, Placed.{placed, same_pair}, Sends.ScheduleValue, Bags.{Bag, Bags, added, contributions, one_of_each}, Summing.{arriving, bags_after, goes_to, SummedSolvable}}
 use Rattle.schedule.proofs.{First.each_weaker, Placing.{IsBelow, pair_is}}
 use Rattle.link_faults.proofs.Fewer.{with_spare, length_spare, sum_spare, first_sends, cut_down, valid_down, range_down, fits_down, each_fewer}
 

@@ -1,8 +1,7 @@
 //! What a fault takes away and what it leaves standing.
 
 ghost use Rattle.std.specs.Prelude.{◌≡◌, ◌≢◌, ◌↔◌, ◌<◌, ◌≤◌, ℕ, true, List, length, All, Any};
-ghost use Rattle.schedule.specs.{Links.{TopologyValue, IsTopology, reversed_group, reversed_of}, Placed.PlacementValue, Judging.group_at, Sends.ScheduleValue};
-ghost use Rattle.schedule.specs.{Fitting.Fits, Solving.Solvable, Summing.SummedSolvable};
+ghost use Rattle.schedule.specs.{Links.{TopologyValue, IsTopology, reversed_group, reversed_of}, Placed.PlacementValue, Judging.group_at, Sends.ScheduleValue, Fitting.Fits, Solving.Solvable, Summing.SummedSolvable};
 ghost use Rattle.collective_spec.specs.Collectives.{IsSpec, adds_up, kind_in};
 ghost use Rattle.candidate_order.specs.{declared.candidate.Candidate.Candidate, Copied.copied_question, Frontiers.{QuestionValue, IsSolvable, IsWithin}};
 ghost use Rattle.candidate_formula.specs.{Questions.IsSmallQuestion, Sizes.size_of};

@@ -1,6 +1,5 @@
 -- What a list contains.
-use Rattle.std.proofs.{Common.{◌≡◌, zero, suc, Bool, true, cond, List, [], ◌∷◌, map, sym, ap, ◌∙◌, subst, arith, Contains, filter}, lemmas.Bool.cond_both}
-use Rattle.std.proofs.lemmas.List.Elements.{Contains-append_right}
+use Rattle.std.proofs.{Common.{◌≡◌, zero, suc, Bool, true, cond, List, [], ◌∷◌, map, sym, ap, ◌∙◌, subst, arith, Contains, filter}, lemmas.{Bool.cond_both, List.Elements.Contains-append_right}}
 
 pub Contains-cons : {X : Type 0} (x : X) (xs : List X) (y : X) → Contains xs y → Contains (x ∷ xs) y
 Contains-cons x xs y h = Contains-append_right (x ∷ []) xs y h

@@ -1,6 +1,5 @@
 -- Tests, and what passes them.
-use Rattle.std.proofs.Common.{◌≡◌, ℕ, ◌≤◌, Bool, true, false, cond, suc, List, [], ◌∷◌, map, length, Some, refl, sym, ap, ◌∙◌, arith, ◌||◌, filter}
-use Rattle.std.specs.{List.{AllByRecursion, find, list_any}, Option.option_map}
+use Rattle.std.{proofs.Common.{◌≡◌, ℕ, ◌≤◌, Bool, true, false, cond, suc, List, [], ◌∷◌, map, length, Some, refl, sym, ap, ◌∙◌, arith, ◌||◌, filter}, specs.{List.{AllByRecursion, find, list_any}, Option.option_map}}
 
 -- two tests that pass in the same cases are one
 pub same_test : (a b : Bool) → (a ≡ true → b ≡ true) → (b ≡ true → a ≡ true) → a ≡ b

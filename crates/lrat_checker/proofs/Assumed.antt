@@ -1,6 +1,5 @@
 -- Literals that are assumed false.
-use Rattle.std.proofs.Common.{◌≡◌, ℕ, suc, Bool, true, false, List, [], ◌∷◌, drop, eqb, arith, refl, sym, ap, ◌∙◌, ◌⊎◌, ◌==◌}
-use Rattle.std.{specs.List.list_any, proofs.lemmas.Bool.{false≢true, or_right, or_from, eq-eqb, Decides.nat_tests}}
+use Rattle.std.{proofs.{Common.{◌≡◌, ℕ, suc, Bool, true, false, List, [], ◌∷◌, drop, eqb, arith, refl, sym, ap, ◌∙◌, ◌⊎◌, ◌==◌}, lemmas.Bool.{false≢true, or_right, or_from, eq-eqb, Decides.nat_tests}}, specs.List.list_any}
 use Rattle.cnf_formula.{specs.Literals.{LitValue, same_literal, has_literal, negation, code_of}, proofs.Clauses.same_is}
 use Rattle.proof_rules.specs.Judging.{has_variable_twice}
 

@@ -1,9 +1,8 @@
 -- A checker stays one, line by line.
-use Rattle.std.{proofs.lemmas.{Bool.Decides.nat_tests, Grind.common_steps}, specs.List.list_any}
-use Rattle.std.proofs.Common.{◌≡◌, ℕ, ◌<◌, ◌≤◌, max, Bool, true, false, List, [], ◌∷◌, ◌++◌, length, Result, ap, arith, ◌&&◌, ◌||◌, ◌==◌, not, filter, IfOk, if◌then◌else◌}
+use Rattle.std.proofs.{lemmas.{Bool.Decides.nat_tests, Grind.common_steps}, Common.{◌≡◌, ℕ, ◌<◌, ◌≤◌, max, Bool, true, false, List, [], ◌∷◌, ◌++◌, length, Result, ap, arith, ◌&&◌, ◌||◌, ◌==◌, not, filter, IfOk, if◌then◌else◌}}
+use Rattle.std.specs.List.{list_any}
 use Rattle.cnf_formula.specs.{Lines.{ProofLineValue, DeletionValue}, Literals.LitValue, declared.line.LratLine.TheVariants.{Addition, Deletion}}
-use Rattle.proof_rules.specs.{declared.verdict.LineVerdict.{LineVerdict, TheVariants.{Accepted, Refused}}, Held.{Entry, CheckerValue, has_none}}
-use Rattle.proof_rules.specs.{declared.verdict.LineCode.TheVariants.{VariableRange, VariableTwice}, Testing.{are_held, has_number_twice}}
+use Rattle.proof_rules.specs.{declared.verdict.{LineVerdict.{LineVerdict, TheVariants.{Accepted, Refused}}, LineCode.TheVariants.{VariableRange, VariableTwice}}, Held.{Entry, CheckerValue, has_none}, Testing.{are_held, has_number_twice}}
 use Rattle.proof_rules.{specs.Judging.{verdict_of, deletion_verdict, is_foreign, has_variable_twice, led_verdict, is_accepted}, proofs.Kept.stays_checker}
 use Rattle.lrat_checker.specs.{inner.Marking.MarksValue, Stored.TableValue, Checking.{checker_of, CanCheck}}
 

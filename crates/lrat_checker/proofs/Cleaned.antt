@@ -1,10 +1,8 @@
 -- Lists without the places of clauses that are no longer held.
-use Rattle.std.proofs.Common.{◌≡◌, ◌⊎◌, ℕ, ◌<◌, Bool, true, List, length, set, arith, All, Contains, filter}
-use Rattle.std.proofs.lemmas.{Bool.cases_eq, List.{get_or-set_same, get_or-set_other, length-set, Elements.filter_passes}}
+use Rattle.std.proofs.{Common.{◌≡◌, ◌⊎◌, ℕ, ◌<◌, Bool, true, List, length, set, arith, All, Contains, filter}, lemmas.{Bool.cases_eq, List.{get_or-set_same, get_or-set_other, length-set, Elements.filter_passes}}}
 use Rattle.list_laws.proofs.Members.{Contains-filter}
 use Rattle.cnf_formula.specs.Literals.{LitValue}
-use Rattle.lrat_checker.specs.{declared.leads.LedClause.LedClause, Stored.{list_at, is_held, kept_live, IsStored}}
-use Rattle.lrat_checker.proofs.{Placed.live_within, Removed.{kept_at, kept_long}}
+use Rattle.lrat_checker.{specs.{declared.leads.LedClause.LedClause, Stored.{list_at, is_held, kept_live, IsStored}}, proofs.{Placed.live_within, Removed.{kept_at, kept_long}}}
 
 -- a list without what is no longer held
 abbrev pub cleaned : List Bool → List (List ℕ) → ℕ → List (List ℕ)

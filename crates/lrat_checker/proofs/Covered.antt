@@ -1,10 +1,9 @@
 -- Held clauses of which every literal stands in a clause.
-use Rattle.std.{proofs.lemmas.{Bool.{Decides.nat_tests, false≢true, cases_Bool, or_parts}, List.{get_or_default, Elements.All-contains}}, specs.List.list_any}
-use Rattle.std.proofs.Common.{◌≡◌, ℕ, suc, ◌<◌, Bool, true, false, List, [], ◌∷◌, length, get_or, refl, sym, ap, ◌∙◌, ⊎_elim, arith, ◌||◌, Contains}
-use Rattle.std.proofs.lemmas.{List.Sums.AllPass-from_list_all, Map.Views.Contains-from_any}
+use Rattle.std.proofs.lemmas.{Bool.{Decides.nat_tests, false≢true, cases_Bool, or_parts}, List.{get_or_default, Elements.All-contains}}
+use Rattle.std.proofs.{Common.{◌≡◌, ℕ, suc, ◌<◌, Bool, true, false, List, [], ◌∷◌, length, get_or, refl, sym, ap, ◌∙◌, ⊎_elim, arith, ◌||◌, Contains}, lemmas.{List.Sums.AllPass-from_list_all, Map.Views.Contains-from_any}}
+use Rattle.std.specs.List.{list_any}
 use Rattle.cnf_formula.{specs.Literals.{LitValue, has_literal, is_superset, code_of}, proofs.Clauses.same_is}
-use Rattle.lrat_checker.specs.{inner.Leads.{signature_of, IsLead}, declared.leads.LedClause.LedClause, Stored.{list_at, led_as, IsLed, held_of, finds}}
-use Rattle.lrat_checker.proofs.{Signed.signature_within, Placed.live_within}
+use Rattle.lrat_checker.{specs.{inner.Leads.{signature_of, IsLead}, declared.leads.LedClause.LedClause, Stored.{list_at, led_as, IsLed, held_of, finds}}, proofs.{Signed.signature_within, Placed.live_within}}
 use Rattle.proof_rules.specs.Held.{Entry}
 
 -- ---- a test of what is held, by places

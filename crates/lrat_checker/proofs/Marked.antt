@@ -1,9 +1,8 @@
 -- Marks on literals, counted in a table.
-use Rattle.std.proofs.Common.{◌≡◌, ℕ, ◌+◌, ◌-◌, ◌≤◌, Bool, true, false, cond, List, [], ◌∷◌, ◌++◌, length, take, drop, get_or, set, refl, sym, ap, ◌∙◌, subst, arith, ◌||◌, nat_lt, All, reverse}
-use Rattle.std.proofs.lemmas.{Bool.{false≢true, Decides.nat_tests}, List.{Folds.list_any-append, Elements.{All-head, All-tail, All-push}}}
+use Rattle.std.proofs.{Common.{◌≡◌, ℕ, ◌+◌, ◌-◌, ◌≤◌, Bool, true, false, cond, List, [], ◌∷◌, ◌++◌, length, take, drop, get_or, set, refl, sym, ap, ◌∙◌, subst, arith, ◌||◌, nat_lt, All, reverse}, lemmas.Bool.{false≢true, Decides.nat_tests}}
+use Rattle.std.proofs.lemmas.List.{Folds.list_any-append, Elements.{All-head, All-tail, All-push}}
 use Rattle.std.proofs.lemmas.List.{length-set, get_or_append_left, get_or-set_same, get_or-set_other, length_push, reverse-append, length-reverse, take-append-drop, drop_at, length-drop, get_or_read}
-use Rattle.cnf_formula.specs.{Literals.{LitValue, same_literal, has_literal, code_of}, Formulas.IsAbout}
-use Rattle.cnf_formula.proofs.{Clauses.same_is, Codes.{same_code, code_within}}
+use Rattle.cnf_formula.{specs.{Literals.{LitValue, same_literal, has_literal, code_of}, Formulas.IsAbout}, proofs.{Clauses.same_is, Codes.{same_code, code_within}}}
 use Rattle.lrat_checker.specs.inner.Marking.{times, IsCounted}
 use Rattle.proof_rules.proofs.Taking.{same_itself}
 

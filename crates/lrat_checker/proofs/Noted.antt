@@ -1,11 +1,10 @@
 -- Places in the lists of literals.
-use Rattle.std.{proofs.lemmas.{Grind.common_steps, Bool.cases_eq, List.{Folds.list_any-append, Sums.AllPass-from_list_all}}, specs.List.list_all}
-use Rattle.std.proofs.Common.{◌≡◌, ℕ, ◌+◌, ◌<◌, Bool, true, false, List, [], ◌∷◌, ◌++◌, length, take, get_or, set, refl, ◌∙◌, arith, All, Contains}
-use Rattle.std.proofs.lemmas.List.{get_or-set_same, get_or-set_other, take_more}
+use Rattle.std.proofs.lemmas.{Grind.common_steps, Bool.cases_eq, List.{Folds.list_any-append, Sums.AllPass-from_list_all}}
+use Rattle.std.{proofs.{Common.{◌≡◌, ℕ, ◌+◌, ◌<◌, Bool, true, false, List, [], ◌∷◌, ◌++◌, length, take, get_or, set, refl, ◌∙◌, arith, All, Contains}, lemmas.List.{get_or-set_same, get_or-set_other, take_more}}, specs.List.list_all}
 use Rattle.list_laws.proofs.Places.{by_place_push}
 use Rattle.cnf_formula.{specs.{Literals.{LitValue, same_literal, has_literal, code_of, negation}, Formulas.IsClause}, proofs.Clauses.same_is}
-use Rattle.lrat_checker.specs.{Stored.{list_at, is_held, answers, IsIndexed, led_as, IsLed, IsStored, held_of, last_of}, declared.leads.LedClause.LedClause}
-use Rattle.lrat_checker.{proofs.Placed.{all_by_place, not_all, rises_push, live_within, some_fails}, specs.inner.Leads.IsLead}
+use Rattle.lrat_checker.specs.{Stored.{list_at, is_held, answers, IsIndexed, led_as, IsLed, IsStored, held_of, last_of}, declared.leads.LedClause.LedClause, inner.Leads.IsLead}
+use Rattle.lrat_checker.proofs.Placed.{all_by_place, not_all, rises_push, live_within, some_fails}
 use Rattle.proof_rules.specs.Accepting.{Group, has_negated, is_answered}
 
 pub grown : {A : Type 0} (ls : List (List A)) (k : ℕ) (new : List A) → k < length ls → ((x : A) → Contains (list_at ls k) x → Contains new x) → (code : ℕ) (x : A) → Contains (list_at ls code) x → Contains (list_at (set ls k new) code) x

@@ -1,8 +1,7 @@
 -- Clauses that are let go, and held again.
-use Rattle.std.proofs.lemmas.Grind.{common_steps}
-use Rattle.std.proofs.Common.{◌≡◌, ℕ, zero, suc, ◌+◌, ◌<◌, Bool, true, false, List, [], ◌∷◌, ◌++◌, length, take, get_or, set, refl, sym, ap, ◌∙◌, arith, ◌⊎◌, ◌≢◌, ◌==◌, ◌&&◌, ◌||◌, not, filter}
-use Rattle.std.{specs.List.{list_any, list_all}, proofs.lemmas.{Bool.{Decides.nat_tests, false≢true, eqb-true, cases_eq}, List.Elements.{All-head, All-tail}}}
-use Rattle.std.proofs.lemmas.List.{length-set, get_or-set_same, get_or-set_other, get_or_default, same_lists, drop_more, take_more, take-append-drop}
+use Rattle.std.proofs.{lemmas.Grind.common_steps, Common.{◌≡◌, ℕ, zero, suc, ◌+◌, ◌<◌, Bool, true, false, List, [], ◌∷◌, ◌++◌, length, take, get_or, set, refl, sym, ap, ◌∙◌, arith, ◌⊎◌, ◌≢◌, ◌==◌, ◌&&◌, ◌||◌, not, filter}}
+use Rattle.std.proofs.lemmas.{Bool.{Decides.nat_tests, false≢true, eqb-true, cases_eq}, List.{Elements.{All-head, All-tail}, length-set, get_or-set_same, get_or-set_other, get_or_default, same_lists, drop_more, take_more, take-append-drop}}
+use Rattle.std.specs.List.{list_any, list_all}
 use Rattle.cnf_formula.specs.Literals.{LitValue}
 use Rattle.proof_rules.specs.Testing.{has_number_twice, are_held}
 use Rattle.lrat_checker.{specs.Stored.{held_of, is_live, kept_live, Rises}, proofs.Placed.{Others, rises_tail, head_below, others_above}}

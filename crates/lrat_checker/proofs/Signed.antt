@@ -1,7 +1,6 @@
 -- Signatures of clauses: one that stands in another has no bit that the other lacks.
-use Rattle.std.proofs.Common.{◌≡◌, ℕ, ◌+◌, ◌<◌, ◌≤◌, true, List, [], ◌∷◌, ◌++◌, length, take, get_or, sym, ap, ◌∙◌, subst, arith, bit_or}
-use Rattle.std.{specs.Int.{bit_at, Bits.{or_zero_r, or_zero_l}}, proofs.Math.Nat.max-eq_right}
-use Rattle.std.proofs.lemmas.{Bool.{false≢true, eq-eqb}, List.take_more, Nat.Bits.{bit_at_or, bit_at-zero, same_from_bits}}
+use Rattle.std.proofs.{Common.{◌≡◌, ℕ, ◌+◌, ◌<◌, ◌≤◌, true, List, [], ◌∷◌, ◌++◌, length, take, get_or, sym, ap, ◌∙◌, subst, arith, bit_or}, Math.Nat.max-eq_right, lemmas.{Bool.{false≢true, eq-eqb}, List.take_more}}
+use Rattle.std.{proofs.lemmas.Nat.Bits.{bit_at_or, bit_at-zero, same_from_bits}, specs.Int.{bit_at, Bits.{or_zero_r, or_zero_l}}}
 use Rattle.cnf_formula.specs.Literals.{LitValue, has_literal, is_superset}
 use Rattle.lrat_checker.specs.inner.Leads.{bit_of, signature_of, has_bits_within}
 

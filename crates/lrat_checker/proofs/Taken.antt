@@ -3,8 +3,7 @@ use Rattle.std.proofs.Common.{arith, ◌≡◌, ℕ, ◌+◌, ◌<◌, true, fal
 use Rattle.std.{proofs.lemmas.{Grind.common_steps, Bool.{false≢true, or_cases}, List.Elements.{All-head, All-tail}}, specs.List.list_all}
 use lib.{IntN.nat_abs, Signed.lt_z}
 use Rattle.cnf_formula.{specs.{Literals.{LitValue, same_literal, has_literal, negation}, Formulas.IsAbout}, proofs.Clauses.same_is}
-use Rattle.proof_rules.specs.{declared.verdict.LineCode.{LineCode, TheVariants.HintNotUnit}, Held.{Entry, clause_at, open_literals}, Judging.{given_by, led_to}}
-use Rattle.proof_rules.{specs.Accepting.leading, proofs.Taking.first_open}
+use Rattle.proof_rules.{specs.{declared.verdict.LineCode.{LineCode, TheVariants.HintNotUnit}, Held.{Entry, clause_at, open_literals}, Judging.{given_by, led_to}, Accepting.leading}, proofs.Taking.first_open}
 use Rattle.lrat_checker.specs.inner.Marking.{Extends}
 
 -- ---- the literals of a clause

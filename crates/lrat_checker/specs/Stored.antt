@@ -1,6 +1,5 @@
 -- Clauses in a table by their numbers, and the lists in which a literal's clauses are found (occurrence lists).
-use Rattle.std.specs.Prelude.{◌≡◌, ◌==◌, ◌&&◌, ◌||◌, not, ℕ, ◌+◌, ◌*◌, ◌-◌, ◌<◌, Bool, true, false, List, [], ◌∷◌, length, slice_index, slice_index_or, take, ◌≤◌, All, Contains, if◌then◌else◌}
-use Rattle.std.specs.List.{list_any}
+use Rattle.std.specs.{Prelude.{◌≡◌, ◌==◌, ◌&&◌, ◌||◌, not, ℕ, ◌+◌, ◌*◌, ◌-◌, ◌<◌, Bool, true, false, List, [], ◌∷◌, length, slice_index, slice_index_or, take, ◌≤◌, All, Contains, if◌then◌else◌}, List.list_any}
 use Rattle.cnf_formula.specs.{Literals.{LitValue, has_literal, is_superset, code_of}, Formulas.IsClause}
 use Rattle.lrat_checker.specs.{inner.Leads.{IsLead, signature_of, has_bits_within}, declared.leads.LedClause.LedClause}
 use Rattle.proof_rules.specs.{Held.Entry, Accepting.{Group, is_answered}}

@@ -2,8 +2,7 @@
 
 ghost use Rattle.std.specs.Prelude.{◌≡◌, ◌≢◌, ◌&&◌, Ok, IfOk, OnOk, OnErr, true, false};
 ghost use Rattle.cnf_formula.specs.Formulas.{IsClause, Satisfiable};
-ghost use Rattle.proof_rules.specs.{Held.start_of, Judging.{verdict_of, deletion_verdict, is_accepted, is_implied}, Accepting.{Implied, Redundant}};
-ghost use Rattle.proof_rules.specs.Refuting.{is_fresh as is_fresh_for, with_line, without_clauses};
+ghost use Rattle.proof_rules.specs.{Held.start_of, Judging.{verdict_of, deletion_verdict, is_accepted, is_implied}, Accepting.{Implied, Redundant}, Refuting.{is_fresh as is_fresh_for, with_line, without_clauses}};
 
 use crate::freshness::is_fresh;
 use crate::judging::judge;

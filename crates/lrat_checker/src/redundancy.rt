@@ -1,11 +1,9 @@
 //! Lines whose hints lead to no conflict, and the groups by which they leave satisfiable what is
 //! held (RAT).
 
-ghost use Rattle.std.specs.Prelude.{◌≡◌, ◌==◌, ◌||◌, ℕ, ◌+◌, ◌<◌, true, false, List, [], Option, Some, None, Ok, length, drop, IfOk, if◌then◌else◌};
-ghost use Rattle.std.specs.{BTreeSet.contains, Ordering.nat_cmp};
+ghost use Rattle.std.specs.{Prelude.{◌≡◌, ◌==◌, ◌||◌, ℕ, ◌+◌, ◌<◌, true, false, List, [], Option, Some, None, Ok, length, drop, IfOk, if◌then◌else◌}, BTreeSet.contains, Ordering.nat_cmp};
 ghost use Rattle.cnf_formula.specs.Formulas.{IsClause};
-ghost use Rattle.proof_rules.specs.{Held.clause_at, Accepting.{leading, groups_of, without_negated}};
-ghost use Rattle.proof_rules.specs.Judging.{assumed, closing_fault, group_fault as fault_of_group, groups_fault as fault_of_groups, redundant_verdict};
+ghost use Rattle.proof_rules.specs.{Held.clause_at, Accepting.{leading, groups_of, without_negated}, Judging.{assumed, closing_fault, group_fault as fault_of_group, groups_fault as fault_of_groups, redundant_verdict}};
 ghost use Rattle.lrat_checker.specs.inner.{Marking.Extends, Steps.{Names, Same}};
 
 use crate::leading::{Led, lead, next_group};

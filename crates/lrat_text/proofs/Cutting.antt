@@ -3,8 +3,7 @@ use Rattle.std.proofs.lemmas.{Bool.{false≢true, cases_Bool}, Grind.common_step
 use Rattle.std.proofs.Common.{◌≡◌, ℕ, suc, ◌+◌, ◌-◌, ◌≤◌, true, false, List, [], ◌∷◌, ◌++◌, length, drop, Option, Some, None, Result, Ok, Err, refl, sym, ap, ◌∙◌, subst, ⊎_elim, arith, ◌==◌}
 use Rattle.text_lines.specs.Text.{Row, onto_row, rows_of}
 use Rattle.cnf_formula.specs.declared.line.LratLine.{LratLine}
-use Rattle.lrat_text.specs.declared.fault.LratTextFault.{LratTextFault}
-use Rattle.lrat_text.specs.Reading.{row_says, size_of, Said, nothing_said, said_at, said_by, ReaderValue, fed, said_to, fault_of, with_taken, after_next}
+use Rattle.lrat_text.specs.{declared.fault.LratTextFault.LratTextFault, Reading.{row_says, size_of, Said, nothing_said, said_at, said_by, ReaderValue, fed, said_to, fault_of, with_taken, after_next}}
 
 -- ---- the first line
 

@@ -1,7 +1,6 @@
 -- The number that digits spell, and how it is read.
-use Rattle.std.proofs.Common.{◌≡◌, ◌≢◌, ℕ, ◌^◌, ◌<◌, ◌≤◌, true, List, [], ◌∷◌, length, get_or, ap, ◌∙◌, ⊎_elim, arith, ◌&&◌, Ok, Err, decimal, nat_le, nat_lt}
-use Rattle.std.{specs.{List.list_all, Str.Parse.AllDigits}, proofs.lemmas.Fmt.decimal_digit}
-use Rattle.std.proofs.lemmas.Bool.{and_parts, leb-true, lt-ltb, cases_lt, not-true, eqb-false, ltb-true}
+use Rattle.std.proofs.{Common.{◌≡◌, ◌≢◌, ℕ, ◌^◌, ◌<◌, ◌≤◌, true, List, [], ◌∷◌, length, get_or, ap, ◌∙◌, ⊎_elim, arith, ◌&&◌, Ok, Err, decimal, nat_le, nat_lt}, lemmas.Fmt.decimal_digit}
+use Rattle.std.{proofs.lemmas.Bool.{and_parts, leb-true, lt-ltb, cases_lt, not-true, eqb-false, ltb-true}, specs.{List.list_all, Str.Parse.AllDigits}}
 use Rattle.text_lines.proofs.Numbers.{digit_is, spells}
 use Rattle.lrat_text.{specs.{declared.fault.LratTextFault.TheVariants.NumberRange, Tokens.{is_number, number_from}}, proofs.Spelled.number_read}
 

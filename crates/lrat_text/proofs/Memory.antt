@@ -1,10 +1,8 @@
 -- No text is at fault for out of memory.
-use Rattle.std.proofs.Common.{arith, ◌≡◌, ◌≢◌, ℕ, ◌+◌, Bool, true, false, cond, List, [], ◌∷◌, Option, Some, Result, Err, nat_lt, codes, slice_index}
-use Rattle.std.proofs.lemmas.Bool.Decides.{nat_tests}
+use Rattle.std.proofs.{Common.{arith, ◌≡◌, ◌≢◌, ℕ, ◌+◌, Bool, true, false, cond, List, [], ◌∷◌, Option, Some, Result, Err, nat_lt, codes, slice_index}, lemmas.Bool.Decides.nat_tests}
 use Rattle.text_lines.specs.{Text.Row, Check.{◌>>=◌, refuse}}
 use Rattle.cnf_formula.specs.declared.line.LratLine.{LratLine}
-use Rattle.lrat_text.specs.declared.fault.LratTextFault.{LratTextFault, TheVariants.OutOfMemory}
-use Rattle.lrat_text.specs.Tokens.{Token, is_word, number_from, after_minus, id_of, literal_of, hint_of}
+use Rattle.lrat_text.specs.{declared.fault.LratTextFault.{LratTextFault, TheVariants.OutOfMemory}, Tokens.{Token, is_word, number_from, after_minus, id_of, literal_of, hint_of}}
 use Rattle.lrat_text.specs.Reading.{up_to_zero, no_more, addition_of, deletion_of, behind_id, line_of, row_says, size_of, Said, said_at, said_by}
 
 abbrev IsToldOf : {A : Type 0} → Result A LratTextFault → Type 0

@@ -1,6 +1,5 @@
 -- Lines that are passed over, one after the other.
-use Rattle.std.proofs.Common.{◌≡◌, ℕ, ◌+◌, ◌-◌, ◌<◌, ◌≤◌, Bool, true, false, List, length, get_or, drop, slice_range, refl, ap, ◌∙◌, ⊎_elim, arith}
-use Rattle.std.proofs.lemmas.{Bool.cases_lt, List.{drop-drop, drop_all, get_or-drop, length-take, length-drop}}
+use Rattle.std.proofs.{Common.{◌≡◌, ℕ, ◌+◌, ◌-◌, ◌<◌, ◌≤◌, Bool, true, false, List, length, get_or, drop, slice_range, refl, ap, ◌∙◌, ⊎_elim, arith}, lemmas.{Bool.cases_lt, List.{drop-drop, drop_all, get_or-drop, length-take, length-drop}}}
 use Rattle.text_lines.{specs.Text.rows_of, proofs.Rows.{rows_step, rows_end_at}}
 use Rattle.lrat_text.specs.{declared.holding.HeldLine.HeldLine, Reading.{Said, nothing_said, said_by}, inner.Holding.{IsClear, IsFirstFrom, IsHolding}}
 

@@ -1,13 +1,10 @@
 -- The text of a line is read as that line.
 use Rattle.std.proofs.Common.{◌≡◌, ℕ, suc, ◌+◌, ◌-◌, ◌^◌, ◌<◌, Bool, true, false, List, [], ◌∷◌, ◌++◌, length, get_or, map, Some, Result, Ok, refl, sym, ap, ◌∙◌, subst, arith, lit<, length-append, append_assoc, append-nil, nat_lt, filter, All, ℤ, decimal, codes}
-use Rattle.std.{specs.List.{list_all, slice_split, join_with_byte}, proofs.lemmas.{Bool.and_parts, List.{Elements.{All-head, All-tail}, Folds.list_all-append}}}
-use Rattle.text_lines.specs.{Text.{Row, rows_of, line}, Check.{◌>>=◌}}
-use Rattle.cnf_formula.specs.{Literals.{LitValue, IsLit}, Lines.{ProofLineValue, DeletionValue}, declared.line.LratLine.LratLine}
-use Rattle.cnf_formula.specs.declared.line.LratLine.TheVariants.{Addition, Deletion}
-use Rattle.lrat_text.specs.{declared.fault.LratTextFault.LratTextFault, Printing.{literal_word, hint_word, closed, line_words, IsId, IsHint, IsReadable}}
-use Rattle.lrat_text.{specs.Tokens.{Token, placed_from, tokens_from, content, id_of, literal_of, hint_of}, proofs.Blanks.{is_blank, token}}
-use Rattle.lrat_text.specs.Reading.{up_to_zero, no_more, addition_of, deletion_of, behind_id, line_of, row_says, said_by}
-use Rattle.lrat_text.proofs.Spelled.{IsWord, ReadsAs, id_reads, literal_reads, hint_reads, no_comment}
+use Rattle.std.{proofs.lemmas.{Bool.and_parts, List.{Elements.{All-head, All-tail}, Folds.list_all-append}}, specs.List.{list_all, slice_split, join_with_byte}}
+use Rattle.text_lines.specs.{Text.{Row, rows_of, line}, Check.◌>>=◌}
+use Rattle.cnf_formula.specs.{Literals.{LitValue, IsLit}, Lines.{ProofLineValue, DeletionValue}, declared.line.LratLine.{LratLine, TheVariants.{Addition, Deletion}}}
+use Rattle.lrat_text.specs.{declared.fault.LratTextFault.LratTextFault, Printing.{literal_word, hint_word, closed, line_words, IsId, IsHint, IsReadable}, Tokens.{Token, placed_from, tokens_from, content, id_of, literal_of, hint_of}}
+use Rattle.lrat_text.{specs.Reading.{up_to_zero, no_more, addition_of, deletion_of, behind_id, line_of, row_says, said_by}, proofs.{Blanks.{is_blank, token}, Spelled.{IsWord, ReadsAs, id_reads, literal_reads, hint_reads, no_comment}}}
 
 abbrev pub whole : List ℕ → Row
 whole bytes = record { bytes = bytes; whole = true }

@@ -1,11 +1,10 @@
 -- What is left of a text where no line is said.
-use Rattle.std.{proofs.lemmas.{Bool.{cases_Bool, eqb-false, ne_eqb}, List.{drop-drop, drop_at, length-append}}, specs.List.{All, flat_map}}
+use Rattle.std.proofs.lemmas.{Bool.{cases_Bool, eqb-false, ne_eqb}, List.{drop-drop, drop_at, length-append}}
 use Rattle.std.proofs.Common.{◌≡◌, ◌≢◌, ℕ, ◌+◌, Bool, true, false, cond, List, [], ◌∷◌, ◌++◌, length, drop, Option, Some, None, Result, Ok, Err, refl, sym, ap, ◌∙◌, subst, ⊎_elim, arith, ◌==◌, ◌||◌, if◌then◌else◌}
-use Rattle.std.proofs.lemmas.List.Elements.{All-nil, All-cons, All-weaker}
+use Rattle.std.{proofs.lemmas.List.Elements.{All-nil, All-cons, All-weaker}, specs.List.{All, flat_map}}
 use Rattle.text_lines.{specs.Text.{Row, onto_row, rows_of, row_text}, proofs.Rows.{rows_back, rows_last}}
 use Rattle.cnf_formula.specs.declared.line.LratLine.{LratLine}
-use Rattle.lrat_text.{specs.declared.fault.LratTextFault.LratTextFault, proofs.Cutting.said_fault}
-use Rattle.lrat_text.specs.Reading.{row_says, size_of, Said, nothing_said, said_at, said_by, ReaderValue, said_to, fault_of, after_next}
+use Rattle.lrat_text.{specs.{declared.fault.LratTextFault.LratTextFault, Reading.{row_says, size_of, Said, nothing_said, said_at, said_by, ReaderValue, said_to, fault_of, after_next}}, proofs.Cutting.said_fault}
 
 -- no line feed is among them
 abbrev AreClear : List ℕ → Type 0

@@ -2,8 +2,7 @@
 use Rattle.std.specs.Prelude.{ℕ, ◌+◌, ◌==◌, ◌||◌, Bool, false, if◌then◌else◌, List, [], ◌∷◌, ◌++◌, length, drop, slice_index, Option, None, Some, Result, Ok, Err, codes}
 use Rattle.text_lines.specs.{Text.{Row, rows_of}, Check.◌>>=◌}
 use Rattle.cnf_formula.specs.declared.line.LratLine.{LratLine, TheVariants.{Addition, Deletion}}
-use Rattle.lrat_text.specs.declared.fault.LratTextFault.{LratTextFault, TheVariants.{BadToken, Truncated}}
-use Rattle.lrat_text.specs.Tokens.{Token, tokens_from, content, is_word, id_of, literal_of, hint_of}
+use Rattle.lrat_text.specs.{declared.fault.LratTextFault.{LratTextFault, TheVariants.{BadToken, Truncated}}, Tokens.{Token, tokens_from, content, is_word, id_of, literal_of, hint_of}}
 
 -- ---- the line of some tokens; `lack` is the fault where they end before a closing zero
 

@@ -2,8 +2,7 @@
 
 ghost use Rattle.std.specs.Prelude.{◌≡◌, Result};
 ghost use Rattle.text_lines.specs.Check.{Gives};
-ghost use Rattle.lrat_text.specs.{Tokens.{Token as TokenValue, id_of, literal_of, hint_of}, Reading.{up_to_zero, no_more}};
-ghost use Rattle.lrat_text.specs.declared.fault.LratTextFault.{LratTextFault};
+ghost use Rattle.lrat_text.specs.{Tokens.{Token as TokenValue, id_of, literal_of, hint_of}, Reading.{up_to_zero, no_more}, declared.fault.LratTextFault.LratTextFault};
 
 use crate::fault::LratTextFault;
 use crate::numbers::{hint_of, id_of, literal_of};

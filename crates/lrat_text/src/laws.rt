@@ -4,8 +4,7 @@
 ghost use Rattle.std.specs.Prelude.{◌≡◌, ◌≢◌, ℕ, Bool, true, false, List, [], ◌++◌, length, All, Ok, Err, Some, None};
 ghost use Rattle.text_lines.specs.Text.{rows_of, line};
 ghost use Rattle.cnf_formula.specs.declared.line.LratLine.{LratLine};
-ghost use Rattle.lrat_text.specs.{Printing.{line_words, IsReadable}, Reading.{ReaderValue, nothing_said, said_by, fed, said_to, after_next}};
-ghost use Rattle.lrat_text.specs.declared.fault.LratTextFault.{LratTextFault};
+ghost use Rattle.lrat_text.specs.{Printing.{line_words, IsReadable}, Reading.{ReaderValue, nothing_said, said_by, fed, said_to, after_next}, declared.fault.LratTextFault.LratTextFault};
 
 use crate::fault::LratTextFault;
 

@@ -1,7 +1,6 @@
 //! A file system in memory.
 
-ghost use Rattle.std.specs.Prelude.{◌≡◌, ℕ, List, ◌<◌, true, None, Some, vec_len, IfErr, IfOk, OnErr, OnOk};
-ghost use Rattle.std.specs.{BTreeMap.get_by_text, IoError.error_kind, Option.option_copied};
+ghost use Rattle.std.specs.{Prelude.{◌≡◌, ℕ, List, ◌<◌, true, None, Some, vec_len, IfErr, IfOk, OnErr, OnOk}, BTreeMap.get_by_text, IoError.error_kind, Option.option_copied};
 ghost use Rattle.outer_ports.specs.{Disks.{bytes_at, MakesFile}, Port.Rose};
 ghost use Rattle.memory_files.specs.Memory.{disk_of};
 

@@ -1,13 +1,10 @@
 -- Groups that share no link with another may be taken at any turn, so the greedy cover is the same with these taken first.
 use Rattle.std.proofs.Common.{◌≡◌, ℕ, zero, suc, ◌+◌, ◌-◌, ◌*◌, ◌<◌, ◌≤◌, ◌⊎◌, Bool, true, false, ◌&&◌, ◌||◌, List, [], ◌∷◌, ◌++◌, append_assoc, length, refl, sym, ap, ◌∙◌, ⊎_elim, arith, ◌==◌, Option, None, Some, filter, nat_lt, not}
-use Rattle.std.{specs.{List.{AllByRecursion, list_any, range_with_len}, Option.option_map_or}, proofs.{lemmas.List.append-nil}}
-use Rattle.std.proofs.lemmas.Bool.{both_ways, cases_eq, cases_order, cond_both, false_from_ne_true, and_parts, and_from, ne_eqb, not-true, not_from_false, or_left, or_right}
-use Rattle.std.proofs.lemmas.List.{Elements.filter_agree, Folds.list_any-append, FromFn.length-range_with_len}
+use Rattle.std.proofs.lemmas.{List.{append-nil, Elements.filter_agree, Folds.list_any-append}, Bool.{both_ways, cases_eq, cases_order, cond_both, false_from_ne_true, and_parts, and_from, ne_eqb, not-true, not_from_false, or_left, or_right}}
+use Rattle.std.{proofs.lemmas.List.FromFn.length-range_with_len, specs.{List.{AllByRecursion, list_any, range_with_len}, Option.option_map_or}}
 use Rattle.list_laws.proofs.{Ranges.any_at, Tests.few_kept}
-use Rattle.schedule.specs.{Links.{TopologyValue, has_link}, Judging.group_at}
-use Rattle.schedule.proofs.{First.{any_among, any_found, each_among}, Ordered.{among_from_any, any_from_among}}
-use Rattle.node_cuts.specs.{Sides.NodeSet, Opened.is_alone}
-use Rattle.node_cuts.specs.Cuts.{all_groups, ascending, best_of, best_taken, better, opened, opens, opens_more}
+use Rattle.schedule.{specs.{Links.{TopologyValue, has_link}, Judging.group_at}, proofs.{First.{any_among, any_found, each_among}, Ordered.{among_from_any, any_from_among}}}
+use Rattle.node_cuts.specs.{Sides.NodeSet, Opened.is_alone, Cuts.{all_groups, ascending, best_of, best_taken, better, opened, opens, opens_more}}
 use Rattle.node_cuts.proofs.{Choosing.{IsChoice, IsMost, chosen, is_new}, Counting.{any_alike_of, count_alike_of}, Covered.in_range}
 
 module _ (u : NodeSet) (t : TopologyValue) where

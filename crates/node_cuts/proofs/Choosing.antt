@@ -1,11 +1,10 @@
 -- The best of some groups, and those that are left for later turns.
 use Rattle.std.proofs.Common.{◌≡◌, ℕ, zero, suc, ◌+◌, ◌<◌, Bool, true, false, ◌&&◌, ◌||◌, cond, List, [], ◌∷◌, ◌++◌, refl, sym, ap, ◌∙◌, subst, arith, Option, None, Some, below_more, count_by, filter, length, nat_lt, not}
-use Rattle.std.{specs.{List.{list_any, range_with_len}, Option.{is_some, option_map}}, proofs.{lemmas.List.{Folds.list_any-append, Sums.sum_by-cons}}}
-use Rattle.std.proofs.lemmas.Bool.{both_ways, cond-false, cond_both, false≢true, false_from_ne_true, and_parts, and_from, le-ltb, lt-ltb, ltb-true, not-true, not_from_false, or_parts}
+use Rattle.std.proofs.lemmas.{List.{Folds.list_any-append, Sums.sum_by-cons}, Bool.{both_ways, cond-false, cond_both, false≢true, false_from_ne_true, and_parts, and_from, le-ltb, lt-ltb, ltb-true, not-true, not_from_false, or_parts}}
+use Rattle.std.specs.{List.{list_any, range_with_len}, Option.{is_some, option_map}}
 use Rattle.list_laws.proofs.Tests.{same_test}
 use Rattle.schedule.{specs.{Links.{TopologyValue, has_link}, Judging.group_at}, proofs.First.{any_among, any_found}}
-use Rattle.node_cuts.specs.{declared.floor.Floor.Floor, Sides.NodeSet, Cuts.{all_groups, best_of, better, enters, is_among, opened, opens, opens_more}}
-use Rattle.node_cuts.proofs.Best.{above_all, not_both, not_itself}
+use Rattle.node_cuts.{specs.{declared.floor.Floor.Floor, Sides.NodeSet, Cuts.{all_groups, best_of, better, enters, is_among, opened, opens, opens_more}}, proofs.Best.{above_all, not_both, not_itself}}
 
 -- something passes exactly where some are counted
 pub any_counts : {X : Type 0} (p : X → Bool) (xs : List X) → list_any p xs ≡ nat_lt 0 (count_by p xs)

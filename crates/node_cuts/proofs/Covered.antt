@@ -1,11 +1,9 @@
 -- The groups of each cover have every usable link into the set, so that they carry all that comes in.
 use Rattle.std.proofs.Common.{◌≡◌, ℕ, zero, suc, ◌+◌, ◌*◌, ◌<◌, ◌≤◌, Bool, true, false, ◌||◌, ◌&&◌, cond, List, [], ◌∷◌, ◌++◌, length, reverse, refl, sym, ap, ◌∙◌, ⊎_elim, inl, inr, arith, ◌==◌, count_by, nat_lt, not, Option, None, Some}
-use Rattle.std.{specs.{List.list_any, Option.option_map_or}, proofs.{Math.Nat.add-mul, lemmas.List.{get_or_default, get_or_past}}}
-use Rattle.std.proofs.lemmas.Bool.{Decides.nat_tests, both_ways, cases_Bool, cases_lt, cond_both, false≢true, or_left, or_right, or_cases, and_parts, and_from, not_from_false, eq-eqb}
-use Rattle.std.proofs.lemmas.List.{Folds.{Any-from_list_any, list_any-append}, Sorted.{IsPermutation-reverse, list_any-IsPermutation}, Sums.sum_by-cons}
-use Rattle.schedule.specs.{declared.hop.Hop.Hop, Links.{TopologyValue, has_link, is_usable}, Sends.{ScheduleValue, link_of}, Judging.group_at}
-use Rattle.schedule.specs.Fitting.{load, rounds_at}
-use Rattle.schedule.proofs.{First.{any_found, any_among}, Ordered.among_from_any}
+use Rattle.std.proofs.{Math.Nat.add-mul, lemmas.{List.{get_or_default, get_or_past}, Bool.Decides.nat_tests}}
+use Rattle.std.proofs.lemmas.{Bool.{both_ways, cases_Bool, cases_lt, cond_both, false≢true, or_left, or_right, or_cases, and_parts, and_from, not_from_false, eq-eqb}, List.Folds.{Any-from_list_any, list_any-append}}
+use Rattle.std.{proofs.lemmas.List.{Sorted.{IsPermutation-reverse, list_any-IsPermutation}, Sums.sum_by-cons}, specs.{List.list_any, Option.option_map_or}}
+use Rattle.schedule.{specs.{declared.hop.Hop.Hop, Links.{TopologyValue, has_link, is_usable}, Sends.{ScheduleValue, link_of}, Judging.group_at, Fitting.{load, rounds_at}}, proofs.{First.{any_found, any_among}, Ordered.among_from_any}}
 use Rattle.list_laws.proofs.Ranges.{any_at}
 use Rattle.node_cuts.specs.{declared.sets.Sets.{Sets, TheVariants.{Nothing, Listed, All}}, Sides.NodeSet}
 use Rattle.node_cuts.specs.Cuts.{enters, is_among, opens, taken_along, best_of, best_taken, all_groups, ascending, cover, cover_back, cover_greedily, cover_by, narrower, width_of}

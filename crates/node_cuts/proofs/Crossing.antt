@@ -1,14 +1,11 @@
 -- Whatever its steps, a schedule that solves brings each needed chunk into the set by a send of its own, so that they are no more than come in in its rounds.
 use Rattle.std.proofs.Common.{◌≡◌, ℕ, zero, suc, ◌+◌, ◌-◌, ◌*◌, ◌<◌, ◌≤◌, Bool, true, false, ◌||◌, ◌&&◌, cond, List, [], ◌∷◌, length, get_or, take, refl, sym, ap, ◌∙◌, inl, inr, arith, Some, find, ◌==◌, count_by, not, nat_le, nat_lt, sum, ◌⊎◌}
-use Rattle.std.{specs.{Option.{is_some, option_map}, List.{list_any, range_with_len}}, proofs.{Math.Nat.mul-add, lemmas.List.{take_all, get_or_past}}}
-use Rattle.std.proofs.lemmas.Bool.{Decides.nat_tests, cases_Bool, cases_lt, or_cases, and_parts, and_from, both_ways, not-true, eq-eqb, eqb-true, ltb-true}
-use Rattle.std.proofs.lemmas.{List.{Sums.sum_by_more, Elements.{All-get_or, recursion_from_All}}}
+use Rattle.std.proofs.{Math.Nat.mul-add, lemmas.{List.{take_all, get_or_past, Sums.sum_by_more}, Bool.{Decides.nat_tests, cases_Bool, cases_lt, or_cases, and_parts, and_from, both_ways, not-true, eq-eqb, eqb-true, ltb-true}}}
+use Rattle.std.{proofs.lemmas.List.Elements.{All-get_or, recursion_from_All}, specs.{Option.{is_some, option_map}, List.{list_any, range_with_len}}}
 use Rattle.list_laws.proofs.Tests.{find-map}
-use Rattle.schedule.specs.{declared.hop.Hop.Hop, Links.{TopologyValue, is_usable}, Placed.{PlacementValue, holds, placed, all_pairs}, Solving.Solves}
-use Rattle.schedule.specs.{Sends.{ScheduleValue, link_of}, Running.{after}, Fitting.{Fits, load, rounds_at}, Judging.group_at}
-use Rattle.schedule.proofs.{First.{Among, among_each, any_found, any_among, each_passes}, Ordered.among_from_any, Placing.pair_is}
-use Rattle.node_cuts.specs.{declared.sets.Sets.Sets, Sides.{NodeSet, node_sets}}
-use Rattle.node_cuts.specs.{Cuts.{stands_in, is_needed, need_of, enters, is_among, cover_by, width_by, CutValue, cut_of, first_cut_of}, inner.Refuting.cut_refutes}
+use Rattle.schedule.specs.{declared.hop.Hop.Hop, Links.{TopologyValue, is_usable}, Placed.{PlacementValue, holds, placed, all_pairs}, Solving.Solves, Sends.{ScheduleValue, link_of}, Running.after, Fitting.{Fits, load, rounds_at}}
+use Rattle.schedule.{specs.Judging.group_at, proofs.{First.{Among, among_each, any_found, any_among, each_passes}, Ordered.among_from_any, Placing.pair_is}}
+use Rattle.node_cuts.specs.{declared.sets.Sets.Sets, Sides.{NodeSet, node_sets}, Cuts.{stands_in, is_needed, need_of, enters, is_among, cover_by, width_by, CutValue, cut_of, first_cut_of}, inner.Refuting.cut_refutes}
 use Rattle.node_cuts.proofs.{Counting.{counted, no_fewer, no_fewer_of, one_more, no_more_than_both, none_counted}, Covered.{covered, carried}}
 
 -- what the placement of a test holds passes it

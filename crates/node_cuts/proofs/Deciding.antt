@@ -1,13 +1,11 @@
 -- The greatest fraction alone tells whether one of the sets refutes so many rounds.
-use Rattle.std.proofs.Common.{◌≡◌, ℕ, ◌*◌, ◌<◌, ◌≤◌, Bool, true, false, List, [], ◌∷◌, ◌++◌, map, refl, sym, ap, ◌∙◌, subst, arith, append_assoc, Option, None, Some, filter, nat_lt}
-use Rattle.std.{specs.{List.{AllByRecursion, list_any}, Option.{is_some, unwrap_or}}, proofs.lemmas.List.append-nil}
-use Rattle.std.proofs.Math.Nat.{mul_comm, mul_right_comm, mul-le-mul_right, mul-lt-mul_of_pos_right, lt_of_mul-lt-mul_right, mul-pos}
-use Rattle.std.proofs.lemmas.Bool.{ltb-true, ltb-false, lt-ltb, le-ltb, true_from_ne_false}
+use Rattle.std.proofs.{Common.{◌≡◌, ℕ, ◌*◌, ◌<◌, ◌≤◌, Bool, true, false, List, [], ◌∷◌, ◌++◌, map, refl, sym, ap, ◌∙◌, subst, arith, append_assoc, Option, None, Some, filter, nat_lt}, lemmas.List.append-nil}
+use Rattle.std.proofs.{Math.Nat.{mul_comm, mul_right_comm, mul-le-mul_right, mul-lt-mul_of_pos_right, lt_of_mul-lt-mul_right, mul-pos}, lemmas.Bool.{ltb-true, ltb-false, lt-ltb, le-ltb, true_from_ne_false}}
+use Rattle.std.specs.{List.{AllByRecursion, list_any}, Option.{is_some, unwrap_or}}
 use Rattle.list_laws.proofs.{Each.each_middle, Tests.same_test}
 use Rattle.schedule.{specs.Links.TopologyValue, proofs.First.{any_found, among_each, each_append, each_passes}}
 use Rattle.collective_spec.specs.{declared.{spec.Spec.Spec, instance.Instance.Instance}, Kinds.allows, Collectives.{kind_in, spec_instance}}
-use Rattle.node_cuts.specs.{declared.{sets.Sets.Sets, floor.Floor.Floor}, Sides.{NodeSet, node_sets}}
-use Rattle.node_cuts.specs.{Cuts.{cut_of, first_cut_of, need_of, width_by}, inner.Refuting.cut_refutes}
+use Rattle.node_cuts.specs.{declared.{sets.Sets.Sets, floor.Floor.Floor}, Sides.{NodeSet, node_sets}, Cuts.{cut_of, first_cut_of, need_of, width_by}, inner.Refuting.cut_refutes}
 use Rattle.node_cuts.specs.Floors.{exceeds, first_greatest, floor_of, fraction_of, fractions, greater_of, has_need, least_count, nothing_over_1}
 use Rattle.node_cuts.proofs.{Best.{IsBest, Positive, any_middle, best_is, step}, Crossing.{first_by_set, found_any}, Least.{least_least, least_positive}, Scaling.in_proportion}
 

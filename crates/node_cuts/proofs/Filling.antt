@@ -1,7 +1,6 @@
 -- Tables and lists that loops fill.
-use Rattle.std.proofs.Common.{◌≡◌, ℕ, ◌+◌, ◌<◌, Bool, true, false, cond, List, [], ◌∷◌, ◌++◌, get_or, length, map, slice_index_or, slice_set, take, sym, ap, ◌∙◌, ⊎_elim, arith, filter}
-use Rattle.std.{specs.List.range_with_len, proofs.lemmas.{Bool.cases_eq, List.{append-nil, get_or-set_same, get_or-set_other, map_more}}}
-use Rattle.std.proofs.lemmas.List.Elements.{filter-append}
+use Rattle.std.proofs.{Common.{◌≡◌, ℕ, ◌+◌, ◌<◌, Bool, true, false, cond, List, [], ◌∷◌, ◌++◌, get_or, length, map, slice_index_or, slice_set, take, sym, ap, ◌∙◌, ⊎_elim, arith, filter}, lemmas.Bool.cases_eq}
+use Rattle.std.{proofs.lemmas.List.{append-nil, get_or-set_same, get_or-set_other, map_more, Elements.filter-append}, specs.List.range_with_len}
 use Rattle.node_cuts.proofs.Masks.{range_more}
 
 -- a cell more

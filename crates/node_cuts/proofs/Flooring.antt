@@ -1,11 +1,10 @@
 -- The floor is a fraction of a set of nodes, or nothing over 1, and no schedule is below it.
-use Rattle.std.proofs.Common.{◌≡◌, ℕ, ◌*◌, ◌<◌, ◌≤◌, Bool, true, List, [], ◌∷◌, sym, ap, ◌∙◌, arith, find, map, Some}
-use Rattle.std.{specs.{List.AllByRecursion, Option.unwrap_or}, proofs.{Math.Nat.{mul_comm, mul_assoc, mul-le-mul_right}, lemmas.Bool.cond_both}}
+use Rattle.std.proofs.{Common.{◌≡◌, ℕ, ◌*◌, ◌<◌, ◌≤◌, Bool, true, List, [], ◌∷◌, sym, ap, ◌∙◌, arith, find, map, Some}, Math.Nat.{mul_comm, mul_assoc, mul-le-mul_right}, lemmas.Bool.cond_both}
+use Rattle.std.specs.{List.AllByRecursion, Option.unwrap_or}
 use Rattle.list_laws.proofs.Each.{every_map}
 use Rattle.schedule.{specs.{Links.TopologyValue, Sends.ScheduleValue, Solving.Solves}, proofs.First.each_filter}
 use Rattle.collective_spec.specs.{declared.spec.Spec.Spec, Kinds.allows, Collectives.{kind_in, spec_instance}}
-use Rattle.node_cuts.specs.{declared.{sets.Sets.Sets, floor.Floor.Floor}, Sides.{NodeSet, node_sets}, Cuts.{need_of, width_by}}
-use Rattle.node_cuts.specs.Floors.{least_count, fraction_of, has_need, fractions, is_greatest, nothing_over_1, floor_of}
+use Rattle.node_cuts.specs.{declared.{sets.Sets.Sets, floor.Floor.Floor}, Sides.{NodeSet, node_sets}, Cuts.{need_of, width_by}, Floors.{least_count, fraction_of, has_need, fractions, is_greatest, nothing_over_1, floor_of}}
 use Rattle.node_cuts.proofs.{Crossing.needed_comes_in, Scaling.in_proportion}
 
 -- what has to come into each set of nodes can in so many rounds

@@ -1,9 +1,7 @@
 -- The holders of each chunk tell what has to come into a set.
-use Rattle.std.proofs.Common.{◌≡◌, ℕ, ◌+◌, ◌<◌, ◌&&◌, cond, List, map, ◌∙◌, arith, count_by, not}
-use Rattle.std.{specs.List.{list_any, range_with_len}, proofs.lemmas.List.Folds.fold-map}
+use Rattle.std.{proofs.{Common.{◌≡◌, ℕ, ◌+◌, ◌<◌, ◌&&◌, cond, List, map, ◌∙◌, arith, count_by, not}, lemmas.List.Folds.fold-map}, specs.List.{list_any, range_with_len}}
 use Rattle.schedule.{specs.Placed.{PlacementValue, IsPlacement}, proofs.Spreading.sum_alike}
-use Rattle.node_cuts.specs.{Sides.NodeSet, Cuts.{is_needed, need_of, stands_in}, Holders.{HoldersValue, is_lacking, nodes_with}}
-use Rattle.node_cuts.proofs.{Choosing.any_filter, Scaling.stands_by}
+use Rattle.node_cuts.{specs.{Sides.NodeSet, Cuts.{is_needed, need_of, stands_in}, Holders.{HoldersValue, is_lacking, nodes_with}}, proofs.{Choosing.any_filter, Scaling.stands_by}}
 
 -- the holders of each chunk
 abbrev pub all_holders : PlacementValue → PlacementValue → List HoldersValue

@@ -1,8 +1,6 @@
 -- The least chunk count of a collective.
-use Rattle.std.proofs.{Common.{◌≡◌, ℕ, ◌%◌, ◌<◌, ◌≤◌, Bool, true, refl, arith, ◌==◌, ◌&&◌, nat_le}, Math.Nat.{mod_self, mod-eq_of_lt}}
-use Rattle.std.proofs.lemmas.Bool.{and_from, and_parts, le-leb, leb-true, eq-eqb, eqb-true, cases_lt}
-use Rattle.collective_spec.specs.{declared.kind.Kind.Kind, Kinds.allows}
-use Rattle.collective_spec.specs.declared.kind.Kind.TheVariants.{Alltoall}
+use Rattle.std.proofs.{Common.{◌≡◌, ℕ, ◌%◌, ◌<◌, ◌≤◌, Bool, true, refl, arith, ◌==◌, ◌&&◌, nat_le}, Math.Nat.{mod_self, mod-eq_of_lt}, lemmas.Bool.{and_from, and_parts, le-leb, leb-true, eq-eqb, eqb-true, cases_lt}}
+use Rattle.collective_spec.specs.{declared.kind.Kind.{Kind, TheVariants.Alltoall}, Kinds.allows}
 use Rattle.node_cuts.specs.Floors.{least_count}
 
 pub least_allowed : (kind : Kind) (nodes : ℕ) → 0 < nodes → allows kind nodes (least_count kind nodes) ≡ true

@@ -1,10 +1,8 @@
 -- The listed sets, one after another.
-use Rattle.std.{proofs.Common.{◌≡◌, ℕ, ◌+◌, ◌-◌, ◌≤◌, List, [], ◌∷◌, ◌++◌, map, append_assoc, refl, ap, sym, ◌∙◌, arith, ◌==◌, ◌||◌, not}, specs.List.{flat_map, range_with_len}}
-use Rattle.std.proofs.lemmas.{List.{map-append, FromFn.map-range_with_len_more}, Simd.map-map}
-use Rattle.std.proofs.Math.Bool.{not-not}
+use Rattle.std.proofs.{Common.{◌≡◌, ℕ, ◌+◌, ◌-◌, ◌≤◌, List, [], ◌∷◌, ◌++◌, map, append_assoc, refl, ap, sym, ◌∙◌, arith, ◌==◌, ◌||◌, not}, lemmas.{List.{map-append, FromFn.map-range_with_len_more}, Simd.map-map}, Math.Bool.not-not}
+use Rattle.std.specs.List.{flat_map, range_with_len}
 use Rattle.list_laws.proofs.Ranges.{flat_map-range_more}
-use Rattle.node_cuts.{specs.declared.{side.Side.{Side, TheVariants.{One, Two, AllButOne, AllButTwo}}, sets.Sets.TheVariants.Listed}}
-use Rattle.node_cuts.specs.{Sides.{NodeSet, node_sets, small_sets}, inner.Listed.{complement, listed_sides, set_of, small_sides}}
+use Rattle.node_cuts.specs.{declared.{side.Side.{Side, TheVariants.{One, Two, AllButOne, AllButTwo}}, sets.Sets.TheVariants.Listed}, Sides.{NodeSet, node_sets, small_sets}, inner.Listed.{complement, listed_sides, set_of, small_sides}}
 
 pub ones_more : (n : ℕ) → map One (range_with_len 0 (n + 1)) ≡ map One (range_with_len 0 n) ++ One n ∷ []
 ones_more n = map-range_with_len_more One 0 n n (omega arith)

@@ -1,8 +1,7 @@
 -- A set of nodes as bits.
 use Rattle.std.proofs.Common.{◌≡◌, ℕ, zero, suc, ◌+◌, ◌-◌, ◌*◌, ◌/◌, ◌%◌, ◌^◌, ◌<◌, ◌≤◌, Bool, true, false, cond, ◌&&◌, [], ◌∷◌, ◌++◌, map-id, ap, sym, ◌∙◌, ⊎_elim, arith, ◌==◌, nat_lt}
-use Rattle.std.{proofs.Math.Nat.{add-mul-div_left, add-mul-mod_self_left, div-eq_of_lt, pow-le-pow_right}, specs.List.{range_with_len}}
-use Rattle.std.proofs.lemmas.{Bool.{cases_eq, cases_lt, cond_both, lt-ltb, le-ltb}, Nat.{pow-add, pow_pos}, List.FromFn.map-range_with_len_more}
-use Rattle.std.proofs.lemmas.List.Sums.{sum_by_push}
+use Rattle.std.proofs.{Math.Nat.{add-mul-div_left, add-mul-mod_self_left, div-eq_of_lt, pow-le-pow_right}, lemmas.{Bool.{cases_eq, cases_lt, cond_both, lt-ltb, le-ltb}, Nat.{pow-add, pow_pos}, List.FromFn.map-range_with_len_more}}
+use Rattle.std.{proofs.lemmas.List.Sums.sum_by_push, specs.List.range_with_len}
 use Rattle.node_cuts.specs.Sides.{NodeSet, has_bit, mask_of}
 
 pub range_more : (a n j : ℕ) → a + n ≡ j → range_with_len a (n + 1) ≡ range_with_len a n ++ j ∷ []

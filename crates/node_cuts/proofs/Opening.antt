@@ -1,11 +1,8 @@
 -- A table of open links tells what groups open, and what is left after one is taken.
-use Rattle.std.proofs.Common.{◌≡◌, ℕ, Bool, true, false, ◌&&◌, ◌||◌, cond, List, [], ◌∷◌, ◌++◌, length, inl, inr, sym, ap, ◌∙◌, arith, count_by, not}
-use Rattle.std.{specs.List.{All, AllByRecursion, list_any}, proofs.{Math.Bool.and-true, lemmas.{Bool.cases_lt, List.{append-nil, get_or_past}}}}
-use Rattle.std.proofs.lemmas.List.{Elements.{All-get_or, recursion_from_All}, Folds.list_any-append}
-use Rattle.schedule.specs.{Links.{TopologyValue, IsBelow, IsTopology, has_link}, Tables.{Marks, marked_at}, Judging.group_at}
-use Rattle.schedule.proofs.First.{each_weaker}
-use Rattle.node_cuts.specs.{Sides.NodeSet, Cuts.{enters, is_among, opened, opens}, Opened.{MarksOpen, RemovesGroups, is_open}}
-use Rattle.node_cuts.proofs.{Choosing.is_new, Counting.{any_alike_of, count_alike_of}}
+use Rattle.std.proofs.{Common.{◌≡◌, ℕ, Bool, true, false, ◌&&◌, ◌||◌, cond, List, [], ◌∷◌, ◌++◌, length, inl, inr, sym, ap, ◌∙◌, arith, count_by, not}, Math.Bool.and-true, lemmas.{Bool.cases_lt, List.{append-nil, get_or_past}}}
+use Rattle.std.{proofs.lemmas.List.{Elements.{All-get_or, recursion_from_All}, Folds.list_any-append}, specs.List.{All, AllByRecursion, list_any}}
+use Rattle.schedule.{specs.{Links.{TopologyValue, IsBelow, IsTopology, has_link}, Tables.{Marks, marked_at}, Judging.group_at}, proofs.First.each_weaker}
+use Rattle.node_cuts.{specs.{Sides.NodeSet, Cuts.{enters, is_among, opened, opens}, Opened.{MarksOpen, RemovesGroups, is_open}}, proofs.{Choosing.is_new, Counting.{any_alike_of, count_alike_of}}}
 
 -- the links of each group join nodes below 16
 pub links_below : (t : TopologyValue) (g : ℕ) → IsTopology t → AllByRecursion (IsBelow 16) (group_at t g).links

@@ -1,13 +1,11 @@
 -- At each chunk count that a collective may have, what has to come into a set is what has to at the least one, so many times over.
 use Rattle.std.proofs.Common.{◌≡◌, ℕ, zero, suc, ◌+◌, ◌*◌, ◌/◌, ◌%◌, ◌<◌, Bool, true, ◌&&◌, cond, refl, sym, ap, ◌∙◌, arith, ◌==◌, count_by, not, nat_le, filter}
-use Rattle.std.{specs.List.{list_any, range_with_len}, proofs.Math.Nat.{mul_comm, mul_assoc, mul-one, add-mul-mod_self_left, add-mul-div_left}}
-use Rattle.std.proofs.lemmas.{Bool.{and_parts, and_from, eqb-true, eq-eqb}, Nat.div-add-mod', List.Elements.recursion_from_All}
+use Rattle.std.proofs.{Math.Nat.{mul_comm, mul_assoc, mul-one, add-mul-mod_self_left, add-mul-div_left}, lemmas.{Bool.{and_parts, and_from, eqb-true, eq-eqb}, Nat.div-add-mod', List.Elements.recursion_from_All}}
+use Rattle.std.specs.List.{list_any, range_with_len}
 use Rattle.list_laws.proofs.{Tests.same_test, Ranges.any_at}
-use Rattle.schedule.specs.Placed.{PlacementValue, holds, placed, all_pairs}
-use Rattle.schedule.proofs.{First.{among_each, any_found, any_among, filter_among}, Ordered.among_from_any, Placing.{IsBelow, all_below, holds-placed}, Spreading.sum_alike}
+use Rattle.schedule.{specs.Placed.{PlacementValue, holds, placed, all_pairs}, proofs.{First.{among_each, any_found, any_among, filter_among}, Ordered.among_from_any, Placing.{IsBelow, all_below, holds-placed}, Spreading.sum_alike}}
 use Rattle.collective_spec.specs.{declared.{kind.Kind.Kind, layout.Layout.Layout, spec.Spec.Spec}, Layouts.{stands, laid_out}, Patterns.in_copies, Kinds.allows}
-use Rattle.collective_spec.specs.declared.kind.Kind.TheVariants.{Broadcast, Gather, Allgather, Scatter, Alltoall, Reduce, Reducescatter, Allreduce, Custom}
-use Rattle.collective_spec.specs.Collectives.{kind_in, spec_instance}
+use Rattle.collective_spec.specs.{declared.kind.Kind.TheVariants.{Broadcast, Gather, Allgather, Scatter, Alltoall, Reduce, Reducescatter, Allreduce, Custom}, Collectives.{kind_in, spec_instance}}
 use Rattle.collective_spec.specs.declared.layout.Layout.TheVariants as layout
 use Rattle.collective_spec.specs.declared.spec.Spec.TheVariants as spec
 use Rattle.node_cuts.{specs.{Sides.NodeSet, Cuts.{stands_in, need_of}, Floors.least_count}, proofs.{Counting.counted, Within.numbers_below}}

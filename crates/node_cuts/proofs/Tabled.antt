@@ -1,12 +1,11 @@
 -- What a table says at a chunk count is what the sets say of the instance.
-use Rattle.std.proofs.Common.{◌≡◌, ℕ, ◌*◌, ◌/◌, ◌<◌, Bool, true, false, List, get_or, length, refl, sym, ap, ◌∙◌, subst, arith, None, Some, count_by, find, nat_lt}
-use Rattle.std.{specs.Option.option_map, proofs.{Math.Nat.{mul_comm, mul-div_cancel}, lemmas.List.{get_or_default, length-map, Recursion.{found_at as first_at, found_nowhere}}}}
+use Rattle.std.proofs.{Common.{◌≡◌, ℕ, ◌*◌, ◌/◌, ◌<◌, Bool, true, false, List, get_or, length, refl, sym, ap, ◌∙◌, subst, arith, None, Some, count_by, find, nat_lt}, Math.Nat.{mul_comm, mul-div_cancel}}
+use Rattle.std.{proofs.lemmas.List.{get_or_default, length-map, Recursion.{found_at as first_at, found_nowhere}}, specs.Option.option_map}
 use Rattle.list_laws.proofs.Fronts.{at_map}
 use Rattle.schedule.specs.{Links.TopologyValue, Placed.PlacementValue}
 use Rattle.collective_spec.specs.{declared.{spec.Spec.Spec, instance.Instance.Instance}, Kinds.allows, Collectives.{kind_in, spec_instance}}
-use Rattle.node_cuts.specs.{declared.{sets.Sets.Sets, measure.Measure.Measure, floor.Floor.Floor}, Sides.{NodeSet, mask_of, node_sets}}
-use Rattle.node_cuts.specs.{Cuts.{CutValue, cover_by, cut_of, first_cut_of, need_of, width_by}, Floors.{fraction_of, least_count}, inner.Refuting.cut_refutes}
-use Rattle.node_cuts.specs.{Holders.{HoldersValue, is_lacking}, Tables.{TableValue, IsTableOf, cut_at, measure_of, no_measure, table_of}}
+use Rattle.node_cuts.specs.{declared.{sets.Sets.Sets, measure.Measure.Measure, floor.Floor.Floor}, Sides.{NodeSet, mask_of, node_sets}, Cuts.{CutValue, cover_by, cut_of, first_cut_of, need_of, width_by}, Floors.{fraction_of, least_count}}
+use Rattle.node_cuts.specs.{inner.Refuting.cut_refutes, Holders.{HoldersValue, is_lacking}, Tables.{TableValue, IsTableOf, cut_at, measure_of, no_measure, table_of}}
 use Rattle.node_cuts.proofs.{Crossing.first_by_set, Least.least_positive, Scaling.{IsScaled, scales}}
 
 -- the least count divides each count that the collective may have, and as many times as much has to come in

@@ -1,11 +1,10 @@
 -- The groups of each cover are the topology's, and no more than these.
-use Rattle.std.proofs.Common.{ℕ, zero, suc, ◌+◌, ◌<◌, ◌≤◌, Bool, List, [], ◌∷◌, ◌++◌, cond, length, length-append, reverse, arith, ◌==◌, Option, None, Some, nat_lt}
-use Rattle.std.{specs.{List.{All, list_any, range_with_len}, Option.option_map_or}, proofs.lemmas.{Bool.cond_both, List.{length-reverse, Sorted.{All-permutation, IsPermutation-reverse}}}}
-use Rattle.std.proofs.lemmas.List.{Elements.{All-append, All-cons, All-filter, All-head, All-nil, All-tail}, FromFn.{get_or-range_with_len, length-range_with_len}}
+use Rattle.std.proofs.{Common.{ℕ, zero, suc, ◌+◌, ◌<◌, ◌≤◌, Bool, List, [], ◌∷◌, ◌++◌, cond, length, length-append, reverse, arith, ◌==◌, Option, None, Some, nat_lt}, lemmas.{Bool.cond_both, List.length-reverse}}
+use Rattle.std.proofs.lemmas.List.{Sorted.{All-permutation, IsPermutation-reverse}, Elements.{All-append, All-cons, All-filter, All-head, All-nil, All-tail}, FromFn.{get_or-range_with_len, length-range_with_len}}
+use Rattle.std.specs.{List.{All, list_any, range_with_len}, Option.option_map_or}
 use Rattle.list_laws.proofs.Tests.{few_kept}
 use Rattle.schedule.specs.Links.{TopologyValue}
-use Rattle.node_cuts.specs.{declared.sets.Sets.Sets, Sides.NodeSet}
-use Rattle.node_cuts.specs.Cuts.{all_groups, ascending, best_taken, cover, cover_back, cover_by, cover_greedily, narrower, opens, taken_along, width_of}
+use Rattle.node_cuts.specs.{declared.sets.Sets.Sets, Sides.NodeSet, Cuts.{all_groups, ascending, best_taken, cover, cover_back, cover_by, cover_greedily, narrower, opens, taken_along, width_of}}
 use Rattle.node_cuts.specs.declared.sets.Sets.TheVariants as sets
 
 -- these are groups of the topology, and no more than it has

@@ -1,8 +1,7 @@
 -- The least number of rounds for each chunk count, whatever the steps: a fraction that the rounds of a schedule over its chunk count are never below. This project's own.
 use Rattle.std.specs.{Prelude.{ℕ, ◌*◌, ◌==◌, not, nat_lt, Bool, if◌then◌else◌, List, filter, map, find, Option, None, Some}, List.list_any, Option.unwrap_or}
 use Rattle.schedule.specs.Links.{TopologyValue}
-use Rattle.collective_spec.specs.{declared.{kind.Kind.Kind, spec.Spec.Spec}, Collectives.{kind_in, spec_instance}}
-use Rattle.collective_spec.specs.declared.kind.Kind.TheVariants.{Alltoall}
+use Rattle.collective_spec.specs.{declared.{kind.Kind.{Kind, TheVariants.Alltoall}, spec.Spec.Spec}, Collectives.{kind_in, spec_instance}}
 use Rattle.node_cuts.specs.{declared.{sets.Sets.Sets, floor.Floor.Floor}, Sides.{NodeSet, node_sets}, Cuts.cut_of}
 
 -- the least chunk count that the collective may have

@@ -2,8 +2,7 @@
 use Rattle.std.specs.Prelude.{◌≡◌, ℕ, ◌*◌, ◌<◌, ◌≤◌, false, List, length, map, slice_index_or, All}
 use Rattle.schedule.specs.{Links.TopologyValue, Placed.PlacementValue}
 use Rattle.collective_spec.specs.{declared.spec.Spec.Spec, Collectives.{kind_in, spec_instance}}
-use Rattle.node_cuts.specs.{declared.{sets.Sets.Sets, measure.Measure.Measure, floor.Floor.Floor}, Sides.{NodeSet, mask_of, node_sets}}
-use Rattle.node_cuts.specs.{Cuts.{CutValue, cover_by, need_of, width_by}, Floors.{floor_of, least_count}}
+use Rattle.node_cuts.specs.{declared.{sets.Sets.Sets, measure.Measure.Measure, floor.Floor.Floor}, Sides.{NodeSet, mask_of, node_sets}, Cuts.{CutValue, cover_by, need_of, width_by}, Floors.{floor_of, least_count}}
 
 -- the sets that are looked at, a topology, a chunk count, what has to come into each set and what can, and the floor
 pub record TableValue : Type 0 where

@@ -2,8 +2,7 @@
 
 ghost use Rattle.std.specs.{Prelude.{◌≡◌, ◌≢◌, ◌*◌, ◌≤◌, ◌⊎◌, Some, IfOk}, Option.unwrap_or};
 ghost use Rattle.collective_spec.specs.Collectives.{IsSpec, kind_in};
-ghost use Rattle.node_cuts.specs.{declared.sets.Sets.Sets, Floors.{exceeds, floor_of, greater_of, nothing_over_1}, Sides.mask_of, inner.Listed.members};
-ghost use Rattle.node_cuts.specs.Tables.{IsLow, IsSmall};
+ghost use Rattle.node_cuts.specs.{declared.sets.Sets.Sets, Floors.{exceeds, floor_of, greater_of, nothing_over_1}, Sides.mask_of, inner.Listed.members, Tables.{IsLow, IsSmall}};
 
 use crate::OutOfMemory;
 use crate::measure::Measure;

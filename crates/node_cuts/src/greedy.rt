@@ -2,8 +2,7 @@
 
 ghost use Rattle.std.specs.{Prelude.{◌≡◌, ◌<◌, ◌⊎◌, ℕ, List, filter, length, All, Option, None, Some, IfOk}, Option.option_map};
 ghost use Rattle.schedule.specs.{Links.TopologyValue, Tables.Marks, Judging.group_at};
-ghost use Rattle.node_cuts.specs.{Sides.NodeSet, Cuts.{all_groups, ascending, best_of, better, cover_greedily, enters}};
-ghost use Rattle.node_cuts.specs.Opened.{MarksNumbers, MarksOpen, RemovesGroups, choice_of, is_alone, is_open};
+ghost use Rattle.node_cuts.specs.{Sides.NodeSet, Cuts.{all_groups, ascending, best_of, better, cover_greedily, enters}, Opened.{MarksNumbers, MarksOpen, RemovesGroups, choice_of, is_alone, is_open}};
 
 use crate::OutOfMemory;
 use crate::covering::{all_groups, group_at};

@@ -3,8 +3,7 @@
 ghost use Rattle.std.specs.{Prelude.{◌≡◌, ◌*◌, ◌/◌, ◌<◌, ◌≤◌, ◌&&◌, ℕ, true, nat_lt}, Option.is_some};
 ghost use Rattle.schedule.specs.{Links.TopologyValue, Placed.PlacementValue, Sends.ScheduleValue, Solving.Solves};
 ghost use Rattle.collective_spec.specs.{declared.{kind.Kind.Kind, spec.Spec.Spec}, Kinds.allows, Collectives.{kind_in, spec_instance}};
-ghost use Rattle.node_cuts.specs.{declared.sets.Sets.Sets, Sides.{NodeSet, has_bit, mask_of}, Cuts.{first_cut_of, need_of, width_by}};
-ghost use Rattle.node_cuts.specs.Floors.{floor_of, least_count};
+ghost use Rattle.node_cuts.specs.{declared.sets.Sets.Sets, Sides.{NodeSet, has_bit, mask_of}, Cuts.{first_cut_of, need_of, width_by}, Floors.{floor_of, least_count}};
 
 /// What has to come into a set of nodes is at most what can in the rounds of a schedule that
 /// solves, whatever its steps and whichever groups cover the links into the set. So where a set of

@@ -3,8 +3,7 @@
 ghost use Rattle.std.specs.Prelude.{◌≡◌, Some, None, [], ◌∷◌, map};
 ghost use Rattle.schedule.specs.Rows.{at_root, back_of_2, everywhere, line_of_3, ring_of_4, twice_grouped, one_node};
 ghost use Rattle.collective_spec.specs.declared.kind.Kind.{Kind};
-ghost use Rattle.node_cuts.specs.{declared.sets.Sets.Sets, Sides.{has_bit, mask_of, node_sets}};
-ghost use Rattle.node_cuts.specs.Cuts.{cover, cover_back, cover_by, cover_greedily, first_cut_of, need_of, width_by};
+ghost use Rattle.node_cuts.specs.{declared.sets.Sets.Sets, Sides.{has_bit, mask_of, node_sets}, Cuts.{cover, cover_back, cover_by, cover_greedily, first_cut_of, need_of, width_by}};
 ghost use Rattle.node_cuts.specs.Rows.{cut, cut_at, floor_at, nowhere, one_for_all, switch_in_first, switch_out_first, two_pairs};
 
 /// One node, two nodes, and all but these.

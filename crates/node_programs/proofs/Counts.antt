@@ -1,10 +1,7 @@
 -- How many operations send to each node, counted one after the other.
-use Rattle.std.proofs.Common.{◌≡◌, ℕ, ◌+◌, ◌<◌, ◌≤◌, List, [], ◌∷◌, ◌++◌, length, map, get_or, take, replicate, sym, ap, ◌∙◌, arith}
-use Rattle.std.{specs.List.range_with_len, proofs.lemmas.{Bool.{cases_lt, eq-eqb}, Simd.map-map}}
-use Rattle.std.proofs.lemmas.List.{length-replicate, length-take, get_or-replicate, get_or_past, take_more}
-use Rattle.std.proofs.lemmas.List.FromFn.{fill_by_all, get_or-map-range_with_len, length-map-range_with_len}
-use Rattle.node_programs.specs.{declared.op.Op.{Op, TheVariants.{Send, Take}}, Queues.{empty_queue, queues_from, sends_to, with_send}}
-use Rattle.node_programs.proofs.Each.{flipped, set_each}
+use Rattle.std.proofs.{Common.{◌≡◌, ℕ, ◌+◌, ◌<◌, ◌≤◌, List, [], ◌∷◌, ◌++◌, length, map, get_or, take, replicate, sym, ap, ◌∙◌, arith}, lemmas.{Bool.{cases_lt, eq-eqb}, Simd.map-map}}
+use Rattle.std.{proofs.lemmas.List.{length-replicate, length-take, get_or-replicate, get_or_past, take_more, FromFn.{fill_by_all, get_or-map-range_with_len, length-map-range_with_len}}, specs.List.range_with_len}
+use Rattle.node_programs.{specs.{declared.op.Op.{Op, TheVariants.{Send, Take}}, Queues.{empty_queue, queues_from, sends_to, with_send}}, proofs.Each.{flipped, set_each}}
 use Rattle.bag_runs.proofs.Counting.{map_alike}
 
 -- so many sends to each of so many nodes

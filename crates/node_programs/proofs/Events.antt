@@ -1,6 +1,5 @@
 -- What an event makes of a state, and what is shown of runs event by event.
-use Rattle.std.proofs.Common.{◌≡◌, ℕ, ◌&&◌, Bool, true, false, cond, eqb, List, [], ◌∷◌, ◌++◌, drop, set, Option, Some, None, refl, subst, option_and_then, slice_get}
-use Rattle.std.proofs.lemmas.Option.{same_Some}
+use Rattle.std.proofs.{Common.{◌≡◌, ℕ, ◌&&◌, Bool, true, false, cond, eqb, List, [], ◌∷◌, ◌++◌, drop, set, Option, Some, None, refl, subst, option_and_then, slice_get}, lemmas.Option.same_Some}
 use Rattle.schedule.specs.Bags.{Bag}
 use Rattle.bag_runs.specs.{declared.mode.Mode.Mode, Stores.{bag_in, received, with_bag}}
 use Rattle.node_programs.specs.{declared.op.Op.{Op, TheVariants.{Send, Take}}, Machines.{Message, State, after_op, event, moved, ops_left, queue_in}, Runs.machine_run}

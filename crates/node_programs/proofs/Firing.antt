@@ -1,13 +1,9 @@
 -- The machine as it is kept: what an event makes of it, and that it stays right.
 use Rattle.std.proofs.Common.{◌≡◌, ℕ, zero, suc, ◌+◌, ◌*◌, ◌<◌, ◌≤◌, false, cond, eqb, List, [], ◌∷◌, length, map, get_or, set, drop, Some, inl, inr, refl, sym, ap, subst, ◌∙◌, arith, get_or-set_same, get_or-set_other, option_and_then, slice_get}
-use Rattle.std.{specs.{Prelude.unwrap_or, List.AllByRecursion}, proofs.lemmas.{Bool.{and_from, eq-eqb}, List.{get_or-map, length-set, map-append, map-set}}}
-use Rattle.std.proofs.lemmas.Nat.{mul-add-lt}
-use Rattle.node_programs.specs.{declared.{op.Op.{Op, TheVariants.{Send, Take}}, message.Message.Message as Parcel}, Below.IsOpBelow}
-use Rattle.node_programs.specs.Machines.{Message, State, event}
-use Rattle.node_programs.proofs.Events.{after_take, taken}
-use Rattle.node_programs.specs.Queues.{IsMachine, QueueValue, message_in, messages_in, no_queue, queue_of, sends_to, with_message, without_first}
-use Rattle.bag_runs.specs.{declared.mode.Mode.Mode, Stores.{StoreValue, bag_in, received, with_bag}, Kept.counted}
-use Rattle.bag_runs.proofs.Cells.{cell_below, cell_beside, cell_here, differ, same_or_not}
+use Rattle.std.{proofs.lemmas.{Bool.{and_from, eq-eqb}, List.{get_or-map, length-set, map-append, map-set}, Nat.mul-add-lt}, specs.{Prelude.unwrap_or, List.AllByRecursion}}
+use Rattle.node_programs.specs.{declared.{op.Op.{Op, TheVariants.{Send, Take}}, message.Message.Message as Parcel}, Below.IsOpBelow, Machines.{Message, State, event}}
+use Rattle.node_programs.{specs.Queues.{IsMachine, QueueValue, message_in, messages_in, no_queue, queue_of, sends_to, with_message, without_first}, proofs.Events.{after_take, taken}}
+use Rattle.bag_runs.{specs.{declared.mode.Mode.Mode, Stores.{StoreValue, bag_in, received, with_bag}, Kept.counted}, proofs.Cells.{cell_below, cell_beside, cell_here, differ, same_or_not}}
 
 -- ---- lists of lists
 

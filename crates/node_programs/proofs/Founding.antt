@@ -1,10 +1,7 @@
 -- The machine before any event.
 use Rattle.std.proofs.Common.{◌≡◌, ℕ, zero, suc, ◌*◌, ◌<◌, List, [], ◌∷◌, length, map, get_or, replicate, zero-mul, refl, sym, ap, arith}
-use Rattle.std.proofs.lemmas.List.{get_or_append_left, get_or-append-add, length-append, map-append, replicate-append-replicate}
-use Rattle.std.proofs.lemmas.List.FromFn.{get_or-map-range_with_len, length-map-range_with_len, length-range_with_len}
-use Rattle.node_programs.specs.{declared.op.Op.Op, Machines.started, Below.AreBelow}
-use Rattle.node_programs.specs.Queues.{IsMachine, empty_queue, messages_in, new_queues, queue_of, queues_from, sends_to}
-use Rattle.node_programs.proofs.Firing.{state_of}
+use Rattle.std.proofs.lemmas.List.{get_or_append_left, get_or-append-add, length-append, map-append, replicate-append-replicate, FromFn.{get_or-map-range_with_len, length-map-range_with_len, length-range_with_len}}
+use Rattle.node_programs.{specs.{declared.op.Op.Op, Machines.started, Below.AreBelow, Queues.{IsMachine, empty_queue, messages_in, new_queues, queue_of, queues_from, sends_to}}, proofs.Firing.state_of}
 use Rattle.bag_runs.specs.Stores.{StoreValue}
 
 module _ (nodes : ℕ) where

@@ -1,11 +1,8 @@
 -- The programs of a schedule in range name chunks and nodes in range.
-use Rattle.std.{proofs.Common.{◌≡◌, ℕ, true, ◌&&◌, eqb, List, [], ◌∷◌, length, map, filter}, specs.List.{AllByRecursion, flat_map, range_with_len}}
-use Rattle.std.proofs.lemmas.List.Elements.{recursion_from_All}
+use Rattle.std.{proofs.{Common.{◌≡◌, ℕ, true, ◌&&◌, eqb, List, [], ◌∷◌, length, map, filter}, lemmas.List.Elements.recursion_from_All}, specs.List.{AllByRecursion, flat_map, range_with_len}}
 use Rattle.list_laws.proofs.Each.{each_map, every_map}
-use Rattle.schedule.specs.Sends.{IsInRange, ScheduleValue, is_hop_below}
-use Rattle.schedule.proofs.{First.{each_filter, each_weaker, each_append}, Joining.{IsHopBelow, hop_below}}
-use Rattle.node_programs.specs.{Programs.{program_of, programs_of, ops_at}, Below.{AreBelow, IsOpBelow}}
-use Rattle.node_programs.specs.inner.Pushed.{send_of, take_of}
+use Rattle.schedule.{specs.Sends.{IsInRange, ScheduleValue, is_hop_below}, proofs.{First.{each_filter, each_weaker, each_append}, Joining.{IsHopBelow, hop_below}}}
+use Rattle.node_programs.specs.{Programs.{program_of, programs_of, ops_at}, Below.{AreBelow, IsOpBelow}, inner.Pushed.{send_of, take_of}}
 
 pub each_flat : {X Y : Type 0} (P : X → Type 0) (f : Y → List X) → ((y : Y) → AllByRecursion P (f y)) → (ys : List Y) → AllByRecursion P (flat_map f ys)
 each_flat P f every [] = tt

@@ -1,12 +1,10 @@
 -- Operations pushed behind those of a node, and how the programs of a schedule come about step by step.
-use Rattle.std.proofs.Common.{◌≡◌, ℕ, ◌+◌, ◌<◌, ◌≤◌, Bool, true, false, cond, eqb, List, [], ◌∷◌, ◌++◌, length, map, get_or, set, take, refl, sym, ap, ◌∙◌, subst, append_assoc, arith, filter}
-use Rattle.std.{specs.List.{flat_map, range_with_len}, proofs.lemmas.{Bool.eq-eqb, List.{append-nil, map-append, take_all}}}
-use Rattle.std.proofs.lemmas.List.{Elements.filter_more, FromFn.get_or-map-range_with_len}
+use Rattle.std.proofs.{Common.{◌≡◌, ℕ, ◌+◌, ◌<◌, ◌≤◌, Bool, true, false, cond, eqb, List, [], ◌∷◌, ◌++◌, length, map, get_or, set, take, refl, sym, ap, ◌∙◌, subst, append_assoc, arith, filter}, lemmas.Bool.eq-eqb}
+use Rattle.std.{proofs.lemmas.List.{append-nil, map-append, take_all, Elements.filter_more, FromFn.get_or-map-range_with_len}, specs.List.{flat_map, range_with_len}}
 use Rattle.list_laws.proofs.Ranges.{flat_map-range_more}
 use Rattle.schedule.specs.{declared.hop.Hop.Hop, Sends.ScheduleValue}
-use Rattle.node_programs.{specs.{declared.op.Op.Op, Programs.ops_at}, proofs.Each.{flipped, set_each}}
+use Rattle.node_programs.{specs.{declared.op.Op.Op, Programs.ops_at, inner.Pushed.{send_of, take_of}}, proofs.Each.{flipped, set_each}}
 use Rattle.bag_runs.proofs.{Arrivals.filter_both, Counting.map_alike}
-use Rattle.node_programs.specs.inner.Pushed.{send_of, take_of}
 
 -- a program for each of so many nodes
 abbrev pub each : ℕ → (ℕ → List Op) → List (List Op)

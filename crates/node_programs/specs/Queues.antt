@@ -1,6 +1,5 @@
 -- How the machine keeps queues: with room for all that is still to be sent (this project's own).
-use Rattle.std.specs.Prelude.{◌≡◌, ◌==◌, ◌&&◌, ℕ, ◌+◌, ◌*◌, ◌<◌, ◌≤◌, ◌-◌, Bool, false, if◌then◌else◌, List, [], ◌∷◌, ◌++◌, length, map, drop, slice_index, slice_index_or, slice_set}
-use Rattle.std.specs.List.{flat_map, range_with_len}
+use Rattle.std.specs.{Prelude.{◌≡◌, ◌==◌, ◌&&◌, ℕ, ◌+◌, ◌*◌, ◌<◌, ◌≤◌, ◌-◌, Bool, false, if◌then◌else◌, List, [], ◌∷◌, ◌++◌, length, map, drop, slice_index, slice_index_or, slice_set}, List.{flat_map, range_with_len}}
 use Rattle.node_programs.specs.{declared.{op.Op.{Op, TheVariants.{Send, Take}}, message.Message.Message as Parcel}, Machines.Message, Below.AreBelow}
 use Rattle.bag_runs.specs.Kept.{counted}
 

@@ -1,6 +1,5 @@
 -- Runs of the machine, in any order and in the order that a seed draws (this project's own).
-use Rattle.std.specs.Prelude.{◌≡◌, ℕ, zero, suc, ◌+◌, ◌*◌, ◌/◌, ◌%◌, ◌^◌, List, [], ◌∷◌, length, map, filter, sum, Option, None, Some, slice_get, unwrap_or}
-use Rattle.std.specs.List.{range_with_len}
+use Rattle.std.specs.{Prelude.{◌≡◌, ℕ, zero, suc, ◌+◌, ◌*◌, ◌/◌, ◌%◌, ◌^◌, List, [], ◌∷◌, length, map, filter, sum, Option, None, Some, slice_get, unwrap_or}, List.range_with_len}
 use Rattle.node_programs.specs.Machines.{State, event, is_enabled}
 
 -- the nodes move in this order, each enabled in its turn

@@ -1,7 +1,6 @@
 //! The queues of a machine: one from each node to each.
 
-ghost use Rattle.std.specs.Prelude.{◌≡◌, ◌+◌, ◌*◌, ◌^◌, ◌<◌, ◌++◌, ℕ, false, map, slice_get, slice_index, slice_index_or, slice_set, vec_len, IfOk, OnOk, IfSome, IfNone, Some};
-ghost use Rattle.std.specs.List.{range_with_len};
+ghost use Rattle.std.specs.{Prelude.{◌≡◌, ◌+◌, ◌*◌, ◌^◌, ◌<◌, ◌++◌, ℕ, false, map, slice_get, slice_index, slice_index_or, slice_set, vec_len, IfOk, OnOk, IfSome, IfNone, Some}, List.range_with_len};
 ghost use Rattle.node_programs.specs.Queues.{is_head, new_queues, no_queue, queues_from, sends_to, with_message, with_send, without_first};
 
 use crate::OutOfMemory;

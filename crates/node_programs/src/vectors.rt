@@ -3,8 +3,7 @@
 
 ghost use Rattle.std.specs.{Prelude.{◌≡◌, ◌/◌, ◌^◌, [], ◌∷◌, true, false, Some, is_some, slice_get, codes}, Option.option_map};
 ghost use Rattle.schedule.specs.Rows.{pair_allreduce, plan, send};
-ghost use Rattle.node_programs.specs.{Programs.programs_of, Printing.programs_text, Machines.{is_enabled, is_finished}, Relay.{exchange, relay}};
-ghost use Rattle.node_programs.specs.Runs.{chosen, next_draw, machine_run};
+ghost use Rattle.node_programs.specs.{Programs.programs_of, Printing.programs_text, Machines.{is_enabled, is_finished}, Relay.{exchange, relay}, Runs.{chosen, next_draw, machine_run}};
 
 use crate::op::Op;
 use bag_runs::Mode;

@@ -1,6 +1,5 @@
 -- Entries of a map in which one value was written.
-use Rattle.std.{proofs.Common.{◌≡◌, ◌∙◌, refl, sym, ap, Bool, true, false, cond, List, [], ◌∷◌, Some, Result, Ok, Err, OnErr}, specs.Option.option_map}
-use Rattle.std.specs.{Result.is_ok, Map.{lookup, set_value}}
+use Rattle.std.{proofs.Common.{◌≡◌, ◌∙◌, refl, sym, ap, Bool, true, false, cond, List, [], ◌∷◌, Some, Result, Ok, Err, OnErr}, specs.{Option.option_map, Result.is_ok, Map.{lookup, set_value}}}
 
 -- what a look-up tells of a value stays where the written value tells the same as the one before it
 pub look_up_stays : {K X Y : Type 0} (f : X → Y) (test at : K → Bool) (es : List (K × X)) (v w : X) → lookup test es ≡ Some v → f w ≡ f v → option_map f (lookup at (set_value test es w)) ≡ option_map f (lookup at es)

@@ -1,9 +1,7 @@
 -- Two names of files are never spelled alike.
-use Rattle.std.proofs.Common.{◌≡◌, ◌≢◌, ◌∙◌, refl, sym, ap, ℕ, ◌<◌, ◌≤◌, List, [], ◌∷◌, ◌++◌, drop, get_or, arith, append_assoc, IsTrue, codes, decimal}
-use Rattle.std.{specs.{Char.digit_value, Str.Parse.{AllDigits, IsNumeral}}, proofs.lemmas.Fmt.{decimal_injective, decimal_is_IsNumeral}}
-use Rattle.std.proofs.lemmas.List.{append_cancel_left}
-use Rattle.outer_ports.specs.declared.{part.Part.{Part, TheVariants.{Whole, Reduce, Gather, Joined}}, proof_name.{FileKind.FileKind, ProofName.ProofName}}
-use Rattle.outer_ports.specs.{declared.proof_name.FileKind.TheVariants.{Cnf, Lrat, Partial}, Files.{file_ending, file_word, part_prefix}}
+use Rattle.std.proofs.{Common.{◌≡◌, ◌≢◌, ◌∙◌, refl, sym, ap, ℕ, ◌<◌, ◌≤◌, List, [], ◌∷◌, ◌++◌, drop, get_or, arith, append_assoc, IsTrue, codes, decimal}, lemmas.{Fmt.{decimal_injective, decimal_is_IsNumeral}, List.append_cancel_left}}
+use Rattle.std.specs.{Char.digit_value, Str.Parse.{AllDigits, IsNumeral}}
+use Rattle.outer_ports.specs.{declared.{part.Part.{Part, TheVariants.{Whole, Reduce, Gather, Joined}}, proof_name.{FileKind.{FileKind, TheVariants.{Cnf, Lrat, Partial}}, ProofName.ProofName}}, Files.{file_ending, file_word, part_prefix}}
 use Rattle.outer_ports.specs.Folders.{fresh_in, in_range, path_in}
 
 heads_less : (m n : ℕ) (us vs : List ℕ) → m < n → m ∷ us ≡ n ∷ vs → ⊥

@@ -1,9 +1,7 @@
 -- What is left as it was of the files of a folder.
-use Rattle.std.proofs.Common.{arith, ◌≡◌, ◌≢◌, ◌∙◌, refl, sym, ap, ℕ, List, ◌++◌, Option, None, Some, IsTrue, IfOk, Result, if◌then◌else◌, inl, inr, ◌⊎◌}
-use Rattle.std.specs.Option.{option_map}
-use Rattle.outer_ports.specs.{declared.{open_files.OpenFiles.OpenFiles, proof_name.{FileKind.FileKind, ProofName.ProofName}}, Disks.{Disk, bytes_at, Writes}}
-use Rattle.outer_ports.specs.{Folders.{files_in_folder, fresh_in, in_range, path_in}, Shelf.{FilesStay, HoldsBytes, OthersStay, bytes_in}}
-use Rattle.outer_ports.specs.inner.{Keeping.{AllHeld, AllRead, IsHeld, IsNeither, IsOther, IsOwn, IsRead, Spares}, OpenFiles.{open_of, Holds}}
+use Rattle.std.{proofs.Common.{arith, ◌≡◌, ◌≢◌, ◌∙◌, refl, sym, ap, ℕ, List, ◌++◌, Option, None, Some, IsTrue, IfOk, Result, if◌then◌else◌, inl, inr, ◌⊎◌}, specs.Option.option_map}
+use Rattle.outer_ports.specs.{declared.{open_files.OpenFiles.OpenFiles, proof_name.{FileKind.FileKind, ProofName.ProofName}}, Disks.{Disk, bytes_at, Writes}, Folders.{files_in_folder, fresh_in, in_range, path_in}}
+use Rattle.outer_ports.specs.{Shelf.{FilesStay, HoldsBytes, OthersStay, bytes_in}, inner.{Keeping.{AllHeld, AllRead, IsHeld, IsNeither, IsOther, IsOwn, IsRead, Spares}, OpenFiles.{open_of, Holds}}}
 use Rattle.outer_ports.proofs.{FileNames.{path_not_fresh, paths_apart}, OpenKinds.{held_after, held_before, same_held, some_is_none}}
 
 -- whose file a number is rests on the numbers alone

@@ -1,7 +1,6 @@
 -- The open files after one of a kind was put in place of another.
 use Rattle.std.proofs.Common.{arith, ◌≡◌, ◌≢◌, ◌⊎◌, refl, Option, None, Some, inl, inr}
-use Rattle.outer_ports.specs.declared.{open_files.OpenFiles.OpenFiles, proof_name.{FileKind.{FileKind, TheVariants.{Cnf, Lrat, Partial}}, ProofName.ProofName}}
-use Rattle.outer_ports.specs.inner.OpenFiles.{open_of, Holds}
+use Rattle.outer_ports.specs.{declared.{open_files.OpenFiles.OpenFiles, proof_name.{FileKind.{FileKind, TheVariants.{Cnf, Lrat, Partial}}, ProofName.ProofName}}, inner.OpenFiles.{open_of, Holds}}
 
 kinds_same : (j k : FileKind) → (j ≡ k) ⊎ (j ≢ k)
 kinds_same Cnf Cnf = inl refl

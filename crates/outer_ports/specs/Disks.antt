@@ -1,6 +1,5 @@
 -- A file system, as single calls of it see it. This project's own.
-use Rattle.std.specs.{Prelude.{◌≡◌, ◌≢◌, ◌⊎◌, ℕ, Bool, false, List, [], ◌++◌, Option, None, Some, Result, IfErr, IfOk, OnOk}, Fs.{file_type, IsFile, IsSymlink}}
-use Rattle.std.specs.{Option.option_map, declared.fs.attrs.Metadata.Metadata}
+use Rattle.std.specs.{Prelude.{◌≡◌, ◌≢◌, ◌⊎◌, ℕ, Bool, false, List, [], ◌++◌, Option, None, Some, Result, IfErr, IfOk, OnOk}, Fs.{file_type, IsFile, IsSymlink}, Option.option_map, declared.fs.attrs.Metadata.Metadata}
 use Rattle.outer_ports.specs.Port.{Rose}
 
 -- the number of the file of a path, which each name of one file has; whether a thing stands under a path that is neither a file nor a link; and the bytes of each file, by its number

@@ -1,7 +1,6 @@
 -- The files of a shelf, and how they are named. This project's own.
 use Rattle.std.specs.Prelude.{ℕ, List, [], ◌++◌, Option, codes, decimal}
-use Rattle.outer_ports.specs.declared.{part.Part.{Part, TheVariants.{Whole, Reduce, Gather, Joined}}, proof_name.{FileKind.FileKind, ProofName.ProofName}}
-use Rattle.outer_ports.specs.declared.proof_name.FileKind.TheVariants.{Cnf, Lrat, Partial}
+use Rattle.outer_ports.specs.declared.{part.Part.{Part, TheVariants.{Whole, Reduce, Gather, Joined}}, proof_name.{FileKind.{FileKind, TheVariants.{Cnf, Lrat, Partial}}, ProofName.ProofName}}
 
 -- the bytes of the file of each name, where there is one
 abbrev pub Files : Type 0

@@ -1,6 +1,5 @@
 -- What every shelf of proof files says of its files. This project's own.
-use Rattle.std.specs.Prelude.{◌≡◌, ◌≢◌, ℕ, ◌<◌, ◌≤◌, ◌↔◌, List, [], ◌++◌, length, take, drop, Option, Some, None, Result, IfOk, IfSome, OnErr, OnOk}
-use Rattle.std.specs.Option.{unwrap_or}
+use Rattle.std.specs.{Prelude.{◌≡◌, ◌≢◌, ℕ, ◌<◌, ◌≤◌, ◌↔◌, List, [], ◌++◌, length, take, drop, Option, Some, None, Result, IfOk, IfSome, OnErr, OnOk}, Option.unwrap_or}
 use Rattle.outer_ports.specs.{declared.proof_name.ProofName.ProofName, Files.Files}
 
 -- every file stays as it was

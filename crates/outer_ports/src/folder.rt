@@ -1,9 +1,7 @@
 //! Proof files in a folder.
 
-ghost use Rattle.std.specs.Prelude.{◌≡◌, ◌≢◌, ◌<◌, ◌≤◌, ◌^◌, ◌↔◌, List, ℕ, None, Some, Ok, Err, true, false, length, IfOk, IfSome, IsTrue, OnOk, string_bytes};
-ghost use Rattle.std.specs.Option.{option_map};
-ghost use Rattle.outer_ports.specs.{Folders.{files_in_folder, path_in}, Port.Tells, Shelf.{AppendsTo, Begins, FilesStay, HoldsBytes, ReadsAt}};
-ghost use Rattle.outer_ports.specs.inner.{Keeping.{AllHeld, AllRead}, OpenFiles.open_of};
+ghost use Rattle.std.specs.{Prelude.{◌≡◌, ◌≢◌, ◌<◌, ◌≤◌, ◌^◌, ◌↔◌, List, ℕ, None, Some, Ok, Err, true, false, length, IfOk, IfSome, IsTrue, OnOk, string_bytes}, Option.option_map};
+ghost use Rattle.outer_ports.specs.{Folders.{files_in_folder, path_in}, Port.Tells, Shelf.{AppendsTo, Begins, FilesStay, HoldsBytes, ReadsAt}, inner.{Keeping.{AllHeld, AllRead}, OpenFiles.open_of}};
 
 use crate::beginning::{make_anew, make_folder, path_of};
 use crate::failed::Failed;

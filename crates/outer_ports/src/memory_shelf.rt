@@ -1,7 +1,6 @@
 //! A shelf in memory.
 
-ghost use Rattle.std.specs.Prelude.{◌≡◌, ℕ, ◌-◌, ◌<◌, ◌≤◌, ◌↔◌, true, None, Some, List, length, min, Contains, IfOk, IfSome, IsErr, OnErr, OnOk};
-ghost use Rattle.std.specs.Option.{option_copied};
+ghost use Rattle.std.specs.{Prelude.{◌≡◌, ℕ, ◌-◌, ◌<◌, ◌≤◌, ◌↔◌, true, None, Some, List, length, min, Contains, IfOk, IfSome, IsErr, OnErr, OnOk}, Option.option_copied};
 ghost use Rattle.outer_ports.specs.{Memory.next_count, FileMaps.files_in, Port.{failed, HasCause}, Shelf.{AppendsTo, Begins, FilesStay, OthersStay, ReadsAt}};
 
 use crate::OutOfMemory;

@@ -1,10 +1,9 @@
 -- What the costs of candidates say of one another.
-use Rattle.std.proofs.Common.{◌≡◌, ◌*◌, ◌-◌, ◌<◌, ◌≤◌, inl, inr, ℕ, List, [], ◌∷◌, length, map, subst, sym, refl, arith, All, AllPairs, Any, Contains, slice_index_or}
-use Rattle.std.proofs.lemmas.{Bool.cases_order, List.{get_or-map, length-map}, Option.{slice_get_within, slice_get-get_or, get_or_from_slice_get}}
+use Rattle.std.proofs.{Common.{◌≡◌, ◌*◌, ◌-◌, ◌<◌, ◌≤◌, inl, inr, ℕ, List, [], ◌∷◌, length, map, subst, sym, refl, arith, All, AllPairs, Any, Contains, slice_index_or}, lemmas.{Bool.cases_order, List.{get_or-map, length-map}}}
+use Rattle.std.proofs.lemmas.Option.{slice_get_within, slice_get-get_or, get_or_from_slice_get}
 use Rattle.list_laws.proofs.Members.{Contains-map}
 use Rattle.schedule.proofs.First.{Among-from_Contains, Contains-from_Among, map_among}
-use Rattle.candidate_order.specs.{declared.{candidate.Candidate.Candidate, mark.Mark.TheVariants.{Optimal, Open}}, Costs.{NoWorse, Better, Before}}
-use Rattle.candidate_order.specs.Frontiers.{QuestionValue, PointValue, UnknownValue, IsWithin}
+use Rattle.candidate_order.specs.{declared.{candidate.Candidate.Candidate, mark.Mark.TheVariants.{Optimal, Open}}, Costs.{NoWorse, Better, Before}, Frontiers.{QuestionValue, PointValue, UnknownValue, IsWithin}}
 use Rattle.candidate_order.proofs.{Costing.{cost_upto, cost_below_right}, Orders.{Before-trans, has_chunk, Before-irrefl}}
 use Rattle.pareto_search.specs.inner.Passing.{LastSettles, IsUnrivalled, IsMark}
 

@@ -1,6 +1,5 @@
 -- The three lists of a frontier in a record that has its entries in any order.
-use Rattle.std.{proofs.{Common.{◌++◌, map, Contains}, lemmas.List.Elements.{Contains-append_left, Contains-append_right}}, specs.List.Sorted.IsPermutation}
-use Rattle.std.proofs.lemmas.List.Sorted.{Contains-permutation, IsPermutation-sym}
+use Rattle.std.{proofs.{Common.{◌++◌, map, Contains}, lemmas.List.{Elements.{Contains-append_left, Contains-append_right}, Sorted.{Contains-permutation, IsPermutation-sym}}}, specs.List.Sorted.IsPermutation}
 use Rattle.list_laws.proofs.Members.{Contains-map}
 use Rattle.candidate_order.specs.{declared.candidate.Candidate.Candidate, Frontiers.{FrontierValue, solved, given_up}}
 use Rattle.engine_rules.specs.{declared.settled.Settled.{Settled, TheVariants.{Solved, Refuted, Unknown}}, Outcomes.RecordValue}

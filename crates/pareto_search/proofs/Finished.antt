@@ -1,17 +1,15 @@
 -- When every candidate within the limits is passed, what was found is right.
-use Rattle.std.proofs.Common.{◌≡◌, ◌≢◌, ◌<◌, ◌⊎◌, ℕ, inl, inr, true, false, List, ◌++◌, map, subst, ap, sym, ◌∙◌, arith, All, Any, Contains, slice_index_or}
-use Rattle.std.{specs.List.Sorted.IsPermutation, proofs.lemmas.List.Elements.{All-contains, Contains-get_or}}
+use Rattle.std.proofs.{Common.{◌≡◌, ◌≢◌, ◌<◌, ◌⊎◌, ℕ, inl, inr, true, false, List, ◌++◌, map, subst, ap, sym, ◌∙◌, arith, All, Any, Contains, slice_index_or}, lemmas.List.Elements.{All-contains, Contains-get_or}}
+use Rattle.std.specs.List.Sorted.{IsPermutation}
 use Rattle.list_laws.proofs.{Each.all_contained, Members.Contains-map}
 use Rattle.schedule.{specs.Sends.ScheduleValue, proofs.First.{Among-from_Contains, Contains-from_Among, map_among}}
-use Rattle.collective_spec.specs.declared.{spec.Spec.{Spec, TheVariants.{Standard, Custom}}, kind.Kind.TheVariants.Allreduce}
-use Rattle.collective_spec.specs.Collectives.{kind_in, adds_up, reduces}
+use Rattle.collective_spec.specs.{declared.{spec.Spec.{Spec, TheVariants.{Standard, Custom}}, kind.Kind.TheVariants.Allreduce}, Collectives.{kind_in, adds_up, reduces}}
 use Rattle.candidate_order.specs.{declared.{candidate.Candidate.Candidate, mark.Mark.TheVariants.Optimal}, Costs.{NoWorse, Better, Before}, Ranges.LimitsValue}
 use Rattle.candidate_order.specs.Frontiers.{QuestionValue, PointValue, UnknownValue, FrontierValue, solved, given_up, IsAnswered, IsWithin, IsTried, IsPoint, IsUnknown, IsWorthTrying, WastesNothing, RightFrontier, Searched}
 use Rattle.candidate_order.proofs.Orders.{has_chunk}
 use Rattle.engine_rules.specs.{declared.settled.Settled.{Settled, TheVariants.{Solved, Refuted, Unknown}}, Outcomes.RecordValue}
 use Rattle.pareto_search.specs.{inner.Passing.{HasFewerSteps, IsJudged, IsFound, HasPassed, listed}, Recorded.entries_of}
-use Rattle.pareto_search.proofs.{Costs.no_worse_than_better, Records.{one_kind, by_kind, by_kind-shuffles}}
-use Rattle.pareto_search.proofs.{Steps.{settled_as, listed_as, ascends_as, was_passed, was_worth}, Places.replaced}
+use Rattle.pareto_search.proofs.{Costs.no_worse_than_better, Records.{one_kind, by_kind, by_kind-shuffles}, Steps.{settled_as, listed_as, ascends_as, was_passed, was_worth}, Places.replaced}
 
 -- a collective that copies is not the one that joins two others
 copying_is_single : (s : Spec) → adds_up s ≡ false → kind_in s ≢ Allreduce

@@ -1,8 +1,6 @@
 -- One candidate more is in the record.
-use Rattle.std.proofs.Common.{◌≡◌, ◌⊎◌, inl, inr, ⊎_elim, refl, List, [], ◌∷◌, ◌++◌, subst, ap, sym, Contains}
-use Rattle.std.proofs.lemmas.List.Elements.{Contains-append_left, Contains-push, Contains-push_cases}
-use Rattle.candidate_order.specs.{declared.{candidate.Candidate.Candidate, mark.Mark.Mark}, Costs.{Better, Before}, Frontiers.{QuestionValue, IsWithin}}
-use Rattle.candidate_order.proofs.Orders.{Before-irrefl}
+use Rattle.std.proofs.{Common.{◌≡◌, ◌⊎◌, inl, inr, ⊎_elim, refl, List, [], ◌∷◌, ◌++◌, subst, ap, sym, Contains}, lemmas.List.Elements.{Contains-append_left, Contains-push, Contains-push_cases}}
+use Rattle.candidate_order.{specs.{declared.{candidate.Candidate.Candidate, mark.Mark.Mark}, Costs.{Better, Before}, Frontiers.{QuestionValue, IsWithin}}, proofs.Orders.Before-irrefl}
 use Rattle.engine_rules.specs.{declared.settled.Settled.{Settled, TheVariants.Solved}, Outcomes.RecordValue}
 use Rattle.pareto_search.{specs.inner.Passing.{IsBefore, IsUpTo, IsWorth, IsJudged, IsMark}, proofs.Costs.{Before-asym, better_first}}
 

@@ -1,14 +1,12 @@
 -- The places in the list of a step's candidates, and what comes before them.
-use Rattle.std.proofs.Common.{◌≡◌, ◌+◌, ◌<◌, ◌≤◌, ℕ, inl, inr, ⊎_elim, Option, None, List, length, get_or, subst, ap, sym, ◌∙◌, arith, All, AllPairs, Contains, ◌↔◌, slice_index_or}
-use Rattle.std.proofs.lemmas.{Bool.{cases_eq, cases_order, and_parts, leb-true}, List.{get_or_default, Elements.{All-weaker, Contains-get_or}}}
+use Rattle.std.proofs.{Common.{◌≡◌, ◌+◌, ◌<◌, ◌≤◌, ℕ, inl, inr, ⊎_elim, Option, None, List, length, get_or, subst, ap, sym, ◌∙◌, arith, All, AllPairs, Contains, ◌↔◌, slice_index_or}, lemmas.Bool.{cases_eq, cases_order, and_parts, leb-true}}
+use Rattle.std.proofs.lemmas.List.{get_or_default, Elements.{All-weaker, Contains-get_or}}
 use Rattle.schedule.specs.Sends.{ScheduleValue}
 use Rattle.collective_spec.specs.{Collectives.kind_in, declared.kind.Kind.Kind}
-use Rattle.candidate_order.specs.{declared.candidate.Candidate.Candidate, Costs.Before, Ranges.LimitsValue, Listed.{Within, IsListed, IsCount, AreAllowed}}
-use Rattle.candidate_order.specs.Frontiers.{QuestionValue, FrontierValue, IsWithin}
+use Rattle.candidate_order.specs.{declared.candidate.Candidate.Candidate, Costs.Before, Ranges.LimitsValue, Listed.{Within, IsListed, IsCount, AreAllowed}, Frontiers.{QuestionValue, FrontierValue, IsWithin}}
 use Rattle.candidate_order.proofs.Orders.{listed-within, Before-irrefl}
 use Rattle.engine_rules.specs.Outcomes.{RecordValue}
-use Rattle.pareto_search.specs.{inner.Passing.{HasFewerSteps, IsBefore, IsUpTo, IsThrough, IsStep, HasPassed}, Recorded.{StaysWithin, IsStoppedWithin}}
-use Rattle.pareto_search.proofs.Costs.{Before-asym}
+use Rattle.pareto_search.{specs.{inner.Passing.{HasFewerSteps, IsBefore, IsUpTo, IsThrough, IsStep, HasPassed}, Recorded.{StaysWithin, IsStoppedWithin}}, proofs.Costs.Before-asym}
 
 -- the same candidates are passed, said in another way
 pub replaced : (q : QuestionValue) (suits : Candidate → ScheduleValue → Type 0) (passed now : Candidate → Type 0) (entries : RecordValue) (f : FrontierValue) → ((x : Candidate) → passed x ↔ now x) → HasPassed q suits passed entries f → HasPassed q suits now entries f

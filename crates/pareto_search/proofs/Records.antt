@@ -1,8 +1,7 @@
 -- A record that ascends: each candidate stands there once, and in the list of its kind.
-use Rattle.std.proofs.Common.{◌≡◌, inl, inr, Bool, true, false, cond, List, [], ◌∷◌, ◌++◌, length, map, subst, ap, sym, ◌∙◌, refl, arith, AllPairs, Contains, filter}
-use Rattle.std.{specs.List.Sorted.IsPermutation, proofs.lemmas.{Bool.cases_order, List.{append-nil, get_or-map, get_or_default, length-map, map-append}}}
-use Rattle.std.proofs.lemmas.List.{Elements.filter-append, Kept.AllPairs-filter}
-use Rattle.std.proofs.lemmas.List.Sorted.{IsPermutation-refl, IsPermutation-sym, IsPermutation-cons, IsPermutation-trans, IsPermutation-append_left, IsPermutation-middle}
+use Rattle.std.proofs.{Common.{◌≡◌, inl, inr, Bool, true, false, cond, List, [], ◌∷◌, ◌++◌, length, map, subst, ap, sym, ◌∙◌, refl, arith, AllPairs, Contains, filter}, lemmas.Bool.cases_order}
+use Rattle.std.proofs.lemmas.List.{append-nil, get_or-map, get_or_default, length-map, map-append, Elements.filter-append, Kept.AllPairs-filter}
+use Rattle.std.{proofs.lemmas.List.Sorted.{IsPermutation-refl, IsPermutation-sym, IsPermutation-cons, IsPermutation-trans, IsPermutation-append_left, IsPermutation-middle}, specs.List.Sorted.IsPermutation}
 use Rattle.list_laws.proofs.Members.{Contains-filter, Contains-map}
 use Rattle.schedule.proofs.First.{Among-from_Contains, Contains-from_Among, filter_among, map_among}
 use Rattle.candidate_order.{specs.{declared.candidate.Candidate.Candidate, Costs.Before}, proofs.Orders.Before-irrefl}

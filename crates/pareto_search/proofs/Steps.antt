@@ -1,18 +1,14 @@
 -- What a search has found when it has passed one candidate more.
-use Rattle.std.proofs.Common.{◌≡◌, ◌≤◌, ◌*◌, inl, inr, ⊎_elim, ℕ, Option, None, [], ◌∷◌, ◌++◌, cond, refl, subst, ap, sym, ◌∙◌, arith, All, AllPairs, Contains, slice_index_or}
-use Rattle.std.proofs.lemmas.{Bool.cases_lt, List.{map_push, Quantifiers.all_pairs_push}}
-use Rattle.std.proofs.lemmas.List.Elements.{All-push, All-weaker, All-contains, Contains-get_or}
+use Rattle.std.proofs.{Common.{◌≡◌, ◌≤◌, ◌*◌, inl, inr, ⊎_elim, ℕ, Option, None, [], ◌∷◌, ◌++◌, cond, refl, subst, ap, sym, ◌∙◌, arith, All, AllPairs, Contains, slice_index_or}, lemmas.{Bool.cases_lt, List.map_push}}
+use Rattle.std.proofs.lemmas.List.{Quantifiers.all_pairs_push, Elements.{All-push, All-weaker, All-contains, Contains-get_or}}
 use Rattle.list_laws.proofs.{Each.all_contained, Members.Contains-map}
 use Rattle.schedule.specs.Sends.{ScheduleValue}
-use Rattle.candidate_order.specs.{declared.{candidate.Candidate.Candidate, outcome.Outcome.Outcome}, Costs.{NoWorse, Before}}
-use Rattle.candidate_order.specs.declared.outcome.Outcome.TheVariants as outcome
-use Rattle.candidate_order.specs.Frontiers.{QuestionValue, PointValue, UnknownValue, FrontierValue, solved, given_up, IsWithin, IsSolvable}
+use Rattle.candidate_order.specs.{declared.{candidate.Candidate.Candidate, outcome.Outcome.Outcome}, Costs.{NoWorse, Before}, Frontiers.{QuestionValue, PointValue, UnknownValue, FrontierValue, solved, given_up, IsWithin, IsSolvable}}
 use Rattle.candidate_order.proofs.Orders.{has_chunk, Before-irrefl}
+use Rattle.candidate_order.specs.declared.outcome.Outcome.TheVariants as outcome
 use Rattle.engine_rules.specs.{declared.settled.Settled.{Settled, TheVariants.{Solved, Refuted, Unknown}}, Outcomes.{RecordValue, SolvesTightly, kind_of}}
-use Rattle.pareto_search.specs.inner.Passing.{IsBefore, IsUpTo, IsSettled, IsWorth, IsJudged, IsAdded, IsFound, IsSaid, LastSettles, HasPassed, is_same, listed}
-use Rattle.pareto_search.specs.Recorded.{StaysWithin, IsStoppedWithin}
-use Rattle.pareto_search.proofs.{Costs.{CostsFall, steps_upto, no_worse_last, last_there}, Records.{of_kind-settled, Contains-of_kind, of_kind-ascends, lists_more}}
-use Rattle.pareto_search.proofs.Passed.{judged_more, mark_stays}
+use Rattle.pareto_search.specs.{inner.Passing.{IsBefore, IsUpTo, IsSettled, IsWorth, IsJudged, IsAdded, IsFound, IsSaid, LastSettles, HasPassed, is_same, listed}, Recorded.{StaysWithin, IsStoppedWithin}}
+use Rattle.pareto_search.proofs.{Costs.{CostsFall, steps_upto, no_worse_last, last_there}, Records.{of_kind-settled, Contains-of_kind, of_kind-ascends, lists_more}, Passed.{judged_more, mark_stays}}
 
 module _ (q : QuestionValue) (suits : Candidate → ScheduleValue → Type 0) (passed : Candidate → Type 0) (entries : RecordValue) (f : FrontierValue) (was : HasPassed q suits passed entries f) where
   -- what stands in a list was settled so, and what was settled stands in its list

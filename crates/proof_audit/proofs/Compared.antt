@@ -1,7 +1,6 @@
 -- A text that is compared piece by piece.
-use Rattle.std.proofs.Common.{◌≡◌, ◌∙◌, refl, sym, ap, ℕ, ◌+◌, ◌<◌, ◌≤◌, true, false, List, [], ◌∷◌, ◌++◌, length, take, drop, ⊎_elim, arith, ◌&&◌, nat_eq, bytes_eq}
-use Rattle.std.proofs.{Math.Seq.{take-append_seam, drop-drop}, lemmas.{Bool.{false≢true, cases_Bool, cases_eq, eq-eqb, ne_eqb}, Slice.Eq.bytes_eq-Decides}}
-use Rattle.std.proofs.lemmas.List.{take-append-drop, drop_all, length-drop}
+use Rattle.std.proofs.{Common.{◌≡◌, ◌∙◌, refl, sym, ap, ℕ, ◌+◌, ◌<◌, ◌≤◌, true, false, List, [], ◌∷◌, ◌++◌, length, take, drop, ⊎_elim, arith, ◌&&◌, nat_eq, bytes_eq}, Math.Seq.{take-append_seam, drop-drop}}
+use Rattle.std.proofs.lemmas.{Bool.{false≢true, cases_Bool, cases_eq, eq-eqb, ne_eqb}, Slice.Eq.bytes_eq-Decides, List.{take-append-drop, drop_all, length-drop}}
 
 pub not_begun : (left piece more : List ℕ) → bytes_eq piece (take (length piece) left) ≡ false → bytes_eq (piece ++ more) left ≡ false
 not_begun left piece more apart = grind (arith, ⊎_elim, bytes_eq-Decides, take-append_seam, false≢true, cases_Bool, bytes_eq)

@@ -1,9 +1,7 @@
 -- A file that is judged piece by piece.
 use Rattle.std.proofs.Common.{◌≡◌, ◌∙◌, refl, sym, ap, ℕ, ◌+◌, ◌<◌, ◌≤◌, Bool, true, false, Option, None, Some, Ok, List, [], ◌++◌, length, take, drop, subst, arith, append_assoc, IsTrue, ◌&&◌, IfSome, nat_le, if◌then◌else◌}
-use Rattle.std.proofs.{Math.{Seq.take-add, Bool.and-false}, lemmas.Bool.{le-leb, lt-leb}}
-use Rattle.std.proofs.lemmas.List.{take-append-drop, take_all, length-append, length-take, length-take-le, append-nil}
-use Rattle.outer_ports.specs.{Port.Tells, Files.Files, Shelf.{FilesStay, HoldsBytes, ReadsAt}, declared.proof_name.ProofName.ProofName}
-use Rattle.outer_ports.specs.declared.shelf_fault.ShelfFault.{ShelfFault}
+use Rattle.std.proofs.{Math.{Seq.take-add, Bool.and-false}, lemmas.{Bool.{le-leb, lt-leb}, List.{take-append-drop, take_all, length-append, length-take, length-take-le, append-nil}}}
+use Rattle.outer_ports.specs.{Port.Tells, Files.Files, Shelf.{FilesStay, HoldsBytes, ReadsAt}, declared.{proof_name.ProofName.ProofName, shelf_fault.ShelfFault.ShelfFault}}
 use Rattle.proof_audit.specs.{declared.verdict.FileVerdict.{FileVerdict, TheVariants.{Missing, Refused, Stands}}, Files.{file_verdict, short_and}}
 
 -- the bytes that a judge took, and which are those of the file in front of a place, where the shelf tells it

@@ -1,9 +1,7 @@
 -- Tests of files pass exactly where the files are what they have to be.
-use Rattle.std.proofs.Common.{arith, ◌≡◌, ℕ, suc, true, List, [], ◌∷◌, length, Option, Some, None, refl, ap, ◌∙◌, ◌&&◌, map}
-use Rattle.std.proofs.lemmas.Bool.{and_parts, eqb-true, eq-eqb, and_from}
+use Rattle.std.proofs.{Common.{arith, ◌≡◌, ℕ, suc, true, List, [], ◌∷◌, length, Option, Some, None, refl, ap, ◌∙◌, ◌&&◌, map}, lemmas.Bool.{and_parts, eqb-true, eq-eqb, and_from}}
 use Rattle.cnf_formula.specs.{Formulas.FormulaValue, Lines.ProofLineValue, declared.line.LratLine.{LratLine, TheVariants.{Addition, Deletion}}}
-use Rattle.proof_rules.specs.{Held.{CheckerValue, start_of}, Testing.is_rup}
-use Rattle.proof_rules.specs.Refuting.{all_accepted, with_line, is_fresh, after_lines, are_learned, Refutes, SpentLog}
+use Rattle.proof_rules.specs.{Held.{CheckerValue, start_of}, Testing.is_rup, Refuting.{all_accepted, with_line, is_fresh, after_lines, are_learned, Refutes, SpentLog}}
 use Rattle.proof_audit.specs.Tested.{do_refute, do_spend}
 
 -- ---- refutations

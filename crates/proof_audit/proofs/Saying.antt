@@ -1,11 +1,9 @@
 -- What a reader says of a text, line by line, whatever pieces it is fed.
-use Rattle.std.proofs.Common.{◌≡◌, ℕ, ◌+◌, Bool, true, false, cond, List, [], ◌∷◌, ◌++◌, length, drop, Option, Some, None, Result, Ok, Err, refl, sym, ap, ◌∙◌, ⊎_elim, arith, ◌==◌, ◌||◌}
-use Rattle.std.{specs.List.flat_map, proofs.lemmas.{Bool.{false≢true, cases_Bool}, List.{drop-drop, drop_all, append-nil}}}
+use Rattle.std.proofs.{Common.{◌≡◌, ℕ, ◌+◌, Bool, true, false, cond, List, [], ◌∷◌, ◌++◌, length, drop, Option, Some, None, Result, Ok, Err, refl, sym, ap, ◌∙◌, ⊎_elim, arith, ◌==◌, ◌||◌}, lemmas.Bool.{false≢true, cases_Bool}}
+use Rattle.std.{proofs.lemmas.List.{drop-drop, drop_all, append-nil}, specs.List.flat_map}
 use Rattle.text_lines.{specs.Text.{Row, onto_row, rows_of, row_text}, proofs.Rows.rows_back}
 use Rattle.cnf_formula.specs.declared.line.LratLine.{LratLine}
-use Rattle.lrat_text.specs.declared.fault.LratTextFault.{LratTextFault}
-use Rattle.lrat_text.specs.Reading.{row_says, size_of, Said, nothing_said, said_at, said_by, ReaderValue, said_to, after_next}
-use Rattle.lrat_text.proofs.Cutting.{first_of}
+use Rattle.lrat_text.{specs.{declared.fault.LratTextFault.LratTextFault, Reading.{row_says, size_of, Said, nothing_said, said_at, said_by, ReaderValue, said_to, after_next}}, proofs.Cutting.first_of}
 use Rattle.candidate_formula.specs.Lines.{in_front, lines_from}
 use Rattle.proof_audit.specs.inner.Lines.{left_says, before, lines_pass}
 

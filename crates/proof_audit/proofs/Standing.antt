@@ -1,12 +1,10 @@
 -- Files that stand beside a refuted candidate.
-use Rattle.std.proofs.Common.{arith, ◌≡◌, ℕ, Bool, true, List, length, Option, None, Some, refl, ap, ◌∙◌, ◌↔◌, nat_le, bytes_eq, if◌then◌else◌}
-use Rattle.std.proofs.lemmas.{Bool.{and_parts, leb-true, le-leb, and_from}, Slice.Eq.bytes_eq-Decides}
+use Rattle.std.proofs.{Common.{arith, ◌≡◌, ℕ, Bool, true, List, length, Option, None, Some, refl, ap, ◌∙◌, ◌↔◌, nat_le, bytes_eq, if◌then◌else◌}, lemmas.{Bool.{and_parts, leb-true, le-leb, and_from}, Slice.Eq.bytes_eq-Decides}}
 use Rattle.outer_ports.specs.{declared.{part.Part.Part, proof_name.FileKind.TheVariants.{Cnf, Lrat}}, Files.Files}
 use Rattle.lrat_text.specs.Printing.{cnf_text}
 use Rattle.candidate_order.specs.{declared.candidate.Candidate.Candidate, Frontiers.QuestionValue}
 use Rattle.candidate_formula.{specs.{Files.{file_of, longest_proof, HasRefutation}, Formulas.formula_for, ReadLines.lines_said}, proofs.Spelled.{text_spells, text_read}}
-use Rattle.proof_audit.specs.{declared.verdict.FileVerdict.TheVariants.{Refused, Stands}, Files.file_verdict, Proving.is_refutation, Tested.do_refute}
-use Rattle.proof_audit.proofs.Proved.{refutes_by, by_refuting}
+use Rattle.proof_audit.{specs.{declared.verdict.FileVerdict.TheVariants.{Refused, Stands}, Files.file_verdict, Proving.is_refutation, Tested.do_refute}, proofs.Proved.{refutes_by, by_refuting}}
 
 -- a file whose bytes pass a test
 record Passes (test : List ℕ → Bool) (file : Option (List ℕ)) : Type 0 where

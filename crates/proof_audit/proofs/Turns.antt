@@ -1,9 +1,7 @@
 -- Lines pass by the verdicts on them exactly where they pass by the tests that give no reason.
 use Rattle.std.proofs.Common.{arith, ◌≡◌, refl, Bool, true, false, List, [], ◌∷◌, Option, None, ◌&&◌, if◌then◌else◌}
 use Rattle.cnf_formula.specs.declared.line.LratLine.{LratLine, TheVariants.{Addition, Deletion}}
-use Rattle.proof_rules.specs.Held.{CheckerValue}
-use Rattle.proof_rules.specs.Refuting.{all_accepted, with_accepted, with_line, after_lines, are_learned}
-use Rattle.proof_rules.proofs.Tested.{acceptance_said, rup_said}
+use Rattle.proof_rules.{specs.{Held.CheckerValue, Refuting.{all_accepted, with_accepted, with_line, after_lines, are_learned}}, proofs.Tested.{acceptance_said, rup_said}}
 use Rattle.proof_audit.specs.inner.Turns.{checker_after, is_refuted, are_taken}
 
 one_more : (now later refuted : Bool) (o : Option CheckerValue) → is_refuted o ≡ (later && refuted) → is_refuted (if now then o else None) ≡ (now && later && refuted)

@@ -1,10 +1,8 @@
 -- Each verdict on a file is that on some file.
-use Rattle.std.proofs.Common.{arith, ◌≡◌, ℕ, Bool, false, List, None, Some, Result, Ok, Err, refl, sym, ap, IfOk, if◌then◌else◌, nat_le, bytes_eq}
-use Rattle.std.proofs.lemmas.Bool.{and_parts}
+use Rattle.std.proofs.{Common.{arith, ◌≡◌, ℕ, Bool, false, List, None, Some, Result, Ok, Err, refl, sym, ap, IfOk, if◌then◌else◌, nat_le, bytes_eq}, lemmas.Bool.and_parts}
 use Rattle.cnf_formula.specs.Formulas.{FormulaValue}
 use Rattle.lrat_text.specs.Printing.{cnf_text}
-use Rattle.proof_audit.specs.declared.{fault.AuditFault.AuditFault, verdict.FileVerdict.{FileVerdict, TheVariants.{Missing, Refused, Stands}}}
-use Rattle.proof_audit.specs.{Files.{short_and, SomePass, IsFileVerdict}}
+use Rattle.proof_audit.specs.{declared.{fault.AuditFault.AuditFault, verdict.FileVerdict.{FileVerdict, TheVariants.{Missing, Refused, Stands}}}, Files.{short_and, SomePass, IsFileVerdict}}
 
 -- where some bytes pass that stand, and some fail
 verdict_some : (test : List ℕ → Bool) (bad : List ℕ) (v : FileVerdict) → test bad ≡ false → (v ≡ Stands → SomePass test) → IsFileVerdict test v

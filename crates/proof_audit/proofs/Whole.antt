@@ -1,13 +1,11 @@
 -- What is said of a whole file of proof lines.
-use Rattle.std.proofs.Common.{arith, ◌≡◌, ◌∙◌, refl, sym, ap, ℕ, Bool, List, length, Option, None, Some, Result, Ok, Err, ◌&&◌, ◌==◌, IfOk, nat_le, if◌then◌else◌}
-use Rattle.std.proofs.lemmas.Bool.{and_parts}
+use Rattle.std.proofs.{Common.{arith, ◌≡◌, ◌∙◌, refl, sym, ap, ℕ, Bool, List, length, Option, None, Some, Result, Ok, Err, ◌&&◌, ◌==◌, IfOk, nat_le, if◌then◌else◌}, lemmas.Bool.and_parts}
 use Rattle.cnf_formula.specs.{Formulas.{FormulaValue, Satisfiable}, declared.line.LratLine.LratLine}
 use Rattle.proof_rules.{specs.Held.start_of, proofs.Calm.never_refuted}
 use Rattle.lrat_text.specs.{declared.fault.LratTextFault.LratTextFault, Reading.new_reader}
 use Rattle.candidate_formula.{specs.{Lines.lines_of_text, ReadLines.lines_said, Files.longest_proof}, proofs.Said.{plain, said_plain}}
-use Rattle.proof_audit.specs.declared.{fault.AuditFault.AuditFault, verdict.FileVerdict.{FileVerdict, TheVariants.{Stands, Refused}}}
-use Rattle.proof_audit.specs.{Proving.{is_refutation, is_spent_log}, Tested.{do_refute, do_spend}, Files.{file_verdict, short_and, SomePass, HasSpentLog}}
-use Rattle.proof_audit.specs.inner.{Lines.{left_says, lines_pass}, Turns.{checker_after, is_refuted, are_taken}}
+use Rattle.proof_audit.specs.{declared.{fault.AuditFault.AuditFault, verdict.FileVerdict.{FileVerdict, TheVariants.{Stands, Refused}}}, Proving.{is_refutation, is_spent_log}, Tested.{do_refute, do_spend}}
+use Rattle.proof_audit.specs.{Files.{file_verdict, short_and, SomePass, HasSpentLog}, inner.{Lines.{left_says, lines_pass}, Turns.{checker_after, is_refuted, are_taken}}}
 use Rattle.proof_audit.proofs.{Proved.{refutes_by, spent_by}, Turns.{same_refuting, same_learning}}
 
 -- ---- tests that agree

@@ -1,13 +1,10 @@
 -- Where some assignment satisfies a formula, some assignment satisfies all that is held after any accepted lines, and none of them refutes it.
-use Rattle.std.{proofs.lemmas.Bool.{or_from, or_cases, or_left, cases_Bool}, specs.List.{list_any, enumerate_from}}
-use Rattle.std.proofs.Common.{◌≡◌, ℕ, ◌+◌, ◌≤◌, max, Bool, true, false, List, [], ◌∷◌, ◌++◌, length, get_or, refl, sym, ap, ◌∙◌, subst, ⊎_elim, arith, ◌==◌, not, All}
-use Rattle.std.proofs.lemmas.List.Elements.{All-nil, All-push, All-filter}
-use Rattle.cnf_formula.specs.{Literals.{LitValue, same_literal, has_literal, value_of, all_hold}, Formulas.{FormulaValue, Satisfiable}}
-use Rattle.cnf_formula.specs.{Lines.ProofLineValue, declared.line.LratLine.{LratLine, TheVariants.{Addition, Deletion}}}
-use Rattle.proof_rules.proofs.{Sound.{none_any, is_so, holds, Holds, no_conflict, still_untrue, turned, own_holds, entry_holds}, Tested.{rup_by, rat_by}}
-use Rattle.proof_rules.specs.{Refuting.{with_line, with_accepted, all_accepted, after_lines, IsChecker, Refutes}, Held.{CheckerValue, start_of, has_none}}
-use Rattle.proof_rules.{proofs.Numbered.{Numbered, start_numbered, more_numbered, fewer_numbered}, specs.Testing.{is_rup, is_rat, accepts}}
-use Rattle.proof_rules.{specs.Accepting.{Implied, Redundant, groups_of, leading, IsNew}, proofs.Taking.same_itself}
+use Rattle.std.proofs.{lemmas.Bool.{or_from, or_cases, or_left, cases_Bool}, Common.{◌≡◌, ℕ, ◌+◌, ◌≤◌, max, Bool, true, false, List, [], ◌∷◌, ◌++◌, length, get_or, refl, sym, ap, ◌∙◌, subst, ⊎_elim, arith, ◌==◌, not, All}}
+use Rattle.std.{proofs.lemmas.List.Elements.{All-nil, All-push, All-filter}, specs.List.{list_any, enumerate_from}}
+use Rattle.cnf_formula.specs.{Literals.{LitValue, same_literal, has_literal, value_of, all_hold}, Formulas.{FormulaValue, Satisfiable}, Lines.ProofLineValue, declared.line.LratLine.{LratLine, TheVariants.{Addition, Deletion}}}
+use Rattle.proof_rules.proofs.{Sound.{none_any, is_so, holds, Holds, no_conflict, still_untrue, turned, own_holds, entry_holds}, Tested.{rup_by, rat_by}, Numbered.{Numbered, start_numbered, more_numbered, fewer_numbered}}
+use Rattle.proof_rules.{proofs.Taking.same_itself, specs.{Refuting.{with_line, with_accepted, all_accepted, after_lines, IsChecker, Refutes}, Held.{CheckerValue, start_of, has_none}, Testing.{is_rup, is_rat, accepts}}}
+use Rattle.proof_rules.specs.Accepting.{Implied, Redundant, groups_of, leading, IsNew}
 
 -- all that is held can be satisfied together, each by its number, and nothing was refuted
 pub record Calm (c : CheckerValue) : Type 0 where

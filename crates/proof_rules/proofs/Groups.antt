@@ -1,10 +1,8 @@
 -- The groups of a line have no fault exactly where each closes its clause, and no clause has two.
-use Rattle.std.{proofs.Common.{◌≡◌, ℕ, ◌+◌, Bool, false, List, [], ◌∷◌, Some, None, Ok, refl, arith, ◌≢◌, ◌==◌, All, AllPairs}, specs.List.list_any}
-use Rattle.std.proofs.lemmas.List.{Elements.{All-nil, All-head, All-tail}, Kept.AllPairs-cons}
+use Rattle.std.{proofs.{Common.{◌≡◌, ℕ, ◌+◌, Bool, false, List, [], ◌∷◌, Some, None, Ok, refl, arith, ◌≢◌, ◌==◌, All, AllPairs}, lemmas.List.{Elements.{All-nil, All-head, All-tail}, Kept.AllPairs-cons}}, specs.List.list_any}
 use Rattle.list_laws.proofs.Pairs.{pairs_head, pairs_tail}
 use Rattle.cnf_formula.specs.Literals.{LitValue}
-use Rattle.proof_rules.specs.{Held.{Entry, clause_at}, Judging.{led_to, assumed, closing_fault, group_fault, groups_fault}}
-use Rattle.proof_rules.{proofs.Hints.{conflicts, leads_to_conflict}, specs.Accepting.{Group, without_negated, Closes, Answers}}
+use Rattle.proof_rules.{specs.{Held.{Entry, clause_at}, Judging.{led_to, assumed, closing_fault, group_fault, groups_fault}, Accepting.{Group, without_negated, Closes, Answers}}, proofs.Hints.{conflicts, leads_to_conflict}}
 
 -- ---- one group
 

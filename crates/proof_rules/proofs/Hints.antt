@@ -1,9 +1,8 @@
 -- Hints in a row lead to a conflict, or to literals that are false, exactly where they are taken so.
 use Rattle.std.{specs.List.list_all, proofs.Common.{arith, ◌≡◌, ℕ, ◌+◌, true, List, [], ◌∷◌, Option, Some, None, Result, Ok, Err, refl, ap, ◌∙◌}}
 use Rattle.cnf_formula.specs.Literals.{LitValue, negation, same_literal}
-use Rattle.proof_rules.specs.{declared.verdict.LineCode.{LineCode, TheVariants.HintsAfterConflict}, Held.{Entry, clause_at, open_literals}}
-use Rattle.proof_rules.specs.{Judging.{Fault, given_by, given_by_clause, after_conflict, led_to}, Accepting.{Takes, Falsifies, LeadsTo, Conflicts}}
-use Rattle.proof_rules.proofs.Taking.{none_open, open_none, rest_is, first_open, gives_some, given_one, all_same}
+use Rattle.proof_rules.specs.{declared.verdict.LineCode.{LineCode, TheVariants.HintsAfterConflict}, Held.{Entry, clause_at, open_literals}, Judging.{Fault, given_by, given_by_clause, after_conflict, led_to}}
+use Rattle.proof_rules.{specs.Accepting.{Takes, Falsifies, LeadsTo, Conflicts}, proofs.Taking.{none_open, open_none, rest_is, first_open, gives_some, given_one, all_same}}
 
 -- ---- one hint
 

@@ -1,8 +1,7 @@
 -- Additions that follow from what is held, each in its turn: one line more, and what they are among all lines.
 use Rattle.std.proofs.{Common.{arith, ◌≡◌, true, List, [], ◌∷◌, ◌++◌, map, refl, ◌↔◌}, lemmas.Bool.Decides.nat_tests}
 use Rattle.cnf_formula.specs.{Lines.ProofLineValue, declared.line.LratLine.TheVariants.Addition}
-use Rattle.proof_rules.specs.{declared.verdict.LineVerdict.TheVariants.Accepted, Held.CheckerValue, Learning.{AllImplied, AllFresh}}
-use Rattle.proof_rules.specs.{Judging.verdict_of, Refuting.{all_accepted, after_lines, with_line, are_learned}}
+use Rattle.proof_rules.specs.{declared.verdict.LineVerdict.TheVariants.Accepted, Held.CheckerValue, Learning.{AllImplied, AllFresh}, Judging.verdict_of, Refuting.{all_accepted, after_lines, with_line, are_learned}}
 use Rattle.proof_rules.proofs.{Verdicts.{implied_by, by_implied}, Tested.{rup_by, by_rup, acceptance_said}}
 
 -- the checker after one line more

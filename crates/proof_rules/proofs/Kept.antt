@@ -1,11 +1,8 @@
 -- What is held stays held under more additions, and so does a conflict.
-use Rattle.std.proofs.{lemmas.Bool.and_from, Math.Logic.{∥∥₁_elim}, Common.{◌≡◌, ℕ, suc, max, List, [], ◌∷◌, ◌++◌, length, Some, refl, subst, arith, true, map}}
-use Rattle.cnf_formula.specs.{Literals.{LitValue, negation}, Formulas.FormulaValue, Lines.ProofLineValue, declared.line.LratLine.LratLine}
-use Rattle.cnf_formula.specs.declared.line.LratLine.TheVariants.{Addition}
-use Rattle.proof_rules.specs.{declared.verdict.LineVerdict.TheVariants.Accepted as AcceptedVerdict, Held.{Entry, CheckerValue, start_of, clause_at}}
-use Rattle.proof_rules.specs.{Testing.accepts, Judging.{verdict_of, is_accepted, verdict_on}, Accepting.{Conflicts, Implied, leading}}
-use Rattle.proof_rules.specs.Refuting.{with_line, with_accepted, all_accepted, after_lines, IsChecker, Exhaustion, Exhausted}
-use Rattle.proof_rules.proofs.{Verdicts.implied_by, Tested.{by_rup, acceptance_said}}
+use Rattle.std.proofs.{lemmas.Bool.and_from, Math.Logic.∥∥₁_elim, Common.{◌≡◌, ℕ, suc, max, List, [], ◌∷◌, ◌++◌, length, Some, refl, subst, arith, true, map}}
+use Rattle.cnf_formula.specs.{Literals.{LitValue, negation}, Formulas.FormulaValue, Lines.ProofLineValue, declared.line.LratLine.{LratLine, TheVariants.Addition}}
+use Rattle.proof_rules.specs.{declared.verdict.LineVerdict.TheVariants.Accepted as AcceptedVerdict, Held.{Entry, CheckerValue, start_of, clause_at}, Testing.accepts, Judging.{verdict_of, is_accepted, verdict_on}}
+use Rattle.proof_rules.{specs.{Accepting.{Conflicts, Implied, leading}, Refuting.{with_line, with_accepted, all_accepted, after_lines, IsChecker, Exhaustion, Exhausted}}, proofs.{Verdicts.implied_by, Tested.{by_rup, acceptance_said}}}
 
 abbrev pub Keeps : List Entry → List Entry → Type 0
 Keeps held more = (id : ℕ) (clause : List LitValue) → clause_at held id ≡ Some clause → clause_at more id ≡ Some clause

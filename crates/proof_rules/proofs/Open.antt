@@ -1,9 +1,7 @@
 -- Where each clause that is held has two literals, nothing falls at once.
-use Rattle.std.{proofs.Common.{arith, ◌≡◌, ℕ, Bool, true, false, List, [], ◌∷◌, Some, subst, not, All}, specs.List.list_all}
-use Rattle.std.proofs.lemmas.{Bool.false≢true, List.Elements.{All-head, All-tail}}
+use Rattle.std.{proofs.{Common.{arith, ◌≡◌, ℕ, Bool, true, false, List, [], ◌∷◌, Some, subst, not, All}, lemmas.{Bool.false≢true, List.Elements.{All-head, All-tail}}}, specs.List.list_all}
 use Rattle.cnf_formula.specs.{Literals.{LitValue, same_literal}, Lines.ProofLineValue}
-use Rattle.proof_rules.specs.{Held.{Entry, CheckerValue, clause_at}, Testing.is_rup, Accepting.{IsFalse, Conflicts, leading}}
-use Rattle.proof_rules.proofs.{Taking.FalseOrIs, Tested.rup_by}
+use Rattle.proof_rules.{specs.{Held.{Entry, CheckerValue, clause_at}, Testing.is_rup, Accepting.{IsFalse, Conflicts, leading}}, proofs.{Taking.FalseOrIs, Tested.rup_by}}
 
 -- the first two literals of the clause differ
 abbrev pub has_two : List LitValue → Bool

@@ -1,11 +1,9 @@
 -- Propagation by tests is that of the verdicts without their faults, so it is as the relations say.
-use Rattle.std.{proofs.lemmas.Bool.{false≢true, or_cases}, specs.List.list_all}
-use Rattle.std.proofs.Common.{arith, ◌≡◌, ℕ, ◌+◌, Bool, true, false, List, [], ◌∷◌, Option, Some, None, Result, Ok, Err, refl, sym, ap, ◌∙◌, inl, inr, ⊎_elim, if◌then◌else◌, option_map}
+use Rattle.std.proofs.{lemmas.Bool.{false≢true, or_cases}, Common.{arith, ◌≡◌, ℕ, ◌+◌, Bool, true, false, List, [], ◌∷◌, Option, Some, None, Result, Ok, Err, refl, sym, ap, ◌∙◌, inl, inr, ⊎_elim, if◌then◌else◌, option_map}}
+use Rattle.std.specs.List.{list_all}
 use Rattle.cnf_formula.specs.Literals.{LitValue, negation, same_literal}
-use Rattle.proof_rules.specs.{declared.verdict.LineCode.{LineCode, TheVariants.HintNotUnit}, Held.{Entry, clause_at, open_literals, has_none}}
-use Rattle.proof_rules.specs.{Judging.{given_by, given_by_clause, after_conflict, led_to}, Testing.{propagated, is_conflict, closes, closes_one}}
-use Rattle.proof_rules.specs.Accepting.{Group, without_negated, is_made_true, LeadsTo, Conflicts, Closes, Answers}
-use Rattle.proof_rules.proofs.Hints.{Led, conflicts, leads_to_conflict, leads, led_by}
+use Rattle.proof_rules.specs.{declared.verdict.LineCode.{LineCode, TheVariants.HintNotUnit}, Held.{Entry, clause_at, open_literals, has_none}, Judging.{given_by, given_by_clause, after_conflict, led_to}}
+use Rattle.proof_rules.{specs.{Testing.{propagated, is_conflict, closes, closes_one}, Accepting.{Group, without_negated, is_made_true, LeadsTo, Conflicts, Closes, Answers}}, proofs.Hints.{Led, conflicts, leads_to_conflict, leads, led_by}}
 
 abbrev Propagated : Type 0
 Propagated = Option (Option (List LitValue))

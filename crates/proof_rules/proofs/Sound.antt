@@ -1,9 +1,8 @@
 -- Where some assignment satisfies a formula, some assignment satisfies all that is held after any accepted lines, and no line refutes it.
-use Rattle.std.{proofs.Common.{arith, ◌≡◌, ℕ, Bool, true, false, cond, List, [], ◌∷◌, Some, refl, sym, ap, ◌∙◌, subst, ⊎_elim, ◌==◌, All}, specs.List.list_any}
-use Rattle.std.proofs.lemmas.{List.{Elements.{All-nil, All-cons, All-head, All-tail}, Folds.list_any_none}, Bool.{false≢true, or_cases, cases_Bool, eqb-true}}
+use Rattle.std.proofs.{Common.{arith, ◌≡◌, ℕ, Bool, true, false, cond, List, [], ◌∷◌, Some, refl, sym, ap, ◌∙◌, subst, ⊎_elim, ◌==◌, All}, lemmas.List.{Elements.{All-nil, All-cons, All-head, All-tail}, Folds.list_any_none}}
+use Rattle.std.{proofs.lemmas.Bool.{false≢true, or_cases, cases_Bool, eqb-true}, specs.List.list_any}
 use Rattle.cnf_formula.{specs.Literals.{LitValue, same_sign, same_literal, has_literal, negation}, proofs.Clauses.same_is}
-use Rattle.proof_rules.{specs.Held.{Entry, clause_at}, proofs.Taking.FalseOrIs}
-use Rattle.proof_rules.specs.Accepting.{IsFalse, Takes, LeadsTo, Conflicts, Group, has_negated, without_negated, is_made_true, Closes, Answers, is_answered}
+use Rattle.proof_rules.{specs.{Held.{Entry, clause_at}, Accepting.{IsFalse, Takes, LeadsTo, Conflicts, Group, has_negated, without_negated, is_made_true, Closes, Answers, is_answered}}, proofs.Taking.FalseOrIs}
 
 pub none_any : {X : Type 0} (p : X → Bool) (xs : List X) → list_any p xs ≡ false → All (λ x. p x ≡ false) xs
 none_any p [] h = All-nil (λ x. p x ≡ false)

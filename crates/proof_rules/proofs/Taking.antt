@@ -1,6 +1,5 @@
 -- What a clause gives, by its literals that are not false.
-use Rattle.std.{proofs.lemmas.{Bool.{false≢true, and_from, eq-eqb}, List.Elements.{All-nil, All-head, All-tail}}, specs.List.list_all}
-use Rattle.std.proofs.Common.{arith, ◌≡◌, Bool, true, false, List, [], ◌∷◌, Some, Ok, refl, eqb, ◌⊎◌, All}
+use Rattle.std.{proofs.{lemmas.{Bool.{false≢true, and_from, eq-eqb}, List.Elements.{All-nil, All-head, All-tail}}, Common.{arith, ◌≡◌, Bool, true, false, List, [], ◌∷◌, Some, Ok, refl, eqb, ◌⊎◌, All}}, specs.List.list_all}
 use Rattle.cnf_formula.specs.Literals.{LitValue, same_sign, same_literal, has_literal}
 use Rattle.proof_rules.specs.{Held.open_literals, Judging.given_by, Accepting.IsFalse}
 

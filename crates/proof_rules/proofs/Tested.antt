@@ -1,14 +1,13 @@
 -- The tests of a line say what the relations say, and so whether its verdict is that it is accepted.
-use Rattle.std.{proofs.lemmas.{Bool.Decides.nat_tests, List.Elements.{All-nil, All-head, All-tail}}, specs.List.list_any}
+use Rattle.std.proofs.lemmas.{Bool.Decides.nat_tests, List.Elements.{All-nil, All-head, All-tail}}
 use Rattle.std.proofs.Common.{◌≡◌, ℕ, Bool, true, false, List, [], ◌∷◌, map, Option, Some, None, refl, sym, ap, ⊎_elim, arith, ◌↔◌, ◌==◌, ◌≢◌, ◌&&◌, ◌||◌, not, if◌then◌else◌, All, AllPairs, nat_le, nat_lt}
-use Rattle.std.proofs.lemmas.{List.Sums.{AllPass-from_list_all, list_all-from_AllPass}, Bool.{false≢true, or_cases, or_left, or_right, or_from, ne_eqb}}
+use Rattle.std.{proofs.lemmas.{List.Sums.{AllPass-from_list_all, list_all-from_AllPass}, Bool.{false≢true, or_cases, or_left, or_right, or_from, ne_eqb}}, specs.List.list_any}
 use Rattle.list_laws.proofs.Pairs.{no_pairs, pairs_head, pairs_tail}
 use Rattle.cnf_formula.specs.{Literals.LitValue, Lines.ProofLineValue, declared.line.LratLine.{LratLine, TheVariants.{Addition, Deletion}}}
-use Rattle.proof_rules.specs.Testing.{propagated, closes_one, has_number_twice, is_new, is_rup, are_resolved, is_rat, are_held, accepts}
-use Rattle.proof_rules.{proofs.Propagated.{conflict_by, by_conflict, leads_by, by_leading, answers_by, by_answering}, specs.Held.{CheckerValue, has_none}}
-use Rattle.proof_rules.specs.declared.verdict.{LineVerdict.TheVariants.{Accepted as AcceptedVerdict, Refused}, LineCode.TheVariants.UnknownDeletion}
-use Rattle.proof_rules.specs.{Accepting.{Group, leading, groups_of, is_answered, IsNew, Implied, Redundant}, declared.verdict.LineVerdict.LineVerdict}
-use Rattle.proof_rules.{proofs.Verdicts.{implied_by, by_implied, redundant_by, by_redundant}, specs.Judging.{verdict_of, verdict_on, is_accepted, is_implied}}
+use Rattle.proof_rules.specs.{Testing.{propagated, closes_one, has_number_twice, is_new, is_rup, are_resolved, is_rat, are_held, accepts}, Held.{CheckerValue, has_none}}
+use Rattle.proof_rules.specs.{declared.verdict.{LineVerdict.TheVariants.{Accepted as AcceptedVerdict, Refused}, LineCode.TheVariants.UnknownDeletion}, Accepting.{Group, leading, groups_of, is_answered, IsNew, Implied, Redundant}}
+use Rattle.proof_rules.specs.{declared.verdict.LineVerdict.LineVerdict, Judging.{verdict_of, verdict_on, is_accepted, is_implied}}
+use Rattle.proof_rules.proofs.{Propagated.{conflict_by, by_conflict, leads_by, by_leading, answers_by, by_answering}, Verdicts.{implied_by, by_implied, redundant_by, by_redundant}}
 
 -- ---- no two with one number
 

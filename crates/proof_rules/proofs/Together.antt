@@ -1,11 +1,8 @@
 -- Where some assignment satisfies a formula, some assignment of its variables satisfies all that is held after any accepted lines.
-use Rattle.std.{proofs.lemmas.{Grind.common_steps, Bool.and_from}, specs.List.{list_any, enumerate_from, range_with_len}}
-use Rattle.std.proofs.Common.{◌≡◌, ℕ, ◌+◌, ◌-◌, Bool, true, false, List, [], ◌∷◌, map, refl, ◌∙◌, arith, ◌==◌, not, All}
-use Rattle.std.proofs.lemmas.List.{FromFn.{get_or-map-range_with_len, length-map-range_with_len}, Elements.{All-nil, All-cons, All-head, All-tail, All-filter}}
-use Rattle.cnf_formula.specs.{Literals.{LitValue, value_of, clause_holds, all_hold}, Formulas.{FormulaValue, IsFormula, IsClause, IsAbout, Satisfiable}}
-use Rattle.cnf_formula.specs.declared.line.LratLine.{LratLine, TheVariants.{Addition, Deletion}}
-use Rattle.proof_rules.{specs.{Held.{Entry, CheckerValue, start_of}, Testing.accepts}, proofs.Sound.{holds, Holds}}
-use Rattle.proof_rules.{specs.Refuting.{with_accepted, all_accepted, after_lines, formula_after}, proofs.Calm.{all_calm, starts_calm}}
+use Rattle.std.proofs.{lemmas.{Grind.common_steps, Bool.and_from, List.FromFn.{get_or-map-range_with_len, length-map-range_with_len}}, Common.{◌≡◌, ℕ, ◌+◌, ◌-◌, Bool, true, false, List, [], ◌∷◌, map, refl, ◌∙◌, arith, ◌==◌, not, All}}
+use Rattle.std.{proofs.lemmas.List.Elements.{All-nil, All-cons, All-head, All-tail, All-filter}, specs.List.{list_any, enumerate_from, range_with_len}}
+use Rattle.cnf_formula.specs.{Literals.{LitValue, value_of, clause_holds, all_hold}, Formulas.{FormulaValue, IsFormula, IsClause, IsAbout, Satisfiable}, declared.line.LratLine.{LratLine, TheVariants.{Addition, Deletion}}}
+use Rattle.proof_rules.{specs.{Held.{Entry, CheckerValue, start_of}, Testing.accepts, Refuting.{with_accepted, all_accepted, after_lines, formula_after}}, proofs.{Sound.{holds, Holds}, Calm.{all_calm, starts_calm}}}
 
 -- ---- what is held is about the formula's variables
 

@@ -1,13 +1,10 @@
 -- An addition has the verdict that it is implied, or that it is accepted without being so, exactly by the definitions.
 use Rattle.std.proofs.lemmas.{Grind.common_steps, List.{Folds.list_any_none, Sums.list_all-from_AllPass}}
-use Rattle.std.proofs.Common.{◌≡◌, ℕ, Bool, true, false, List, [], ◌∷◌, Some, None, Ok, Err, refl, arith, ◌↔◌, ◌==◌, ◌≢◌, if◌then◌else◌, All, AllPairs, nat_le, nat_lt}
-use Rattle.std.proofs.lemmas.Bool.{le-ltb, lt-leb, ne_eqb, or_from}
+use Rattle.std.proofs.{Common.{◌≡◌, ℕ, Bool, true, false, List, [], ◌∷◌, Some, None, Ok, Err, refl, arith, ◌↔◌, ◌==◌, ◌≢◌, if◌then◌else◌, All, AllPairs, nat_le, nat_lt}, lemmas.Bool.{le-ltb, lt-leb, ne_eqb, or_from}}
 use Rattle.list_laws.proofs.Pairs.{pairs_head, pairs_tail}
 use Rattle.cnf_formula.specs.{Literals.LitValue, Formulas.IsAbout, Lines.ProofLineValue}
-use Rattle.proof_rules.specs.declared.verdict.{LineCode.TheVariants.{IdNotGreater, VariableRange, VariableTwice}, LineVerdict.LineVerdict}
-use Rattle.proof_rules.specs.{declared.verdict.LineVerdict.TheVariants.{Accepted as AcceptedVerdict, Refused}, Held.{Entry, CheckerValue}}
-use Rattle.proof_rules.specs.Judging.{is_foreign, led_to, implied_verdict, pivotless_verdict, redundant_verdict, has_variable_twice, led_verdict, verdict_of}
-use Rattle.proof_rules.specs.Accepting.{Group, leading, groups_of, is_answered, IsNew, Implied, Redundant}
+use Rattle.proof_rules.specs.{declared.verdict.{LineCode.TheVariants.{IdNotGreater, VariableRange, VariableTwice}, LineVerdict.{LineVerdict, TheVariants.{Accepted as AcceptedVerdict, Refused}}}, Held.{Entry, CheckerValue}}
+use Rattle.proof_rules.specs.{Judging.{is_foreign, led_to, implied_verdict, pivotless_verdict, redundant_verdict, has_variable_twice, led_verdict, verdict_of}, Accepting.{Group, leading, groups_of, is_answered, IsNew, Implied, Redundant}}
 use Rattle.proof_rules.proofs.{Hints.{Led, conflicts, leads_to_conflict, leads, led_by}, Groups.{AreRight, right, no_fault}, Sound.none_any}
 
 -- ---- tests of lists

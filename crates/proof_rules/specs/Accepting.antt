@@ -1,7 +1,6 @@
 -- When an addition is accepted (LRAT: Cruz-Filipe et al. 2017; which groups may be left out is this project's own). Implied is RUP
 -- (reverse unit propagation) along the hints, redundant is RAT (resolution asymmetric tautology).
-use Rattle.std.specs.Prelude.{◌≡◌, ◌≢◌, ◌==◌, ◌||◌, ℕ, ◌+◌, ◌<◌, Bool, true, false, not, ◌⊎◌, List, [], ◌∷◌, length, filter, Some, ℤ, pos, negsuc, All, AllPairs}
-use Rattle.std.specs.List.{list_any}
+use Rattle.std.specs.{Prelude.{◌≡◌, ◌≢◌, ◌==◌, ◌||◌, ℕ, ◌+◌, ◌<◌, Bool, true, false, not, ◌⊎◌, List, [], ◌∷◌, length, filter, Some, ℤ, pos, negsuc, All, AllPairs}, List.list_any}
 use Rattle.cnf_formula.specs.{Literals.{LitValue, has_literal, same_literal, negation}, Formulas.IsClause, Lines.ProofLineValue}
 use Rattle.proof_rules.specs.Held.{Entry, CheckerValue, clause_at}
 

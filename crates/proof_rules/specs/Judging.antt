@@ -1,12 +1,9 @@
 -- The checks of a line in their order, and the verdict: the first that fails (LRAT: Cruz-Filipe et al. 2017; the order and the codes are this project's own).
-use Rattle.std.specs.Prelude.{◌==◌, ◌||◌, ℕ, ◌+◌, Bool, true, false, not, List, [], ◌∷◌, length, Option, None, Some, Result, Ok, Err, max, nat_le, nat_lt, if◌then◌else◌}
-use Rattle.std.specs.List.{list_any, list_all}
-use Rattle.cnf_formula.specs.{Literals.{LitValue, negation, same_literal}, Lines.{ProofLineValue, DeletionValue}, declared.line.LratLine.LratLine}
-use Rattle.cnf_formula.specs.declared.line.LratLine.TheVariants.{Addition, Deletion}
+use Rattle.std.specs.{Prelude.{◌==◌, ◌||◌, ℕ, ◌+◌, Bool, true, false, not, List, [], ◌∷◌, length, Option, None, Some, Result, Ok, Err, max, nat_le, nat_lt, if◌then◌else◌}, List.{list_any, list_all}}
+use Rattle.cnf_formula.specs.{Literals.{LitValue, negation, same_literal}, Lines.{ProofLineValue, DeletionValue}, declared.line.LratLine.{LratLine, TheVariants.{Addition, Deletion}}}
 use Rattle.proof_rules.specs.declared.verdict.{LineCode.LineCode, LineVerdict.{LineVerdict, TheVariants.{Accepted, Refused}}}
 use Rattle.proof_rules.specs.declared.verdict.LineCode.TheVariants.{IdNotGreater, UnknownHint, HintNotUnit, NoConflict, HintsAfterConflict, UnknownDeletion, VariableRange, VariableTwice, NoPivot, PivotNotNegated, GroupTwice, GroupMissing}
-use Rattle.proof_rules.specs.{Held.{Entry, CheckerValue, clause_at, open_literals}, Testing.{has_number_twice, are_held}}
-use Rattle.proof_rules.specs.Accepting.{Group, leading, groups_of, has_negated, without_negated, is_made_true, is_answered}
+use Rattle.proof_rules.specs.{Held.{Entry, CheckerValue, clause_at, open_literals}, Testing.{has_number_twice, are_held}, Accepting.{Group, leading, groups_of, has_negated, without_negated, is_made_true, is_answered}}
 
 -- ---- hints of one sign
 

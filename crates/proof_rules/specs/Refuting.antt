@@ -1,8 +1,7 @@
 -- Lines in their turn, refutations, and spent logs (LRAT: Cruz-Filipe et al. 2017; logs are this project's own): a spent log is the
 -- RUP additions of so many learned clauses, none subsumed by a clause held before.
 use Rattle.std.specs.{Prelude.{◌≡◌, ◌==◌, ◌&&◌, ◌||◌, ℕ, Bool, true, false, not, List, [], ◌∷◌, ◌++◌, length, map, filter}, List.list_any}
-use Rattle.cnf_formula.specs.{Literals.{LitValue, is_superset}, Formulas.FormulaValue, Lines.{ProofLineValue, DeletionValue}, declared.line.LratLine.LratLine}
-use Rattle.cnf_formula.specs.declared.line.LratLine.TheVariants.{Addition, Deletion}
+use Rattle.cnf_formula.specs.{Literals.{LitValue, is_superset}, Formulas.FormulaValue, Lines.{ProofLineValue, DeletionValue}, declared.line.LratLine.{LratLine, TheVariants.{Addition, Deletion}}}
 use Rattle.proof_rules.specs.{Held.{CheckerValue, start_of, has_none}, Testing.{is_rup, accepts}}
 
 -- after an accepted addition its clause is held under its number

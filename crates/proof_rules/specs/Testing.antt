@@ -1,11 +1,8 @@
 -- Whether a line is accepted, as tests that give no reason (LRAT: Cruz-Filipe et al. 2017; which groups may be left out is this
 -- project's own). RUP is reverse unit propagation along the hints, RAT the same on resolvents with the first literal.
-use Rattle.std.specs.Prelude.{◌==◌, ◌&&◌, ◌||◌, ℕ, Bool, true, false, not, List, [], ◌∷◌, length, map, max, Option, None, Some, option_map, nat_le, nat_lt, if◌then◌else◌}
-use Rattle.std.specs.List.{list_any, list_all}
-use Rattle.cnf_formula.specs.{Literals.{LitValue, negation, same_literal}, Lines.ProofLineValue, declared.line.LratLine.LratLine}
-use Rattle.cnf_formula.specs.declared.line.LratLine.TheVariants.{Addition, Deletion}
-use Rattle.proof_rules.specs.Held.{Entry, CheckerValue, clause_at, open_literals, has_none}
-use Rattle.proof_rules.specs.Accepting.{Group, leading, groups_of, has_negated, without_negated, is_made_true, is_answered}
+use Rattle.std.specs.{Prelude.{◌==◌, ◌&&◌, ◌||◌, ℕ, Bool, true, false, not, List, [], ◌∷◌, length, map, max, Option, None, Some, option_map, nat_le, nat_lt, if◌then◌else◌}, List.{list_any, list_all}}
+use Rattle.cnf_formula.specs.{Literals.{LitValue, negation, same_literal}, Lines.ProofLineValue, declared.line.LratLine.{LratLine, TheVariants.{Addition, Deletion}}}
+use Rattle.proof_rules.specs.{Held.{Entry, CheckerValue, clause_at, open_literals, has_none}, Accepting.{Group, leading, groups_of, has_negated, without_negated, is_made_true, is_answered}}
 
 -- ---- unit propagation
 

@@ -1,10 +1,8 @@
 //! Laws of refutations (soundness of LRAT).
 
 ghost use Rattle.std.specs.Prelude.{◌≡◌, ◌↔◌, ℕ, true, false, List, [], map};
-ghost use Rattle.cnf_formula.specs.{Formulas.{FormulaValue, IsFormula, Satisfiable}, declared.line.LratLine.{LratLine, TheVariants.Addition}};
-ghost use Rattle.cnf_formula.specs.Lines.{ProofLineValue};
-ghost use Rattle.proof_rules.specs.{Held.{CheckerValue, start_of}, Testing.{is_rup, is_rat, accepts}, Learning.{AllImplied, AllFresh}};
-ghost use Rattle.proof_rules.specs.{Judging.{verdict_of, verdict_on, is_accepted, is_implied}, Accepting.{Implied, Redundant}};
+ghost use Rattle.cnf_formula.specs.{Formulas.{FormulaValue, IsFormula, Satisfiable}, declared.line.LratLine.{LratLine, TheVariants.Addition}, Lines.ProofLineValue};
+ghost use Rattle.proof_rules.specs.{Held.{CheckerValue, start_of}, Testing.{is_rup, is_rat, accepts}, Learning.{AllImplied, AllFresh}, Judging.{verdict_of, verdict_on, is_accepted, is_implied}, Accepting.{Implied, Redundant}};
 ghost use Rattle.proof_rules.specs.Refuting.{with_accepted, all_accepted, are_learned, formula_after, IsChecker, Refutes, Exhausted};
 
 use crate::verdict::LineVerdict;

@@ -2,8 +2,7 @@
 
 ghost use Rattle.std.specs.Prelude.{◌≡◌, true, false, [], ◌∷◌, pos, negsuc};
 ghost use Rattle.cnf_formula.specs.{Literals.{yes, no}, declared.line.LratLine.LratLine};
-ghost use Rattle.proof_rules.specs.{Held.start_of, Judging.{verdict_of, deletion_verdict}};
-ghost use Rattle.proof_rules.specs.Refuting.{with_line, without_clauses, is_fresh, Refutes, SpentLog, Exhausted};
+ghost use Rattle.proof_rules.specs.{Held.start_of, Judging.{verdict_of, deletion_verdict}, Refuting.{with_line, without_clauses, is_fresh, Refutes, SpentLog, Exhausted}};
 ghost use Rattle.proof_rules.specs.Examples.{two_clauses, three_clauses, four_clauses, unit_of_four, end_of_four, eight_clauses, line_of_3, chain};
 
 use crate::verdict::{LineCode, LineVerdict};

@@ -1,8 +1,7 @@
 -- Runs of a schedule's machine that have come to their ends.
 use Rattle.std.proofs.{Common.{◌≡◌, ℕ, ◌≤◌, true, List, [], length, drop, Some, sym, ap, ◌∙◌}, lemmas.{List.drop_all, Option.same_Some}}
 use Rattle.schedule.specs.{Bags.Bags, Sends.{IsInRange, IsSchedule, ScheduleValue}}
-use Rattle.node_programs.specs.{Machines.{State, is_finished}, Runs.{chosen, machine_run}, Ended.{GoesToTheEnd, machine_of}, Stops.stop_of}
-use Rattle.node_programs.proofs.{Everywhere.{every_order, every_seed}, Finished.count_by_finished, Stops.whole_runs}
+use Rattle.node_programs.{specs.{Machines.{State, is_finished}, Runs.{chosen, machine_run}, Ended.{GoesToTheEnd, machine_of}, Stops.stop_of}, proofs.{Everywhere.{every_order, every_seed}, Finished.count_by_finished, Stops.whole_runs}}
 use Rattle.replay.specs.Ends.{IsLast}
 
 -- a finished run of a schedule's machine has come to its last

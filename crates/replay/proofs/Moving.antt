@@ -1,8 +1,6 @@
 -- Runs of a machine, one event more.
-use Rattle.std.proofs.Common.{◌≡◌, ℕ, zero, suc, ◌+◌, ◌-◌, ◌<◌, true, List, [], ◌∷◌, ◌++◌, Option, Some, None, refl, sym, ap, ◌∙◌, append_assoc, arith, is_some}
-use Rattle.std.{specs.Prelude.unwrap_or, proofs.lemmas.List.append-nil}
-use Rattle.node_programs.specs.{Machines.{State, event, is_enabled}, Runs.{enabled, next_draw, picked, ranked, machine_run}}
-use Rattle.node_programs.proofs.Events.{each_run, run_by}
+use Rattle.std.{proofs.{Common.{◌≡◌, ℕ, zero, suc, ◌+◌, ◌-◌, ◌<◌, true, List, [], ◌∷◌, ◌++◌, Option, Some, None, refl, sym, ap, ◌∙◌, append_assoc, arith, is_some}, lemmas.List.append-nil}, specs.Prelude.unwrap_or}
+use Rattle.node_programs.{specs.{Machines.{State, event, is_enabled}, Runs.{enabled, next_draw, picked, ranked, machine_run}}, proofs.Events.{each_run, run_by}}
 
 -- ---- what an event gives
 

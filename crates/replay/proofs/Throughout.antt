@@ -1,8 +1,6 @@
 -- Orders of a machine in which every step copies.
 use Rattle.std.{proofs.Common.{◌≡◌, ℕ, ◌<◌, List, [], ◌∷◌, map, length, refl, ap, ◌∙◌}, specs.List.AllByRecursion}
-use Rattle.schedule.specs.{Sends.{ScheduleValue, IsInRange}, Placed.{PlacementValue, all_pairs}, Running.after, Bags.{held_at_2, of_placement}}
-use Rattle.schedule.specs.JoinedRuns.{joined_after}
-use Rattle.schedule.proofs.Placing.{IsBelow, all_below}
+use Rattle.schedule.{specs.{Sends.{ScheduleValue, IsInRange}, Placed.{PlacementValue, all_pairs}, Running.after, Bags.{held_at_2, of_placement}, JoinedRuns.joined_after}, proofs.Placing.{IsBelow, all_below}}
 use Rattle.bag_runs.{specs.Stores.stored, proofs.CopiedBags.bags_of_held}
 use Rattle.node_programs.proofs.Everywhere.{every_order}
 use Rattle.replay.specs.Throughout.{EveryCopyingOrderEndsAsHeld}

@@ -1,18 +1,16 @@
 -- The lines that are appended for a point are those that it shows.
-use Rattle.std.proofs.Common.{◌≡◌, ℕ, zero, suc, ◌+◌, ◌<◌, ◌≤◌, Bool, true, false, if◌then◌else◌, List, [], ◌∷◌, ◌++◌, map, length, Option, Some, refl, sym, ap, ◌∙◌, arith, codes, decimal}
-use Rattle.std.{specs.List.range_with_len, proofs.lemmas.{Grind.{common_steps, flat_map-append}, Simd.map-map}}
-use Rattle.schedule.specs.{Sends.ScheduleValue, Placed.PlacementValue, Links.TopologyValue, Bags.{Bags, contributions, held_at_2}, Running.run_of}
-use Rattle.schedule.specs.{JoinedRuns.joined_run, Judging.verdict_of, declared.verdict.Verdict.Verdict}
+use Rattle.std.proofs.{Common.{◌≡◌, ℕ, zero, suc, ◌+◌, ◌<◌, ◌≤◌, Bool, true, false, if◌then◌else◌, List, [], ◌∷◌, ◌++◌, map, length, Option, Some, refl, sym, ap, ◌∙◌, arith, codes, decimal}, lemmas.Grind.{common_steps, flat_map-append}}
+use Rattle.std.{proofs.lemmas.Simd.map-map, specs.List.range_with_len}
+use Rattle.schedule.specs.{Sends.ScheduleValue, Placed.PlacementValue, Links.TopologyValue, Bags.{Bags, contributions, held_at_2}, Running.run_of, JoinedRuns.joined_run, Judging.verdict_of, declared.verdict.Verdict.Verdict}
 use Rattle.inversion.specs.{declared.verdict.SumVerdict.SumVerdict, Saying.{says_solves, says_sums}}
-use Rattle.collective_spec.specs.{declared.{spec.Spec.Spec}, Collectives.spec_demand}
+use Rattle.collective_spec.specs.{declared.spec.Spec.Spec, Collectives.spec_demand}
 use Rattle.bag_runs.{specs.Stores.{StoreValue, stored}, proofs.Tables.table_cell}
 use Rattle.node_programs.specs.Runs.{chosen, operations}
 use Rattle.text_lines.specs.Text.{line, text_of}
 use Rattle.topology_text.specs.Spelling.{name_at}
 use Rattle.replay_text.specs.{Replay.{held_lines, numbered_steps, verdict_words}, Points.body_lines}
 use Rattle.replay_text.specs.Showing.{Shown, adding_of, bag_lines, chunks_at, copied_verdict, holds_as_shown, instance_at, machine_of, is_copied, nodes_of, order_lines, shown_steps, shown_text, shown_verdict, steps_that_add, sum_words, summed_verdict}
-use Rattle.replay_text.specs.inner.Appended.{last_of, move_lines, bag_word, digits_of, keeper_words, store_lines, bag_words, counts_word}
-use Rattle.replay_text.proofs.Lines.{appends, run_text}
+use Rattle.replay_text.{specs.inner.Appended.{last_of, move_lines, bag_word, digits_of, keeper_words, store_lines, bag_words, counts_word}, proofs.Lines.{appends, run_text}}
 
 -- ---- what a point shows, by whether it copies
 

@@ -1,12 +1,11 @@
 -- The store after the last step of a point that adds up, and the verdict on it.
-use Rattle.std.{proofs.Common.{◌≡◌, ℕ, ◌+◌, ◌<◌, true, false, List, length, map, get_or, if◌then◌else◌, sym, ap, ◌∙◌, arith}, specs.List.range_with_len}
-use Rattle.std.proofs.lemmas.{List.FromFn.{length-map-range_with_len, get_or-map-range_with_len}, Simd.map-map}
+use Rattle.std.proofs.{Common.{◌≡◌, ℕ, ◌+◌, ◌<◌, true, false, List, length, map, get_or, if◌then◌else◌, sym, ap, ◌∙◌, arith}, lemmas.{List.FromFn.{length-map-range_with_len, get_or-map-range_with_len}, Simd.map-map}}
+use Rattle.std.specs.List.{range_with_len}
 use Rattle.schedule.specs.{Links.TopologyValue, Sends.ScheduleValue, Placed.PlacementValue, Bags.{Bags, contributions, of_placement}, JoinedRuns.{joined_after, joined_run}}
 use Rattle.bag_runs.{specs.Stores.{StoreValue, stored}, proofs.JoinedSteps.adding_throughout}
 use Rattle.inversion.specs.Judging.{last_bags, sum_verdict_of}
 use Rattle.allreduce_join.{specs.Judging.{joined_bags, joined_verdict_of}, proofs.OneVerdict.{judged_adding, judged_everywhere}}
-use Rattle.replay_text.specs.{Showing.{Shown, adding_of, chunks_at, instance_at, is_copied, is_joined, nodes_of, summed_verdict}, inner.Appended.start_bags, Points.{IsShowable, last_store_of}}
-use Rattle.replay_text.proofs.Bodies.{adding_is, demand_at}
+use Rattle.replay_text.{specs.{Showing.{Shown, adding_of, chunks_at, instance_at, is_copied, is_joined, nodes_of, summed_verdict}, inner.Appended.start_bags, Points.{IsShowable, last_store_of}}, proofs.Bodies.{adding_is, demand_at}}
 
 -- ---- in the run of the point
 

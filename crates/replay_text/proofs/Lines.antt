@@ -1,7 +1,6 @@
 -- The lines of a replay, one after the other.
 use Rattle.std.proofs.Common.{◌≡◌, ℕ, zero, suc, ◌+◌, ◌-◌, ◌∷◌, [], ◌++◌, List, Bool, if◌then◌else◌, decimal, map, filter, length, Option, None, Some, slice_get, slice_index, refl, ◌∙◌, ap, arith, append_assoc, sub-one}
-use Rattle.std.{specs.{Prelude.unwrap_or, Option.option_map, List.{flat_map, range_with_len, last_or}}, proofs.lemmas.{Grind.{common_steps, flat_map-append}, List.{map-append}}}
-use Rattle.std.proofs.lemmas.List.{Elements.filter-append, Folds.flat_map-map}
+use Rattle.std.{proofs.lemmas.{Grind.{common_steps, flat_map-append}, List.{map-append, Elements.filter-append, Folds.flat_map-map}}, specs.{Prelude.unwrap_or, Option.option_map, List.{flat_map, range_with_len, last_or}}}
 use Rattle.bag_runs.specs.Kept.{counted}
 use Rattle.text_lines.{specs.Text.{line, text_of}, proofs.Words.join_fields}
 use Rattle.replay_text.specs.{Replay.numbered_steps, inner.Appended.{digits_of, last_of, step_head}}

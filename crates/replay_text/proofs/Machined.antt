@@ -1,9 +1,7 @@
 -- The machine of a point, and the events of its runs.
-use Rattle.std.{proofs.Common.{◌≡◌, ℕ, get_or, List, [], ◌∷◌, length, map, sym, ap, ◌∙◌, subst, All, Result, IfOk}, specs.List.AllByRecursion}
-use Rattle.std.proofs.lemmas.List.Elements.{All-from_recursion}
+use Rattle.std.{proofs.{Common.{◌≡◌, ℕ, get_or, List, [], ◌∷◌, length, map, sym, ap, ◌∙◌, subst, All, Result, IfOk}, lemmas.List.Elements.All-from_recursion}, specs.List.AllByRecursion}
 use Rattle.schedule.specs.Sends.{IsInRange, ScheduleValue}
-use Rattle.node_programs.specs.{declared.op.Op.Op, Below.AreBelow, Machines.{State, started}, Programs.programs_of, Runs.{chosen, operations}}
-use Rattle.node_programs.proofs.Everywhere.{every_seed}
+use Rattle.node_programs.{specs.{declared.op.Op.Op, Below.AreBelow, Machines.{State, started}, Programs.programs_of, Runs.{chosen, operations}}, proofs.Everywhere.every_seed}
 use Rattle.bag_runs.specs.Stores.{StoreValue, stored}
 use Rattle.replay_text.specs.{Points.IsShowable, Showing.{Shown, adding_of, chunks_at, machine_of, nodes_of}, inner.Appended.start_bags}
 

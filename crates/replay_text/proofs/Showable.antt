@@ -1,12 +1,10 @@
 -- What a report keeps of each of its points, and the instance that its part asks for.
 use Rattle.std.proofs.Common.{◌≡◌, ◌≢◌, arith, ◌≤◌, ◌<◌, ◌⊎◌, inl, inr, ⊎_elim, ℕ, zero, suc, true, false, List, [], ◌∷◌, map, length, All, Option, None, Some, IfSome, IsTrue, refl, sym, subst, ap, nat_le, Contains}
-use Rattle.std.{specs.List.{AllByRecursion, flat_map}, proofs.lemmas.Bool.{and_parts, leb-true, not-true}}
-use Rattle.std.proofs.lemmas.List.Elements.{All-contains, Contains-get_or, All-from_recursion, recursion_from_All}
-use Rattle.std.proofs.lemmas.Option.{get_or_from_slice_get, slice_get_within}
+use Rattle.std.proofs.lemmas.{Bool.{and_parts, leb-true, not-true}, List.Elements.{All-contains, Contains-get_or, All-from_recursion, recursion_from_All}, Option.{get_or_from_slice_get, slice_get_within}}
+use Rattle.std.specs.List.{AllByRecursion, flat_map}
 use Rattle.outer_ports.specs.declared.part.Part.{Part}
 use Rattle.outer_ports.specs.declared.part.Part.TheVariants as part
-use Rattle.collective_spec.specs.{declared.{kind.Kind.Kind, collective.Collective.Collective, spec.Spec.Spec}, Kinds.{allows, is_custom}}
-use Rattle.collective_spec.specs.{Layouts.laid_out, Patterns.{PatternValue, IsPattern}}
+use Rattle.collective_spec.specs.{declared.{kind.Kind.Kind, collective.Collective.Collective, spec.Spec.Spec}, Kinds.{allows, is_custom}, Layouts.laid_out, Patterns.{PatternValue, IsPattern}}
 use Rattle.collective_spec.specs.Collectives.{IsSpec, layout_after, chunks_in, chunks_of, fits_kind, spec_demand, spec_of}
 use Rattle.collective_spec.specs.declared.kind.Kind.TheVariants as kind
 use Rattle.collective_spec.specs.declared.layout.Layout.TheVariants as layout

@@ -7,8 +7,7 @@ use Rattle.collective_spec.specs.{declared.layout.Layout.TheVariants.All, Kinds.
 use Rattle.candidate_order.specs.Frontiers.{PointValue}
 use Rattle.node_programs.specs.{Programs.programs_of, Printing.programs_text}
 use Rattle.report_form.specs.Reports.{ReportValue}
-use Rattle.replay_text.specs.Replay.{numbered_steps}
-use Rattle.replay_text.specs.Showing.{Shown, adding_of, chunks_at, holds_as_shown, is_joined, nodes_of, order_lines, shown_in, shown_steps, shown_verdict, steps_that_add}
+use Rattle.replay_text.specs.{Replay.numbered_steps, Showing.{Shown, adding_of, chunks_at, holds_as_shown, is_joined, nodes_of, order_lines, shown_in, shown_steps, shown_verdict, steps_that_add}}
 
 -- the schedule is valid, its sends are of the collective's chunks and nodes, the collective has the
 -- chunk count of the point; where it joins no others all its steps add by its mark, and where it

@@ -1,10 +1,8 @@
 -- What the replay of a point shows: the lines of the nodes after each step, the verdict, and a run of its programs in an order. This project's own text.
-use Rattle.std.specs.Prelude.{◌&&◌, ℕ, ◌+◌, not, Bool, true, false, if◌then◌else◌, List, [], ◌∷◌, ◌++◌, length, map, Option, None, Some, unwrap_or, codes, decimal}
-use Rattle.std.specs.List.{range_with_len, last_or}
+use Rattle.std.specs.{Prelude.{◌&&◌, ℕ, ◌+◌, not, Bool, true, false, if◌then◌else◌, List, [], ◌∷◌, ◌++◌, length, map, Option, None, Some, unwrap_or, codes, decimal}, List.{range_with_len, last_or}}
 use Rattle.outer_ports.specs.declared.part.Part.{Part}
 use Rattle.outer_ports.specs.declared.part.Part.TheVariants as part
-use Rattle.schedule.specs.{Bags.{Bags, contributions, of_placement, held_at_2}, Running.run_of, JoinedRuns.joined_run, declared.verdict.Verdict.Verdict}
-use Rattle.schedule.specs.Judging.{verdict_of}
+use Rattle.schedule.specs.{Bags.{Bags, contributions, of_placement, held_at_2}, Running.run_of, JoinedRuns.joined_run, declared.verdict.Verdict.Verdict, Judging.verdict_of}
 use Rattle.inversion.specs.{declared.verdict.SumVerdict.{SumVerdict, TheVariants.{Sums, Missing, Twice, Overfull, NoLink, Clash}}, Saying.{says_solves, says_sums}}
 use Rattle.allreduce_join.specs.Judging.{summed_verdict_of}
 use Rattle.collective_spec.specs.{declared.instance.Instance.Instance, Collectives.{spec_instance, spec_demand, chunks_in, adds_up}}

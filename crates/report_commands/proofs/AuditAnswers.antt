@@ -4,9 +4,8 @@ use Rattle.text_lines.specs.{Check.◌>>=◌, Text.line}
 use Rattle.report_form.specs.Reports.{ReportValue, IsReport}
 use Rattle.frontier_audit.specs.{declared.verdict.AuditVerdict.AuditVerdict, Auditing.audit_of, Beside.IsVerdictOver, Rights.IsRight}
 use Rattle.frontier_audit.specs.declared.verdict.AuditVerdict.TheVariants as audit
-use Rattle.run_rules.specs.{declared.status.Status.{Status, TheVariants.Done}, Tasks.{Audit, searchable}, Steps.{audit_in, verdict_status, verdict_text, whole_question}}
-use Rattle.run_rules.specs.{Audits.{IsAudited, audited, not_denied}, Answers.{FilesValue, IsAnswer, Says, Stay}}
-use Rattle.run_rules.proofs.{Denied.{accepted_so, audited_by, said_as}, OverFiles.{HasVerdict, has_verdict}}
+use Rattle.run_rules.specs.{declared.status.Status.{Status, TheVariants.Done}, Tasks.{Audit, searchable}, Steps.{audit_in, verdict_status, verdict_text, whole_question}, Audits.{IsAudited, audited, not_denied}}
+use Rattle.run_rules.{specs.Answers.{FilesValue, IsAnswer, Says, Stay}, proofs.{Denied.{accepted_so, audited_by, said_as}, OverFiles.{HasVerdict, has_verdict}}}
 
 -- ---- a report whose search can be done is audited
 

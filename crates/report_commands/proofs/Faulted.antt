@@ -1,10 +1,8 @@
 -- Which check refuses a fault of a report's links, and when none does.
-use Rattle.std.proofs.Common.{◌≡◌, ◌≢◌, ◌<◌, ◌≤◌, ℕ, zero, suc, List, [], ◌∷◌, length, arith, Bool, false, nat_lt, not, Option, None, Some, Result, Ok, Err, refl, ap, ◌∙◌, slice_get}
-use Rattle.std.proofs.lemmas.Bool.{le-ltb, lt-ltb}
+use Rattle.std.proofs.{Common.{◌≡◌, ◌≢◌, ◌<◌, ◌≤◌, ℕ, zero, suc, List, [], ◌∷◌, length, arith, Bool, false, nat_lt, not, Option, None, Some, Result, Ok, Err, refl, ap, ◌∙◌, slice_get}, lemmas.Bool.{le-ltb, lt-ltb}}
 use Rattle.text_lines.specs.Check.{◌>>=◌, need, refuse}
 use Rattle.schedule.specs.Links.{GroupValue}
-use Rattle.collective_spec.specs.declared.kind.Kind.{Kind}
-use Rattle.collective_spec.specs.declared.kind.Kind.TheVariants.{Allreduce}
+use Rattle.collective_spec.specs.declared.kind.Kind.{Kind, TheVariants.Allreduce}
 use Rattle.command_words.specs.declared.fault.WordCode.TheVariants.{NotNarrower, ReportNotTaken, UnknownGroup}
 use Rattle.report_form.specs.Reports.{ReportValue}
 use Rattle.run_rules.specs.{Refusals.{Refusal, refused_word}, Tasks.{fault_in, is_allreduce}}

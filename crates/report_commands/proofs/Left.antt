@@ -7,8 +7,7 @@ use Rattle.candidate_order.specs.{declared.candidate.Candidate.Candidate, Fronti
 use Rattle.round_encoding.specs.Candidates.{size_limit}
 use Rattle.candidate_formula.specs.{Formulas.{formula_for, searched_links}, Questions.copying_question, Sizes.size_of, Searched.searched_question}
 use Rattle.engine_search.proofs.Searched.{same_formulas, searched_itself, searched_turned}
-use Rattle.link_faults.specs.{Narrowed.narrowed, Carrying.{IsOldRefuted, narrowed_question}}
-use Rattle.link_faults.proofs.{Reversed.{as_many_groups, group_turned, narrowed_turned, old_turned}, Sizes.no_larger}
+use Rattle.link_faults.{specs.{Narrowed.narrowed, Carrying.{IsOldRefuted, narrowed_question}}, proofs.{Reversed.{as_many_groups, group_turned, narrowed_turned, old_turned}, Sizes.no_larger}}
 use Rattle.degraded_links.specs.Keeping.{question_over}
 
 -- ---- the links

@@ -1,6 +1,5 @@
 -- What a right report refutes was refuted before a fault.
-use Rattle.std.{proofs.Common.{◌≡◌, ◌≢◌, List, [], ◌∷◌, map, refl, sym, subst, ◌∙◌, arith, All}, specs.List.{AllByRecursion, flat_map}}
-use Rattle.std.proofs.lemmas.List.{Concat.flat_map-cons, Elements.{All-append, All-cons, All-nil, recursion_from_All}}
+use Rattle.std.{proofs.{Common.{◌≡◌, ◌≢◌, List, [], ◌∷◌, map, refl, sym, subst, ◌∙◌, arith, All}, lemmas.List.{Concat.flat_map-cons, Elements.{All-append, All-cons, All-nil, recursion_from_All}}}, specs.List.{AllByRecursion, flat_map}}
 use Rattle.outer_ports.specs.declared.part.Part.{Part, TheVariants.Whole}
 use Rattle.collective_spec.specs.declared.kind.Kind.{Kind}
 use Rattle.collective_spec.specs.declared.kind.Kind.TheVariants as kind

@@ -6,8 +6,7 @@ use Rattle.candidate_order.specs.Frontiers.{PointValue}
 use Rattle.report_form.specs.{Reports.ReportValue, Numbered.point_at}
 use Rattle.replay_text.specs.{Showing.{shown_in, shown_text}, Points.programs_of_point}
 use Rattle.command_words.specs.declared.{command.PointWord.PointWord, fault.WordCode.TheVariants.UnknownPoint}
-use Rattle.run_rules.specs.{declared.status.Status.{Status, TheVariants.{BadWords, Done}}, Answers.{IsAnswerAlone, Says}, Tasks.{Task, Write}}
-use Rattle.run_rules.specs.{Refusals.{Refusal, refused_word, refusal_line}, Steps.{programs_in, replay_in}}
+use Rattle.run_rules.specs.{declared.status.Status.{Status, TheVariants.{BadWords, Done}}, Answers.{IsAnswerAlone, Says}, Tasks.{Task, Write}, Refusals.{Refusal, refused_word, refusal_line}, Steps.{programs_in, replay_in}}
 use Rattle.run_rules.proofs.Answered.{refused_answers, written_as}
 
 -- the line that refuses the word of a point

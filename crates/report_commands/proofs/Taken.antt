@@ -2,9 +2,7 @@
 use Rattle.std.proofs.Common.{◌≡◌, ℕ, Result, Ok, Err, refl, sym, ap, ◌∙◌}
 use Rattle.text_lines.specs.Check.{◌>>=◌}
 use Rattle.report_form.specs.Reports.{ReportValue}
-use Rattle.run_rules.specs.{declared.answer.Answer.Answer, Refusals.Refusal, Read.IsRefused, Tasks.{Task, Degrade, fault_in, searchable}}
-use Rattle.run_rules.specs.Steps.{degrade_in, whole_question}
-use Rattle.run_rules.proofs.Answered.{refused_behind}
+use Rattle.run_rules.{specs.{declared.answer.Answer.Answer, Refusals.Refusal, Read.IsRefused, Tasks.{Task, Degrade, fault_in, searchable}, Steps.{degrade_in, whole_question}}, proofs.Answered.refused_behind}
 use Rattle.report_commands.specs.inner.Faults.{refused_first}
 
 -- one check behind another, and then what is due: in either grouping

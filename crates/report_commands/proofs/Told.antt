@@ -3,8 +3,7 @@ use Rattle.std.proofs.Common.{◌≡◌, ◌≢◌, ℕ, IsTrue, List, Ok, Err, 
 use Rattle.report_form.specs.Reports.{ReportValue, IsReport}
 use Rattle.frontier_audit.specs.{declared.verdict.AuditVerdict.AuditVerdict, Auditing.audit_of, Beside.IsVerdictOver, Rights.IsRight}
 use Rattle.frontier_audit.specs.declared.verdict.AuditVerdict.TheVariants as audit
-use Rattle.run_rules.specs.{declared.status.Status.Status, Audits.{IsAudited, audited, not_denied}, Steps.{verdict_status, verdict_text}, Degraded.IsNewSearch}
-use Rattle.run_rules.specs.Said.{FilesValue, Says, Stay}
+use Rattle.run_rules.specs.{declared.status.Status.Status, Audits.{IsAudited, audited, not_denied}, Steps.{verdict_status, verdict_text}, Degraded.IsNewSearch, Said.{FilesValue, Says, Stay}}
 use Rattle.run_rules.proofs.{OverFiles.{HasVerdict, has_verdict}, Denied.{audited_by, said_as}}
 use Rattle.report_commands.specs.inner.Judged.{IsJudged}
 

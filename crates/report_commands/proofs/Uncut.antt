@@ -1,6 +1,5 @@
 -- What a search over the links that a fault left has cut away.
-use Rattle.std.{proofs.Common.{◌≡◌, true, false, List, All, Contains, sym, ap, subst, ◌∙◌}, specs.{List.Sorted.IsPermutation, Option.is_some}}
-use Rattle.std.proofs.lemmas.{Bool.false_from_ne_true, List.Elements.{All-contains, All-weaker}}
+use Rattle.std.{proofs.{Common.{◌≡◌, true, false, List, All, Contains, sym, ap, subst, ◌∙◌}, lemmas.{Bool.false_from_ne_true, List.Elements.{All-contains, All-weaker}}}, specs.{List.Sorted.IsPermutation, Option.is_some}}
 use Rattle.list_laws.proofs.{Each.all_contained, Members.Contains-map}
 use Rattle.candidate_order.specs.{declared.candidate.Candidate.Candidate, Frontiers.{QuestionValue, FrontierValue, UnknownValue}}
 use Rattle.engine_rules.specs.{declared.settled.Settled.{Settled, TheVariants.{Refuted, Unknown}}, Outcomes.RecordValue}

@@ -6,8 +6,7 @@ ghost use Rattle.report_form.specs.Reports.{IsReport, question_of};
 ghost use Rattle.round_encoding.specs.Candidates.{size_limit};
 ghost use Rattle.candidate_formula.specs.Sizes.{size_of};
 ghost use Rattle.frontier_audit.specs.Rights.{IsRight};
-ghost use Rattle.run_rules.specs.{Answers.{IsAnswer, LeavesOff}, Commands.IsRefusal, Audits.IsAudited, Degraded.IsNewSearch, Read.IsSearchableAs};
-ghost use Rattle.run_rules.specs.{Refusals.Refusal, Said.FilesValue, Tasks.{degrade_asked, limit}, Steps.degrade_in};
+ghost use Rattle.run_rules.specs.{Answers.{IsAnswer, LeavesOff}, Commands.IsRefusal, Audits.IsAudited, Degraded.IsNewSearch, Read.IsSearchableAs, Refusals.Refusal, Said.FilesValue, Tasks.{degrade_asked, limit}, Steps.degrade_in};
 ghost use Rattle.report_commands.specs.inner.{Faults.{CanFail, refused_first}, Judged.IsJudged};
 
 use crate::OutOfMemory;

@@ -1,12 +1,10 @@
 -- At most one line of a text is the first at which it can no longer be a report's.
-use Rattle.std.proofs.Common.{◌≡◌, ℕ, ◌-◌, ◌<◌, ◌≤◌, inl, inr, List, [], ◌∷◌, ◌++◌, refl, sym, ap, ◌∙◌, arith, take, Ok, codes, Option, None, Some}
-use Rattle.std.{specs.Fmt.digits, proofs.lemmas.{Bool.cases_order, List.take-take}}
+use Rattle.std.{proofs.{Common.{◌≡◌, ℕ, ◌-◌, ◌<◌, ◌≤◌, inl, inr, List, [], ◌∷◌, ◌++◌, refl, sym, ap, ◌∙◌, arith, take, Ok, codes, Option, None, Some}, lemmas.{Bool.cases_order, List.take-take}}, specs.Fmt.digits}
 use Rattle.text_lines.specs.Text.{rows_of, text_of}
 use Rattle.collective_spec.specs.Patterns.{PatternValue}
 use Rattle.topology_text.specs.{Spelling.{version_word, lines_of}, Reading.pattern_at}
-use Rattle.report_form.specs.{Reports.{ReportValue, IsReport}, Spelling.{synth_words, body_lines, report_text}, Reading.{report_of, body_of, frontier_at}}
-use Rattle.report_form.specs.{Points.{frontier_point_at, joined_point_at, schedule_at}, First.{Agrees, FailsFirstAt}, Rows.broadcast_report}
-use Rattle.report_form.proofs.ReportTaken.{report_take}
+use Rattle.report_form.specs.{Reports.{ReportValue, IsReport}, Spelling.{synth_words, body_lines, report_text}, Reading.{report_of, body_of, frontier_at}, Points.{frontier_point_at, joined_point_at, schedule_at}}
+use Rattle.report_form.{specs.{First.{Agrees, FailsFirstAt}, Rows.broadcast_report}, proofs.ReportTaken.report_take}
 
 -- lines that agree up to a later line agree up to an earlier one
 earlier : (m n : ℕ) (text : List ℕ) (r : ReportValue) → m ≤ n → Agrees n text r → Agrees m text r

@@ -7,12 +7,9 @@ use Rattle.collective_spec.specs.declared.kind.Kind.{Kind}
 use Rattle.collective_spec.specs.declared.kind.Kind.TheVariants as kind
 use Rattle.candidate_order.specs.{declared.candidate.Candidate.Candidate, Ranges.IsLimits, Frontiers.{QuestionValue, PointValue, UnknownValue, FrontierValue}}
 use Rattle.topology_text.specs.Value.{NamedTopologyValue}
-use Rattle.report_form.specs.{Reports.{WordsValue, IsFrontier, IsJoinedPoint, question_of}, Points.{frontier_point_at, joined_point_at}}
-use Rattle.report_form.specs.Spelling.{point_lines, refuted_words, unknown_words, part_words, frontier_lines, joined_lines}
+use Rattle.report_form.specs.{Reports.{WordsValue, IsFrontier, IsJoinedPoint, question_of}, Points.{frontier_point_at, joined_point_at}, Spelling.{point_lines, refuted_words, unknown_words, part_words, frontier_lines, joined_lines}}
 use Rattle.report_form.specs.Reading.{refuted_line, unknown_line, part_bytes, frontier_at, frontiers_from, joined_at}
-use Rattle.report_form.proofs.LineTaken.{fixed_gives}
-use Rattle.report_form.proofs.ListsTaken.{AreListed, none_listed, refuted_takes, AreUnknown, none_unknown, unknown_takes}
-use Rattle.report_form.proofs.{PointsTaken.{ArePoints, no_points, point_steps}, JoinedTaken.{joined_steps, no_joined}}
+use Rattle.report_form.proofs.{LineTaken.fixed_gives, ListsTaken.{AreListed, none_listed, refuted_takes, AreUnknown, none_unknown, unknown_takes}, PointsTaken.{ArePoints, no_points, point_steps}, JoinedTaken.{joined_steps, no_joined}}
 
 pub part_tokens : (x : Part) → words_of (part_bytes x) ≡ part_words x
 part_tokens part.Joined = refl

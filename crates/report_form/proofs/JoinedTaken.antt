@@ -1,12 +1,10 @@
 -- What the checks of a joined point took stands there, and is valid.
-use Rattle.std.proofs.Common.{◌≡◌, ℕ, ◌+◌, ◌*◌, ◌<◌, ◌≤◌, ◌&&◌, List, [], length, sym, subst, arith, codes, nat_le, nat_lt, All, Decides}
-use Rattle.std.proofs.lemmas.{Bool.Decides.{Decides-and, Decides-ltb, Decides-like}, List.Elements.{All-push, All-nil}}
+use Rattle.std.proofs.{Common.{◌≡◌, ℕ, ◌+◌, ◌*◌, ◌<◌, ◌≤◌, ◌&&◌, List, [], length, sym, subst, arith, codes, nat_le, nat_lt, All, Decides}, lemmas.{Bool.Decides.{Decides-and, Decides-ltb, Decides-like}, List.Elements.{All-push, All-nil}}}
 use Rattle.text_lines.proofs.Gives.{Steps}
 use Rattle.candidate_order.specs.{declared.candidate.Candidate.Candidate, Ranges.IsLimits, Frontiers.QuestionValue}
 use Rattle.candidate_order.specs.declared.mark.Mark.TheVariants as mark
 use Rattle.report_form.specs.{Reports.IsJoinedPoint, Spelling.point_lines, Points.{HeadValue, may_join, joined_head_from, joined_head_line, joined_point_at}}
-use Rattle.report_form.proofs.{Tested.{leb_decides, six}, LineTaken.ruled_gives, Shapes.joined_head_take}
-use Rattle.report_form.proofs.PointsTaken.{some_rounds, headed, Headed, headed_steps}
+use Rattle.report_form.proofs.{Tested.{leb_decides, six}, LineTaken.ruled_gives, Shapes.joined_head_take, PointsTaken.{some_rounds, headed, Headed, headed_steps}}
 
 abbrev pub joined_of : Candidate × ℕ → HeadValue
 joined_of x = record { candidate = x.0; mark = mark.Joined x.1 }

@@ -1,15 +1,11 @@
 -- What the checks of refuted and unknown candidates took stands there, and is valid.
-use Rattle.std.proofs.Common.{◌≡◌, true, ◌&&◌, List, [], ◌∷◌, ◌++◌, map, None, sym, ap, ◌∙◌, subst, arith, ◌==◌, decimal, codes, All, AllPairs}
-use Rattle.std.{specs.List.last_or, proofs.lemmas.{Bool.{and_parts, eqb-true}, List.{map-append, Elements.{All-push, All-nil}}}}
+use Rattle.std.proofs.{Common.{◌≡◌, true, ◌&&◌, List, [], ◌∷◌, ◌++◌, map, None, sym, ap, ◌∙◌, subst, arith, ◌==◌, decimal, codes, All, AllPairs}, lemmas.{Bool.{and_parts, eqb-true}, List.{map-append, Elements.{All-push, All-nil}}}}
+use Rattle.std.specs.List.{last_or}
 use Rattle.list_laws.proofs.Pairs.{no_pairs}
 use Rattle.text_lines.proofs.Gives.{Takes}
-use Rattle.candidate_order.specs.{declared.candidate.Candidate.Candidate, Ranges.IsLimits, Costs.Before}
-use Rattle.candidate_order.specs.Frontiers.{QuestionValue, UnknownValue, IsWithin, IsUnknown}
-use Rattle.candidate_order.proofs.Orders.{has_chunk}
-use Rattle.report_form.specs.{Spelling.{refuted_words, unknown_words}, Tests.{is_within, comes_next}}
-use Rattle.report_form.specs.Reading.{refuted_from, refuted_line, unknown_from, unknown_line}
-use Rattle.report_form.proofs.{Tested.decides_within, Ascending.push_candidate, Tokens.any_number_is, LineTaken.ruled_takes}
-use Rattle.report_form.proofs.Shapes.{refuted_take, unknown_take}
+use Rattle.candidate_order.{specs.{declared.candidate.Candidate.Candidate, Ranges.IsLimits, Costs.Before, Frontiers.{QuestionValue, UnknownValue, IsWithin, IsUnknown}}, proofs.Orders.has_chunk}
+use Rattle.report_form.specs.{Spelling.{refuted_words, unknown_words}, Tests.{is_within, comes_next}, Reading.{refuted_from, refuted_line, unknown_from, unknown_line}}
+use Rattle.report_form.proofs.{Tested.decides_within, Ascending.push_candidate, Tokens.any_number_is, LineTaken.ruled_takes, Shapes.{refuted_take, unknown_take}}
 
 module _ (q : QuestionValue) where
   -- candidates within the limits, in the order of the search

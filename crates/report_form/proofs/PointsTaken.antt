@@ -1,19 +1,15 @@
 -- What the checks of a point took stands there, and is valid.
 use Rattle.std.proofs.Common.{◌≡◌, ℕ, zero, suc, ◌+◌, ◌-◌, ◌*◌, min, ◌≤◌, Bool, true, ◌&&◌, ltb, List, [], ◌∷◌, ◌++◌, map, length, sum, Option, None, Result, Ok, ◌⊎◌, inl, inr, refl, sym, ap, ◌∙◌, subst, arith, ◌==◌, codes, nat_le, nat_lt, All, AllPairs}
-use Rattle.std.{specs.List.{last_or, list_all}, proofs.lemmas.{Bool.{and_parts, and_from, eqb-true, leb-true, lt-ltb}, List.Sums.sum_by-cons}}
-use Rattle.std.proofs.lemmas.List.Elements.{All-push, All-nil, All-cons}
+use Rattle.std.{proofs.lemmas.{Bool.{and_parts, and_from, eqb-true, leb-true, lt-ltb}, List.{Sums.sum_by-cons, Elements.{All-push, All-nil, All-cons}}}, specs.List.{last_or, list_all}}
 use Rattle.list_laws.proofs.Pairs.{no_pairs}
-use Rattle.text_lines.specs.{Text.{Row, Place}, Check.{◌>>=◌, line_part}}
-use Rattle.text_lines.proofs.Gives.{Gives, gives_done, gives_like, gives_then, Between, then_on, cut_here, cut_on, Took, Stops, Steps, Takes, lines_give}
+use Rattle.text_lines.{specs.{Text.{Row, Place}, Check.{◌>>=◌, line_part}}, proofs.Gives.{Gives, gives_done, gives_like, gives_then, Between, then_on, cut_here, cut_on, Took, Stops, Steps, Takes, lines_give}}
 use Rattle.schedule.specs.{declared.hop.Hop.Hop, Sends.{IsRound, IsStep, is_hop_below}}
 use Rattle.collective_spec.specs.Collectives.{chunks_in}
 use Rattle.candidate_order.specs.{declared.{candidate.Candidate.Candidate, mark.Mark.Mark}, Ranges.IsLimits, Frontiers.{QuestionValue, PointValue, IsWithin}}
 use Rattle.candidate_order.specs.declared.mark.Mark.TheVariants as mark
-use Rattle.report_form.specs.{declared.fault.ReportCode.ReportCode, Reports.{HasSchedule, IsPrintedPoint}, Tests.{is_within, comes_next}}
-use Rattle.report_form.specs.Spelling.{rounds_words, send_words, point_words, point_lines}
+use Rattle.report_form.specs.{declared.fault.ReportCode.ReportCode, Reports.{HasSchedule, IsPrintedPoint}, Tests.{is_within, comes_next}, Spelling.{rounds_words, send_words, point_words, point_lines}}
 use Rattle.report_form.specs.Points.{HeadValue, head_from, head_line, rounds_from, are_rounds, rounds_line, send_from, follows, may_be_sent, send_line, schedule_at, frontier_point_at}
-use Rattle.report_form.proofs.{Tested.decides_within, Ascending.{HopBefore, push_hop}, LineTaken.{ruled_gives, ruled_takes}}
-use Rattle.report_form.proofs.{Shapes.{head_take, rounds_take, send_take}, ListsTaken.{AreListed, none_listed, push_part}}
+use Rattle.report_form.proofs.{Tested.decides_within, Ascending.{HopBefore, push_hop}, LineTaken.{ruled_gives, ruled_takes}, Shapes.{head_take, rounds_take, send_take}, ListsTaken.{AreListed, none_listed, push_part}}
 
 each_of : {X : Type 0} (p : X → Bool) (P : X → Type 0) (h : (x : X) → p x ≡ true → P x) (xs : List X) → list_all p xs ≡ true → All P xs
 each_of p P h [] e = All-nil P

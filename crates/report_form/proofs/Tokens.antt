@@ -1,11 +1,9 @@
 -- What the checks of tokens took stands there.
-use Rattle.std.proofs.Common.{◌≡◌, ℕ, ◌<◌, ◌^◌, true, ◌&&◌, not, List, [], ◌∷◌, ◌++◌, length, drop, Option, Some, Result, Ok, refl, sym, ap, ◌∙◌, subst, arith, ◌==◌, bytes_eq, decimal, nat_eq, nat_le}
-use Rattle.std.{specs.{List.list_all, Str.Parse.{AllDigits, digits_value}}, proofs.lemmas.{Bool.Decides.Decides-eqb, Option.same_Some}}
-use Rattle.std.proofs.lemmas.{Bool.{and_parts, not-true, not-false, leb-true, eqb-false}, Slice.Eq.{bytes_eq-Decides, starts_is}}
+use Rattle.std.proofs.{Common.{◌≡◌, ℕ, ◌<◌, ◌^◌, true, ◌&&◌, not, List, [], ◌∷◌, ◌++◌, length, drop, Option, Some, Result, Ok, refl, sym, ap, ◌∙◌, subst, arith, ◌==◌, bytes_eq, decimal, nat_eq, nat_le}, lemmas.Bool.Decides.Decides-eqb}
+use Rattle.std.{proofs.lemmas.{Option.same_Some, Bool.{and_parts, not-true, not-false, leb-true, eqb-false}, Slice.Eq.{bytes_eq-Decides, starts_is}}, specs.{List.list_all, Str.Parse.{AllDigits, digits_value}}}
 use Rattle.text_lines.{specs.Check.◌>>=◌, proofs.{Checks.{bind_ok, done, need_ok, refuse_ok, ok_is, if_some}, Numbers.{up_to_found, spells, digit_is}}}
 use Rattle.topology_text.{specs.{Spelling.name_at, Reading.node_of}, proofs.Links.node_is}
-use Rattle.report_form.specs.declared.fault.ReportCode.{ReportCode}
-use Rattle.report_form.specs.Fields.{is_digit, is_number, any_number, next_word, behind_key, fixed_word, next_number, next_node, no_more}
+use Rattle.report_form.specs.{declared.fault.ReportCode.ReportCode, Fields.{is_digit, is_number, any_number, next_word, behind_key, fixed_word, next_number, next_node, no_more}}
 
 -- one step that passed, and then the rest
 pub pass_then : {A B C : Type 0} (N : A → Type 0) (M : B → Type 0) (r : Result A C) (f : A → Result B C) → ((x : A) → r ≡ Ok x → N x) → ((x : A) → N x → (y : B) → f x ≡ Ok y → M y) → (y : B) → (r >>= f) ≡ Ok y → M y

@@ -1,7 +1,6 @@
 -- What a reader's answer says.
 use Rattle.std.specs.Prelude.{◌≡◌, ℕ, Result, Ok, Err, ◌⊎◌}
-use Rattle.report_form.specs.declared.fault.{ReportCode.{ReportCode, TheVariants.{BadLine, Truncated, Limits, OutOfMemory}}, ReportFault.ReportFault}
-use Rattle.report_form.specs.Reports.{ReportValue}
+use Rattle.report_form.specs.{declared.fault.{ReportCode.{ReportCode, TheVariants.{BadLine, Truncated, Limits, OutOfMemory}}, ReportFault.ReportFault}, Reports.ReportValue}
 
 -- the numbers of the codes, by which refusals name them
 abbrev pub report_number : ReportCode → ℕ

@@ -1,6 +1,5 @@
 -- The checks of a line's tokens for their shape, from left to right. This project's own text.
-use Rattle.std.specs.Prelude.{◌==◌, ◌&&◌, not, ℕ, Bool, false, if◌then◌else◌, List, [], ◌∷◌, length, drop, nat_le, bytes_eq, Option, None, Some, Result, Ok, Err}
-use Rattle.std.specs.{List.list_all, Str.Parse.digits_value}
+use Rattle.std.specs.{Prelude.{◌==◌, ◌&&◌, not, ℕ, Bool, false, if◌then◌else◌, List, [], ◌∷◌, length, drop, nat_le, bytes_eq, Option, None, Some, Result, Ok, Err}, List.list_all, Str.Parse.digits_value}
 use Rattle.text_lines.specs.{Check.{◌>>=◌, refuse, need}, Number.number_up_to, Repeated.begins}
 use Rattle.topology_text.specs.Reading.{node_of}
 use Rattle.report_form.specs.declared.fault.ReportCode.{ReportCode, TheVariants.BadLine}

@@ -1,13 +1,11 @@
 -- The checks of a point: its candidate and mark, its rounds, and its sends. This project's own text.
-use Rattle.std.specs.Prelude.{◌==◌, ◌&&◌, ◌+◌, ◌*◌, not, ℕ, Bool, true, if◌then◌else◌, List, [], ◌∷◌, length, map, sum, codes, nat_lt, nat_le, bytes_eq, Option, None, Some, Result, Ok}
-use Rattle.std.specs.List.{list_all, last_or}
+use Rattle.std.specs.{Prelude.{◌==◌, ◌&&◌, ◌+◌, ◌*◌, not, ℕ, Bool, true, if◌then◌else◌, List, [], ◌∷◌, length, map, sum, codes, nat_lt, nat_le, bytes_eq, Option, None, Some, Result, Ok}, List.{list_all, last_or}}
 use Rattle.text_lines.specs.{Text.{Row, Place}, Check.{◌>>=◌, refuse, need, line_part}, Repeated.lines_at}
 use Rattle.schedule.specs.{declared.hop.Hop.Hop, Sends.hop_before}
 use Rattle.collective_spec.specs.Collectives.{chunks_in}
 use Rattle.candidate_order.specs.{declared.{candidate.Candidate.Candidate, mark.Mark.Mark}, Frontiers.{QuestionValue, PointValue}}
 use Rattle.candidate_order.specs.declared.mark.Mark.TheVariants as mark
-use Rattle.report_form.specs.{declared.fault.ReportCode.ReportCode, Fields.{small_number, next_word, next_number, next_node, fixed_word, no_more}}
-use Rattle.report_form.specs.{Lines.tokens_line, Tests.{is_within, comes_next}}
+use Rattle.report_form.specs.{declared.fault.ReportCode.ReportCode, Fields.{small_number, next_word, next_number, next_node, fixed_word, no_more}, Lines.tokens_line, Tests.{is_within, comes_next}}
 use Rattle.report_form.specs.declared.fault.ReportCode.TheVariants as code
 
 -- the steps, the rounds and the chunk count, and the tokens behind them

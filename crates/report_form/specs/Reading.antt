@@ -1,16 +1,13 @@
 -- The checks of a report's text, line by line: each line's shape first, and then the rules that a line of the right shape has to keep. This project's own text.
-use Rattle.std.specs.Prelude.{◌==◌, ◌&&◌, not, ℕ, Bool, true, false, if◌then◌else◌, List, [], ◌∷◌, map, codes, Option, None, Some, bytes_eq, Result, Ok}
-use Rattle.std.specs.List.{last_or}
+use Rattle.std.specs.{Prelude.{◌==◌, ◌&&◌, not, ℕ, Bool, true, false, if◌then◌else◌, List, [], ◌∷◌, map, codes, Option, None, Some, bytes_eq, Result, Ok}, List.last_or}
 use Rattle.text_lines.specs.{Text.{Row, Place, start, rows_of}, Check.{◌>>=◌, refuse, need, at_line, line_part}, Repeated.{lines_at, parts_at}}
 use Rattle.outer_ports.specs.declared.part.Part.{Part, TheVariants.{Whole, Reduce, Gather, Joined}}
 use Rattle.collective_spec.specs.declared.kind.Kind.{Kind}
 use Rattle.collective_spec.specs.declared.kind.Kind.TheVariants as kind
 use Rattle.candidate_order.specs.{declared.candidate.Candidate.Candidate, Frontiers.{QuestionValue, PointValue, UnknownValue, FrontierValue}}
 use Rattle.topology_text.specs.{Value.{NamedTopologyValue, named_with}, Reading.{header_line, nodes_line, groups_at, pattern_at}}
-use Rattle.report_form.specs.{declared.fault.ReportCode.ReportCode, Reports.{WordsValue, ReportValue, parts_of, question_of}, Tests.{is_within, comes_next}}
-use Rattle.report_form.specs.{Fields.{any_number, next_word, fixed_word, no_more}, SynthLine.{asked_line, root_of, words_from}}
-use Rattle.report_form.specs.Lines.{whole_line, tokens_line, fixed_line, no_line, among}
-use Rattle.report_form.specs.Points.{candidate_from, frontier_point_at, joined_point_at}
+use Rattle.report_form.specs.{declared.fault.ReportCode.ReportCode, Reports.{WordsValue, ReportValue, parts_of, question_of}, Tests.{is_within, comes_next}, Fields.{any_number, next_word, fixed_word, no_more}}
+use Rattle.report_form.specs.{SynthLine.{asked_line, root_of, words_from}, Lines.{whole_line, tokens_line, fixed_line, no_line, among}, Points.{candidate_from, frontier_point_at, joined_point_at}}
 use Rattle.report_form.specs.declared.fault.ReportCode.TheVariants as code
 
 -- ---- lines of candidates without a schedule

@@ -5,8 +5,7 @@ use Rattle.outer_ports.specs.declared.part.Part.TheVariants as part
 use Rattle.schedule.specs.declared.hop.Hop.{Hop}
 use Rattle.collective_spec.specs.{declared.kind.Kind.Kind, Kinds.{word_of, takes_root}}
 use Rattle.collective_spec.specs.declared.kind.Kind.TheVariants as kind
-use Rattle.candidate_order.specs.declared.{candidate.Candidate.Candidate, mark.Mark.Mark, pruning.Pruning.Pruning}
-use Rattle.candidate_order.specs.Frontiers.{PointValue, UnknownValue, FrontierValue}
+use Rattle.candidate_order.specs.{declared.{candidate.Candidate.Candidate, mark.Mark.Mark, pruning.Pruning.Pruning}, Frontiers.{PointValue, UnknownValue, FrontierValue}}
 use Rattle.candidate_order.specs.declared.mark.Mark.TheVariants as mark
 use Rattle.text_lines.specs.Text.{text_of}
 use Rattle.topology_text.specs.Spelling.{lines_of, name_at, version_word}

@@ -4,8 +4,7 @@ use Rattle.text_lines.specs.{Text.Row, Check.{◌>>=◌, refuse, need}}
 use Rattle.collective_spec.specs.{declared.kind.Kind.Kind, Kinds.{word_of, takes_root, is_custom, standard_kinds, every_kind}}
 use Rattle.candidate_order.specs.{declared.pruning.Pruning.Pruning, Ranges.{LimitsValue, unpruned}}
 use Rattle.topology_text.specs.{Names.name_of, Reading.node_of}
-use Rattle.report_form.specs.{declared.fault.ReportCode.ReportCode, Reports.WordsValue, Fields.{any_number, next_keyed, fixed_word, no_more}, Lines.tokens_line}
-use Rattle.report_form.specs.Tests.{are_limits}
+use Rattle.report_form.specs.{declared.fault.ReportCode.ReportCode, Reports.WordsValue, Fields.{any_number, next_keyed, fixed_word, no_more}, Lines.tokens_line, Tests.are_limits}
 use Rattle.report_form.specs.declared.fault.ReportCode.TheVariants as code
 
 -- what was asked, with the root by its name, where the collective takes one

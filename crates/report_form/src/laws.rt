@@ -2,8 +2,7 @@
 
 ghost use Rattle.std.specs.Prelude.{◌≡◌, ℕ, List, [], Ok, Decides};
 ghost use Rattle.candidate_order.specs.{Ranges.{LimitsValue, IsLimits}, Costs.{NoWorse, Better, Before}, Frontiers.{QuestionValue, IsWithin}};
-ghost use Rattle.report_form.specs.{Reports.{ReportValue, IsReport}, Spelling.report_text, Reading.report_of, First.FailsFirstAt};
-ghost use Rattle.report_form.specs.Tests.{are_limits, is_within, is_no_worse, is_better, is_before};
+ghost use Rattle.report_form.specs.{Reports.{ReportValue, IsReport}, Spelling.report_text, Reading.report_of, First.FailsFirstAt, Tests.{are_limits, is_within, is_no_worse, is_better, is_before}};
 
 use candidate_order::Candidate;
 

@@ -2,8 +2,7 @@
 #![tactic(auto, unfolding(crate::specs::Rows::digits, crate::specs::Reading::report_of, topology_text::specs::Reading::pattern_at, crate::specs::Reading::body_of, crate::specs::Reading::frontier_at, crate::specs::Points::frontier_point_at, crate::specs::Points::joined_point_at, crate::specs::Points::schedule_at, crate::specs::Spelling::report_text))]
 
 ghost use Rattle.std.specs.Prelude.{◌≡◌, ◌++◌, [], Ok, Err, codes};
-ghost use Rattle.report_form.specs.{Spelling.report_text, Reading.report_of};
-ghost use Rattle.report_form.specs.Rows.{broadcast_report, allreduce_report, relay_report, pruned_report, moved_report, broadcast_head, relay_text, moved_head, moved_body};
+ghost use Rattle.report_form.specs.{Spelling.report_text, Reading.report_of, Rows.{broadcast_report, allreduce_report, relay_report, pruned_report, moved_report, broadcast_head, relay_text, moved_head, moved_body}};
 
 use crate::fault::ReportCode;
 

@@ -1,6 +1,6 @@
 -- The line that the checks of a report blame has the code of its form.
 use Rattle.std.proofs.Common.{◌≡◌, ℕ, zero, suc, ◌+◌, Bool, true, false, ◌||◌, not, List, [], ◌∷◌, ◌++◌, map, length, drop, Option, None, Some, Result, Ok, Err, refl, sym, ap, ◌∙◌, arith, ◌==◌, codes, bytes_eq, if◌then◌else◌, slice_index_or, is_ok}
-use Rattle.std.{specs.List.list_any, proofs.lemmas.{Bool.{and_parts, not-false, or_parts}, Option.same_Some, Slice.Eq.bytes_eq-Decides}}
+use Rattle.std.{proofs.lemmas.{Bool.{and_parts, not-false, or_parts}, Option.same_Some, Slice.Eq.bytes_eq-Decides}, specs.List.list_any}
 use Rattle.text_lines.specs.{Text.{Row, Place, words_of, rows_of, start, behind}, Check.{refuse, first, line_part}, Repeated.{begins, parts_at}}
 use Rattle.text_lines.proofs.{Checks.refuse_ok, Gives.{Gives, gives_done, gives_fail, gives_like}, Rows.{row_of, words_again}, Words.tokens_from}
 use Rattle.schedule.specs.Links.{GroupValue}
@@ -8,13 +8,10 @@ use Rattle.outer_ports.specs.declared.part.Part.{Part, TheVariants.Joined}
 use Rattle.collective_spec.specs.{declared.kind.Kind.Kind, Patterns.PatternValue}
 use Rattle.collective_spec.specs.declared.kind.Kind.TheVariants as kind
 use Rattle.candidate_order.specs.Frontiers.{PointValue, FrontierValue}
-use Rattle.topology_text.specs.{declared.fault.TopologyCode.{TopologyCode, TheVariants.BadLine}, Value.{NamedTopologyValue, named_with}, Names.AreNames}
-use Rattle.topology_text.specs.Spelling.{nodes_words, head_words}
-use Rattle.topology_text.specs.Reading.{header_line, nodes_line, groups_at, base_of, custom_line, holders_line, holders_at, Pairs, pattern_at}
-use Rattle.topology_text.proofs.{Front.{header_takes, nodes_line_take, nodes_are_words}, Groups.next_group}
-use Rattle.report_form.specs.{declared.fault.ReportCode.ReportCode, Reports.{WordsValue, ReportValue, parts_of, question_of}, Lines.no_line}
-use Rattle.report_form.specs.{Points.joined_point_at, SynthLine.{AskedValue, kinds_of, asked_from, may_be_asked, asked_line, root_of, words_from}}
-use Rattle.report_form.specs.Reading.{part_bytes, frontiers_from, joined_at, body_of, version_line, is_same, report_of}
+use Rattle.topology_text.specs.{declared.fault.TopologyCode.{TopologyCode, TheVariants.BadLine}, Value.{NamedTopologyValue, named_with}, Names.AreNames, Spelling.{nodes_words, head_words}}
+use Rattle.topology_text.{specs.Reading.{header_line, nodes_line, groups_at, base_of, custom_line, holders_line, holders_at, Pairs, pattern_at}, proofs.{Front.{header_takes, nodes_line_take, nodes_are_words}, Groups.next_group}}
+use Rattle.report_form.specs.{declared.fault.ReportCode.ReportCode, Reports.{WordsValue, ReportValue, parts_of, question_of}, Lines.no_line, Points.joined_point_at}
+use Rattle.report_form.specs.{SynthLine.{AskedValue, kinds_of, asked_from, may_be_asked, asked_line, root_of, words_from}, Reading.{part_bytes, frontiers_from, joined_at, body_of, version_line, is_same, report_of}}
 use Rattle.report_form.proofs.ReportTaken.{after_root, after_names, after_same, after_asked, after_head, report_at, report_is}
 use Rattle.report_form.specs.declared.fault.ReportCode.TheVariants as code
 use Rattle.report_laws.specs.Shapes.{has_shape, asked_shape, results, forms_after, first_word, is_patterned, names_in, forms_behind, code_of}

@@ -5,11 +5,8 @@ use Rattle.collective_spec.proofs.Chunks.{FewBase}
 use Rattle.candidate_order.specs.{declared.mark.Mark.Mark, Ranges.IsLimits, Frontiers.{QuestionValue, PointValue}}
 use Rattle.candidate_order.specs.declared.mark.Mark.TheVariants as mark
 use Rattle.topology_text.specs.Names.{AreNames}
-use Rattle.report_form.specs.{Reports.IsJoinedPoint, Spelling.{point_words, point_lines}}
-use Rattle.report_form.specs.Points.{may_join, joined_head_from, joined_head_line, joined_point_at}
-use Rattle.report_form.proofs.{LineTaken.ruled_by, JoinedTaken.{joined_of, decides_join}}
-use Rattle.report_laws.proofs.{LinesAgain.on_words_again, ShapesAgain.{IsSmall, MarkIsSmall, head_words, joined_head_again, head_are_words}}
-use Rattle.report_laws.proofs.{ListsAgain.ruled_again, PointsAgain.{head_of, headed_reads, schedule_are_tokens}}
+use Rattle.report_form.{specs.{Reports.IsJoinedPoint, Spelling.{point_words, point_lines}, Points.{may_join, joined_head_from, joined_head_line, joined_point_at}}, proofs.{LineTaken.ruled_by, JoinedTaken.{joined_of, decides_join}}}
+use Rattle.report_laws.proofs.{LinesAgain.on_words_again, ShapesAgain.{IsSmall, MarkIsSmall, head_words, joined_head_again, head_are_words}, ListsAgain.ruled_again, PointsAgain.{head_of, headed_reads, schedule_are_tokens}}
 
 -- a joined point passes the eight tests of a join
 may_join_again : (q : QuestionValue) (p : PointValue) (is : IsJoinedPoint q p) → may_join q p.candidate is.adding ≡ true

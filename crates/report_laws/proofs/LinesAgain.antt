@@ -1,10 +1,8 @@
 -- Lines of a report that are spelled are read.
 use Rattle.std.proofs.{Common.{◌≡◌, ℕ, not, List, ◌∷◌, Some, Result, Ok, ap, ◌∙◌}, lemmas.Slice.Eq.bytes_eq-Decides}
-use Rattle.text_lines.specs.{Text.{Row, Place}, Check.{refuse, line_part}}
-use Rattle.text_lines.proofs.{ReadBack.{Reads, line_again}, Repeated.place, Rows.{AreTokens, row_of, words_again}}
+use Rattle.text_lines.{specs.{Text.{Row, Place}, Check.{refuse, line_part}}, proofs.{ReadBack.{Reads, line_again}, Repeated.place, Rows.{AreTokens, row_of, words_again}}}
 use Rattle.topology_text.specs.declared.fault.TopologyCode.{TopologyCode}
-use Rattle.report_form.specs.{declared.fault.ReportCode.{ReportCode, TheVariants.BadLine}, Lines.{fixed_line, among}}
-use Rattle.report_form.proofs.LineTaken.{on_words}
+use Rattle.report_form.{specs.{declared.fault.ReportCode.{ReportCode, TheVariants.BadLine}, Lines.{fixed_line, among}}, proofs.LineTaken.on_words}
 
 -- a line whose tokens pass
 pub on_words_again : {A : Type 0} (check : List (List ℕ) → Result A ReportCode) (words : List (List ℕ)) (x : A) → AreTokens words → check words ≡ Ok x → on_words check (Some (row_of words)) ≡ Ok x

@@ -1,17 +1,12 @@
 -- The lines of refuted and unknown candidates that are spelled are read.
 use Rattle.std.proofs.Common.{◌≡◌, ℕ, suc, ◌≤◌, ◌^◌, Bool, true, false, ◌&&◌, not, List, [], ◌∷◌, ◌++◌, map, length, get_or, Option, None, Some, IfSome, Result, Ok, refl, sym, ap, subst, arith, ◌==◌, codes, All, AllPairs}
-use Rattle.std.{specs.List.{last_or, AllByRecursion}, proofs.lemmas.{Bool.{and_from, eq-eqb}, List.{length-append, map-append, get_or_append_left, get_or_at}}}
-use Rattle.std.proofs.lemmas.List.Elements.{All-head, All-tail}
-use Rattle.text_lines.specs.{Text.Row, Check.{◌>>=◌, refuse, line_part}, Repeated.begins}
-use Rattle.text_lines.proofs.{Distinct.next_has, ReadBack.{Reads, Ends, ReadsLine}, Repeated.place, Rows.{AreTokens, row_of}, Words.tokens_from}
-use Rattle.candidate_order.specs.{declared.candidate.Candidate.Candidate, Ranges.IsLimits, Costs.Before}
-use Rattle.candidate_order.specs.Frontiers.{QuestionValue, UnknownValue, IsWithin, IsUnknown}
-use Rattle.report_form.specs.{declared.fault.ReportCode.ReportCode, Spelling.{refuted_words, unknown_words}, Tests.{is_within, comes_next}}
-use Rattle.report_form.specs.Reading.{refuted_from, refuted_line, unknown_from, unknown_line}
+use Rattle.std.{proofs.lemmas.{Bool.{and_from, eq-eqb}, List.{length-append, map-append, get_or_append_left, get_or_at, Elements.{All-head, All-tail}}}, specs.List.{last_or, AllByRecursion}}
+use Rattle.text_lines.{specs.{Text.Row, Check.{◌>>=◌, refuse, line_part}, Repeated.begins}, proofs.{Distinct.next_has, ReadBack.{Reads, Ends, ReadsLine}, Repeated.place, Rows.{AreTokens, row_of}, Words.tokens_from}}
+use Rattle.candidate_order.specs.{declared.candidate.Candidate.Candidate, Ranges.IsLimits, Costs.Before, Frontiers.{QuestionValue, UnknownValue, IsWithin, IsUnknown}}
+use Rattle.report_form.specs.{declared.fault.ReportCode.ReportCode, Spelling.{refuted_words, unknown_words}, Tests.{is_within, comes_next}, Reading.{refuted_from, refuted_line, unknown_from, unknown_line}}
 use Rattle.report_form.proofs.{Tested.{decides_within, decides_before}, Ascending.last_is, LineTaken.{on_words, ruled_by}, ListsTaken.{AreListed, AreUnknown}}
 use Rattle.report_form.specs.declared.fault.ReportCode.TheVariants as code
-use Rattle.report_laws.proofs.{TokensAgain.ok_then, LinesAgain.{on_words_again, words_part_again}}
-use Rattle.report_laws.proofs.ShapesAgain.{IsSmall, refuted_again, refuted_are_words, unknown_again, unknown_are_words}
+use Rattle.report_laws.proofs.{TokensAgain.ok_then, LinesAgain.{on_words_again, words_part_again}, ShapesAgain.{IsSmall, refuted_again, refuted_are_words, unknown_again, unknown_are_words}}
 
 -- a shape that is read, and a rule that is kept
 pub ruled_again : {A B : Type 0} (shape : List (List ℕ) → Result A ReportCode) (rule : A → Bool) (made : A → B) (words : List (List ℕ)) (x : A) → shape words ≡ Ok x → rule x ≡ true → ruled_by shape rule made words ≡ Ok (made x)

@@ -1,13 +1,11 @@
 -- The checks of points and of a frontier fail alike where the lines are the same.
 use Rattle.std.{proofs.Common.{List, map, None, codes, ℕ}, specs.List.last_or}
-use Rattle.text_lines.specs.Repeated.{parts_at}
+use Rattle.text_lines.{specs.Repeated.parts_at, proofs.Steady.{Steady, steady_line, steady_found, steady_then, steady_lines, steady_pieces}}
 use Rattle.outer_ports.specs.declared.part.Part.{Part}
 use Rattle.collective_spec.specs.Collectives.{chunks_in}
 use Rattle.candidate_order.specs.Frontiers.{QuestionValue}
-use Rattle.report_form.specs.{Lines.fixed_line, Reading.{part_bytes, refuted_line, unknown_line, frontier_at}}
-use Rattle.report_form.specs.Points.{HeadValue, head_line, joined_head_line, rounds_line, send_line, schedule_at, frontier_point_at, joined_point_at}
+use Rattle.report_form.specs.{Lines.fixed_line, Reading.{part_bytes, refuted_line, unknown_line, frontier_at}, Points.{HeadValue, head_line, joined_head_line, rounds_line, send_line, schedule_at, frontier_point_at, joined_point_at}}
 use Rattle.report_form.proofs.{PointsTaken.point_of, FrontiersTaken.frontier}
-use Rattle.text_lines.proofs.Steady.{Steady, steady_line, steady_found, steady_then, steady_lines, steady_pieces}
 
 module _ (names : List (List ℕ)) (q : QuestionValue) where
   pub steady_schedule : (head : HeadValue) → Steady (schedule_at names q head) (schedule_at names q head)

@@ -1,15 +1,12 @@
 -- The lines of rounds and of sends that are spelled are read.
-use Rattle.std.proofs.Common.{◌≡◌, ℕ, ◌≤◌, Bool, true, ◌&&◌, ltb, List, [], ◌∷◌, map, length, sum, Option, None, Some, IfSome, refl, arith, ◌==◌, codes, nat_le, nat_lt, All}
-use Rattle.std.{specs.List.{last_or, list_all, AllByRecursion}, proofs.lemmas.Bool.{and_parts, and_from, eq-eqb, le-leb, ltb-true}}
-use Rattle.std.proofs.lemmas.List.Elements.{All-head, All-tail, All-weaker}
+use Rattle.std.proofs.{Common.{◌≡◌, ℕ, ◌≤◌, Bool, true, ◌&&◌, ltb, List, [], ◌∷◌, map, length, sum, Option, None, Some, IfSome, refl, arith, ◌==◌, codes, nat_le, nat_lt, All}, lemmas.Bool.{and_parts, and_from, eq-eqb, le-leb, ltb-true}}
+use Rattle.std.{proofs.lemmas.List.Elements.{All-head, All-tail, All-weaker}, specs.List.{last_or, list_all, AllByRecursion}}
 use Rattle.text_lines.proofs.{Distinct.next_has, ReadBack.ReadsLine, Rows.AreTokens, Words.tokens_from}
 use Rattle.schedule.specs.{declared.hop.Hop.Hop, Sends.{IsRound, IsStep, is_hop_below}}
 use Rattle.candidate_order.specs.declared.candidate.Candidate.{Candidate}
 use Rattle.topology_text.specs.Names.{AreNames}
-use Rattle.report_form.specs.{Spelling.{rounds_words, send_words}, Points.{are_rounds, send_from, follows, may_be_sent, send_line}}
-use Rattle.report_form.proofs.{Ascending.HopBefore, PointsTaken.AreSends}
-use Rattle.report_laws.proofs.ShapesAgain.{Small, IsSpelled, rounds_are_words, send_again, send_are_words}
-use Rattle.report_laws.proofs.ListsAgain.{ruled_line, next_follows}
+use Rattle.report_form.{specs.{Spelling.{rounds_words, send_words}, Points.{are_rounds, send_from, follows, may_be_sent, send_line}}, proofs.{Ascending.HopBefore, PointsTaken.AreSends}}
+use Rattle.report_laws.proofs.{ShapesAgain.{Small, IsSpelled, rounds_are_words, send_again, send_are_words}, ListsAgain.{ruled_line, next_follows}}
 
 -- ---- rounds
 

@@ -1,15 +1,12 @@
 -- The tokens of a line that is spelled are those of its shape, and the shape is read from them.
-use Rattle.std.proofs.Common.{◌≡◌, ℕ, ◌<◌, ◌≤◌, ◌^◌, List, [], ◌∷◌, ◌++◌, map, length, Some, Ok, ◌⊎◌, inl, inr, refl, ap, arith, codes, decimal, All}
-use Rattle.std.proofs.lemmas.List.Elements.{All-head, All-tail, All-get_or}
+use Rattle.std.proofs.{Common.{◌≡◌, ℕ, ◌<◌, ◌≤◌, ◌^◌, List, [], ◌∷◌, ◌++◌, map, length, Some, Ok, ◌⊎◌, inl, inr, refl, ap, arith, codes, decimal, All}, lemmas.List.Elements.{All-head, All-tail, All-get_or}}
 use Rattle.text_lines.{specs.Check.need, proofs.{Distinct.AreDistinct, Words.{AreWords, literal, decimal_word}}}
 use Rattle.schedule.specs.declared.hop.Hop.{Hop}
 use Rattle.candidate_order.specs.{declared.{candidate.Candidate.Candidate, mark.Mark.Mark}, Frontiers.UnknownValue}
 use Rattle.candidate_order.specs.declared.mark.Mark.TheVariants as mark
 use Rattle.topology_text.{specs.Names.AreNames, proofs.Front.name_word}
-use Rattle.report_form.specs.{declared.fault.ReportCode.TheVariants.BadLine, Fields.any_number, Reading.{refuted_from, unknown_from}}
-use Rattle.report_form.specs.Spelling.{candidate_words, mark_words, rounds_words, send_words, refuted_words, unknown_words}
-use Rattle.report_form.specs.Points.{candidate_from, mark_named, head_from, joined_head_from, numbers_from, rounds_from, send_from}
-use Rattle.report_form.proofs.Shapes.{head}
+use Rattle.report_form.specs.{declared.fault.ReportCode.TheVariants.BadLine, Fields.any_number, Reading.{refuted_from, unknown_from}, Spelling.{candidate_words, mark_words, rounds_words, send_words, refuted_words, unknown_words}}
+use Rattle.report_form.{specs.Points.{candidate_from, mark_named, head_from, joined_head_from, numbers_from, rounds_from, send_from}, proofs.Shapes.head}
 use Rattle.report_laws.proofs.TokensAgain.{ok_then, word_again, small_again, number_again, next_node_again, any_number_again}
 
 -- ---- a candidate

@@ -1,11 +1,9 @@
 -- Tokens that are spelled are taken, and give back what they spell.
-use Rattle.std.proofs.Common.{◌≡◌, ◌≢◌, ℕ, suc, ◌<◌, ◌≤◌, ◌^◌, true, not, List, [], ◌∷◌, ◌++◌, length, get_or, Option, Some, Result, Ok, refl, ap, ◌∙◌, arith, ◌==◌, decimal, nat_eq, nat_le}
-use Rattle.std.{specs.List.list_all, proofs.{Math.Seq.drop-append_seam, lemmas.Bool.Decides.Decides-eqb}}
-use Rattle.std.proofs.lemmas.{Bool.{and_from, cond-true, le-leb, ne_eqb}, Fmt.{decimal_is_IsNumeral, decimal_nonempty}, Slice.Eq.starts_is, Str.Parse.digit_at}
-use Rattle.text_lines.{specs.{Check.{◌>>=◌, need}}, proofs.{Distinct.AreDistinct, Numbers.{up_to_some, zero_not}}}
+use Rattle.std.proofs.{Common.{◌≡◌, ◌≢◌, ℕ, suc, ◌<◌, ◌≤◌, ◌^◌, true, not, List, [], ◌∷◌, ◌++◌, length, get_or, Option, Some, Result, Ok, refl, ap, ◌∙◌, arith, ◌==◌, decimal, nat_eq, nat_le}, Math.Seq.drop-append_seam}
+use Rattle.std.{proofs.lemmas.{Bool.{Decides.Decides-eqb, and_from, cond-true, le-leb, ne_eqb}, Fmt.{decimal_is_IsNumeral, decimal_nonempty}, Slice.Eq.starts_is, Str.Parse.digit_at}, specs.List.list_all}
+use Rattle.text_lines.{specs.Check.{◌>>=◌, need}, proofs.{Distinct.AreDistinct, Numbers.{up_to_some, zero_not}}}
 use Rattle.topology_text.{specs.{Spelling.name_at, Reading.node_of}, proofs.Links.node_again}
-use Rattle.report_form.specs.declared.fault.ReportCode.TheVariants.{BadLine}
-use Rattle.report_form.specs.Fields.{is_digit, is_number, any_number, small_number, next_word, next_keyed, next_number, next_node}
+use Rattle.report_form.specs.{declared.fault.ReportCode.TheVariants.BadLine, Fields.{is_digit, is_number, any_number, small_number, next_word, next_keyed, next_number, next_node}}
 
 -- one step that passes, and then the rest
 pub ok_then : {A B C : Type 0} {x : A} {y : B} (r : Result A C) (f : A → Result B C) → r ≡ Ok x → f x ≡ Ok y → (r >>= f) ≡ Ok y

@@ -1,7 +1,6 @@
 -- Reading by spelling alone: a text is read as the report that it spells. Any other text is blamed at the first line at which it can no longer be a report's,
 -- and the shape of that line says with which code. This project's own.
-use Rattle.std.specs.Prelude.{◌≡◌, ℕ, ◌-◌, nat_le, nat_lt, Bool, true, false, ◌&&◌, ◌||◌, if◌then◌else◌, Option, None, Some, is_some, Result, Ok, Err, is_ok}
-use Rattle.std.specs.Prelude.{List, [], ◌∷◌, ◌++◌, map, length, take, drop, slice_get, slice_index, slice_index_or, bytes_eq, codes}
+use Rattle.std.specs.Prelude.{◌≡◌, ℕ, ◌-◌, nat_le, nat_lt, Bool, true, false, ◌&&◌, ◌||◌, if◌then◌else◌, Option, None, Some, is_some, Result, Ok, Err, is_ok, List, [], ◌∷◌, ◌++◌, map, length, take, drop, slice_get, slice_index, slice_index_or, bytes_eq, codes}
 use Rattle.std.specs.List.{list_any, list_all, last_or}
 use Rattle.text_lines.specs.{Text.{Row, rows_of, words_of}, Number.number_up_to, Repeated.begins}
 use Rattle.collective_spec.specs.{declared.kind.Kind.Kind, Kinds.{word_of, takes_root, standard_kinds, every_kind}}

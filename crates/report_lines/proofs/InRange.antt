@@ -1,6 +1,5 @@
 -- Numbers of any size, by their digits.
-use Rattle.std.proofs.Common.{◌≡◌, ℕ, ◌<◌, ◌^◌, Bool, true, false, List, None, Some, refl, arith, ◌==◌, ◌&&◌, nat_le, IsTrue, if◌then◌else◌}
-use Rattle.std.{specs.{Option.is_some, Str.Parse.digits_value}, proofs.lemmas.Bool.{leb-true, Decides.nat_tests}}
+use Rattle.std.{proofs.{Common.{◌≡◌, ℕ, ◌<◌, ◌^◌, Bool, true, false, List, None, Some, refl, arith, ◌==◌, ◌&&◌, nat_le, IsTrue, if◌then◌else◌}, lemmas.Bool.{leb-true, Decides.nat_tests}}, specs.{Option.is_some, Str.Parse.digits_value}}
 use Rattle.text_lines.{specs.Number.number_up_to, proofs.Numbers.up_to_some}
 use Rattle.report_form.{specs.Fields.is_number, proofs.Tokens.canonical}
 

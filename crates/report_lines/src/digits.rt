@@ -1,7 +1,6 @@
 //! Numbers of any size, as the digits that spell them.
 
-ghost use Rattle.std.specs.{Prelude.{◌≡◌, ◌≤◌, ◌<◌, ◌&&◌, ◌==◌, nat_le, Some, None, if◌then◌else◌, IfOk, IfSome, IsTrue}, List.list_all};
-ghost use Rattle.std.specs.Str.Parse.{digits_value};
+ghost use Rattle.std.specs.{Prelude.{◌≡◌, ◌≤◌, ◌<◌, ◌&&◌, ◌==◌, nat_le, Some, None, if◌then◌else◌, IfOk, IfSome, IsTrue}, List.list_all, Str.Parse.digits_value};
 ghost use Rattle.text_lines.specs.Check.{need, Tells};
 ghost use Rattle.report_form.specs.Fields.{any_number, is_digit, is_number, next_keyed, next_word};
 

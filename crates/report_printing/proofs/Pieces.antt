@@ -5,8 +5,7 @@ use Rattle.collective_spec.specs.{declared.kind.Kind.TheVariants.Allreduce, Kind
 use Rattle.candidate_order.specs.Frontiers.{PointValue, FrontierValue}
 use Rattle.text_lines.{specs.Text.{line, text_of, fields}, proofs.Words.join_fields}
 use Rattle.topology_text.specs.Spelling.{lines_of, spelling, version_word}
-use Rattle.report_form.specs.{Reports.{ReportValue, WordsValue}, Reading.part_bytes}
-use Rattle.report_form.specs.Spelling.{root_words, pruning_words, part_words, point_lines, refuted_words, unknown_words, frontier_lines, joined_lines, synth_words, report_text}
+use Rattle.report_form.specs.{Reports.{ReportValue, WordsValue}, Reading.part_bytes, Spelling.{root_words, pruning_words, part_words, point_lines, refuted_words, unknown_words, frontier_lines, joined_lines, synth_words, report_text}}
 use Rattle.report_printing.specs.Printed.{frontier_text, limits_text, point_text}
 
 -- a piece, and all behind it

@@ -1,18 +1,15 @@
 -- The report of an allreduce: it is valid and right, and the files of its two parts prove it.
 use Rattle.std.proofs.{Common.{◌≡◌, List, [], ◌∷◌, All, refl, sym, ap, subst, ◌∙◌, arith}, lemmas.List.Elements.{All-cons, All-nil}}
-use Rattle.outer_ports.specs.declared.{part.Part.{Part, TheVariants.{Reduce, Gather}}, proof_name.{FileKind.TheVariants.{Cnf, Lrat}, ProofName.ProofName}}
-use Rattle.outer_ports.specs.Files.{Files}
+use Rattle.outer_ports.specs.{declared.{part.Part.{Part, TheVariants.{Reduce, Gather}}, proof_name.{FileKind.TheVariants.{Cnf, Lrat}, ProofName.ProofName}}, Files.Files}
 use Rattle.collective_spec.specs.declared.kind.Kind.TheVariants as kind
 use Rattle.candidate_order.specs.Frontiers.{FrontierValue, PointValue}
 use Rattle.candidate_formula.specs.{Files.{candidate_of, file_of, FrontierFiles}, Pruned.HasOwnFiles}
 use Rattle.proof_audit.{specs.Kept.BothStay, proofs.Keeping.{keeps_trans, still_refuted}}
 use Rattle.topology_text.specs.Value.{NamedTopologyValue}
 use Rattle.report_form.specs.Reports.{WordsValue, ReportValue, IsFrontier, IsReport, question_of}
-use Rattle.frontier_audit.specs.{Rights.{IsRight, IsSearched}, OwedFiles.{KeepsProofs, Proves, TakesUpProofs}, Searches.IsAsked}
-use Rattle.frontier_audit.specs.Parts.{IsExhaustedPart, IsRightPart, IsSearchedPart, IsSuitedPart, IsUncutPart, IsOf, TakesUpPart}
+use Rattle.frontier_audit.specs.{Rights.{IsRight, IsSearched}, OwedFiles.{KeepsProofs, Proves, TakesUpProofs}, Searches.IsAsked, Parts.{IsExhaustedPart, IsRightPart, IsSearchedPart, IsSuitedPart, IsUncutPart, IsOf, TakesUpPart}}
 use Rattle.engine_search.specs.Found.{IsFound}
-use Rattle.report_search.specs.{Shelved.{IsShelved, IsUncut}, inner.Reporting.{both_report, joins_of}}
-use Rattle.report_search.proofs.{PartQuestions.two_parts, Valid.valid_frontier, JoinedPoints.{joined_points, joins_are}, Staying.files_stay}
+use Rattle.report_search.{specs.{Shelved.{IsShelved, IsUncut}, inner.Reporting.{both_report, joins_of}}, proofs.{PartQuestions.two_parts, Valid.valid_frontier, JoinedPoints.{joined_points, joins_are}, Staying.files_stay}}
 
 module _ (w : WordsValue) (t : NamedTopologyValue) (f g : FrontierValue) where
   abbrev report : ReportValue

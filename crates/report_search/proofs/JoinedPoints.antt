@@ -1,13 +1,11 @@
 -- The joins of what was found in the two parts of an allreduce: they keep the rules of reports, and are all that are due.
-use Rattle.std.proofs.Common.{◌≡◌, ℕ, ◌*◌, List, All, Option, None, refl, sym, ap, subst, ◌∙◌, arith}
-use Rattle.std.proofs.lemmas.List.Elements.{All-contains, All-from_recursion, All-map, All-weaker}
+use Rattle.std.proofs.{Common.{◌≡◌, ℕ, ◌*◌, List, All, Option, None, refl, sym, ap, subst, ◌∙◌, arith}, lemmas.List.Elements.{All-contains, All-from_recursion, All-map, All-weaker}}
 use Rattle.outer_ports.specs.declared.part.Part.TheVariants.{Reduce, Gather, Joined}
 use Rattle.schedule.{specs.Sends.{IsSchedule, IsInRange}, proofs.First.{Contains-from_Among, each_among}}
 use Rattle.collective_spec.specs.{declared.kind.Kind.Kind, Patterns.PatternValue, Collectives.{chunks_in, chunks_of, spec_of}}
 use Rattle.collective_spec.specs.declared.kind.Kind.TheVariants as kind
 use Rattle.candidate_order.{specs.{Frontiers.{QuestionValue, FrontierValue, PointValue, RightFrontier, Searched}, Ranges.IsLimits}, proofs.Orders.has_chunk}
-use Rattle.allreduce_join.specs.Joins.{IsJoinable, Joins, join_of, one_after, pairs_of}
-use Rattle.allreduce_join.proofs.{Frontiers.frontiers_join, Paired.{IsPair, pairs_among}, Sequence.{in_range_sequence, sizes_sequence, valid_sequence}}
+use Rattle.allreduce_join.{specs.Joins.{IsJoinable, Joins, join_of, one_after, pairs_of}, proofs.{Frontiers.frontiers_join, Paired.{IsPair, pairs_among}, Sequence.{in_range_sequence, sizes_sequence, valid_sequence}}}
 use Rattle.topology_text.specs.Value.{NamedTopologyValue}
 use Rattle.report_form.specs.Reports.{WordsValue, IsJoinedPoint, IsPrintedPoint, question_of}
 use Rattle.frontier_audit.specs.Searches.{IsAsked}

@@ -1,6 +1,5 @@
 -- What a turn of the loops over two lists of points adds.
-use Rattle.std.proofs.Common.{◌≡◌, ◌==◌, ℕ, ◌+◌, ◌<◌, Bool, List, [], ◌∷◌, ◌++◌, length, get_or, map, take, refl, sym, ap, ◌∙◌, filter}
-use Rattle.std.proofs.lemmas.{Grind.flat_map-append, List.{append-nil, map-append, take_more}}
+use Rattle.std.proofs.{Common.{◌≡◌, ◌==◌, ℕ, ◌+◌, ◌<◌, Bool, List, [], ◌∷◌, ◌++◌, length, get_or, map, take, refl, sym, ap, ◌∙◌, filter}, lemmas.{Grind.flat_map-append, List.{append-nil, map-append, take_more}}}
 use Rattle.candidate_order.specs.Frontiers.{PointValue}
 use Rattle.allreduce_join.specs.Joins.{join_of, pairs_of}
 use Rattle.report_search.specs.inner.Reporting.{joins_of}

@@ -1,10 +1,8 @@
 -- What is asked of a part can be searched.
-use Rattle.std.proofs.Common.{◌≡◌, ◌≢◌, ◌⊎◌, inl, inr, ℕ, ◌<◌, ◌≤◌, true, [], ◌∷◌, Contains, Option, None, refl, sym, ap, subst, ◌∙◌}
-use Rattle.std.proofs.lemmas.List.Elements.{All-contains, All-cons, All-nil}
+use Rattle.std.proofs.{Common.{◌≡◌, ◌≢◌, ◌⊎◌, inl, inr, ℕ, ◌<◌, ◌≤◌, true, [], ◌∷◌, Contains, Option, None, refl, sym, ap, subst, ◌∙◌}, lemmas.List.Elements.{All-contains, All-cons, All-nil}}
 use Rattle.outer_ports.specs.declared.part.Part.{Part, TheVariants.{Whole, Reduce, Gather, Joined}}
 use Rattle.schedule.specs.Links.{TopologyValue}
-use Rattle.collective_spec.specs.{declared.{spec.Spec.Spec, kind.Kind.Kind}, Patterns.PatternValue, Collectives.{IsSpec, fits_kind, kind_in, spec_of}}
-use Rattle.collective_spec.proofs.Sized.{fitting_kind, fitting_spec}
+use Rattle.collective_spec.{specs.{declared.{spec.Spec.Spec, kind.Kind.Kind}, Patterns.PatternValue, Collectives.{IsSpec, fits_kind, kind_in, spec_of}}, proofs.Sized.{fitting_kind, fitting_spec}}
 use Rattle.collective_spec.specs.declared.kind.Kind.TheVariants as kind
 use Rattle.candidate_order.specs.{Ranges.LimitsValue, Frontiers.QuestionValue}
 use Rattle.round_encoding.specs.Candidates.{size_limit}

@@ -1,13 +1,11 @@
 -- What an engine's record says of the files, for the question in whose place it searched.
-use Rattle.std.{proofs.Common.{◌≡◌, ◌≢◌, ◌⊎◌, inl, inr, IsTrue, false, All, Contains, None, Some, refl, sym, ap, subst, ◌∙◌}, specs.List.Sorted.IsPermutation}
-use Rattle.std.proofs.lemmas.List.Elements.{All-contains, All-weaker}
+use Rattle.std.{proofs.{Common.{◌≡◌, ◌≢◌, ◌⊎◌, inl, inr, IsTrue, false, All, Contains, None, Some, refl, sym, ap, subst, ◌∙◌}, lemmas.List.Elements.{All-contains, All-weaker}}, specs.List.Sorted.IsPermutation}
 use Rattle.list_laws.proofs.{Each.all_contained, Members.Contains-map}
 use Rattle.outer_ports.specs.{declared.{part.Part.Part, proof_name.ProofName.ProofName}, Files.Files}
 use Rattle.collective_spec.specs.declared.kind.Kind.TheVariants as kind
 use Rattle.collective_spec.specs.Collectives.{kind_in}
 use Rattle.candidate_order.specs.{declared.candidate.Candidate.Candidate, Frontiers.{QuestionValue, FrontierValue, UnknownValue, IsTried, IsWithin, solved}}
-use Rattle.candidate_formula.specs.{Formulas.formula_for, Files.{SolvedFiles, RefutedFiles, UnknownFiles, candidate_of}, Pruned.is_cut_away}
-use Rattle.candidate_formula.specs.Searched.{searched_question}
+use Rattle.candidate_formula.specs.{Formulas.formula_for, Files.{SolvedFiles, RefutedFiles, UnknownFiles, candidate_of}, Pruned.is_cut_away, Searched.searched_question}
 use Rattle.candidate_formula.proofs.{BegunFiles.begun_weaker, FilesAlike.{solved_alike, refuted_alike, unknown_alike}}
 use Rattle.engine_rules.specs.{declared.settled.Settled.{Settled, TheVariants.{Solved, Refuted, Unknown}}, Outcomes.{RecordValue, IsNew}}
 use Rattle.candidate_solver.specs.Kept.{EngineState, HasFiles, KeptAgrees, KeptMoves}

@@ -2,8 +2,7 @@
 use Rattle.std.proofs.{Common.{◌≡◌, false, refl}, lemmas.List.Elements.All-weaker}
 use Rattle.outer_ports.specs.{declared.{part.Part.Part, proof_name.{FileKind.FileKind, ProofName.ProofName}}, Files.Files}
 use Rattle.candidate_order.specs.{declared.candidate.Candidate.Candidate, Frontiers.{QuestionValue, FrontierValue, solved}}
-use Rattle.candidate_formula.specs.{Files.{SolvedFiles, RefutedFiles, UnknownFiles, FrontierFiles, file_of}, Pruned.is_cut_away}
-use Rattle.candidate_formula.proofs.FilesAlike.{solved_alike, refuted_alike, unknown_alike}
+use Rattle.candidate_formula.{specs.{Files.{SolvedFiles, RefutedFiles, UnknownFiles, FrontierFiles, file_of}, Pruned.is_cut_away}, proofs.FilesAlike.{solved_alike, refuted_alike, unknown_alike}}
 
 module _ (part : Part) (q : QuestionValue) (before after : Files) (stay : (name : ProofName) → name.part ≡ part → after name ≡ before name) where
   each_stays : (x : Candidate) (kind : FileKind) → after (file_of kind part x) ≡ before (file_of kind part x)

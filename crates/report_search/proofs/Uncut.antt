@@ -1,15 +1,13 @@
 -- What an engine settles that is not handed what sets of nodes refute, and what is owed of that.
 use Rattle.std.proofs.Common.{◌≡◌, ◌⊎◌, inl, inr, Bool, true, false, List, All, Contains, Option, None, Some, refl, sym, ap, subst, ◌∙◌, not, filter}
-use Rattle.std.{specs.Option.is_some, proofs.lemmas.List.Elements.{All-contains, All-contains_itself, All-filter, All-map, All-weaker, filter_passes}}
+use Rattle.std.{proofs.lemmas.List.Elements.{All-contains, All-contains_itself, All-filter, All-map, All-weaker, filter_passes}, specs.Option.is_some}
 use Rattle.list_laws.proofs.{Each.all_contained, Members.Contains-filter}
 use Rattle.outer_ports.specs.{declared.part.Part.Part, Files.Files}
 use Rattle.collective_spec.specs.{declared.instance.Instance.Instance, Collectives.spec_instance}
-use Rattle.candidate_order.specs.declared.candidate.Candidate.{Candidate}
-use Rattle.candidate_order.specs.Frontiers.{QuestionValue, FrontierValue, PointValue, UnknownValue, IsTried, IsWithin, solved, given_up}
+use Rattle.candidate_order.specs.{declared.candidate.Candidate.Candidate, Frontiers.{QuestionValue, FrontierValue, PointValue, UnknownValue, IsTried, IsWithin, solved, given_up}}
 use Rattle.node_cuts.specs.{declared.sets.Sets.Sets, Cuts.first_cut_of, Cutting.{is_cut, sets_for}}
 use Rattle.cut_bounds.specs.{Cutting.uncut_entries, Parting.without_cuts}
-use Rattle.candidate_formula.specs.{Files.{candidate_of, RefutedFiles}, Formulas.searched_on, Pruned.{HasOwnFiles, is_cut_away}, Searched.searched_question}
-use Rattle.candidate_formula.proofs.{Copying.same_instance, CutAway.never_cut_away}
+use Rattle.candidate_formula.{specs.{Files.{candidate_of, RefutedFiles}, Formulas.searched_on, Pruned.{HasOwnFiles, is_cut_away}, Searched.searched_question}, proofs.{Copying.same_instance, CutAway.never_cut_away}}
 use Rattle.engine_rules.specs.{declared.settled.Settled.Settled, Outcomes.RecordValue}
 use Rattle.pareto_search.specs.Recorded.{IsStoppedWithin, StaysWithin}
 use Rattle.report_search.{specs.Shelved.{IsShelved, IsUncut}, proofs.Recorded.IsFiled}

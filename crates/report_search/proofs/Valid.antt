@@ -2,8 +2,7 @@
 use Rattle.std.proofs.{Common.{◌≡◌, Bool, true, false, List, length, sum}, lemmas.List.Elements.All-weaker}
 use Rattle.schedule.specs.Sends.{ScheduleValue}
 use Rattle.collective_spec.specs.Collectives.{adds_up}
-use Rattle.candidate_order.specs.declared.candidate.Candidate.{Candidate}
-use Rattle.candidate_order.specs.Frontiers.{QuestionValue, FrontierValue, PointValue, Achieves, IsPoint as IsRightPoint}
+use Rattle.candidate_order.specs.{declared.candidate.Candidate.Candidate, Frontiers.{QuestionValue, FrontierValue, PointValue, Achieves, IsPoint as IsRightPoint}}
 use Rattle.report_form.specs.Reports.{IsFrontier, IsPrintedPoint}
 use Rattle.engine_search.specs.Found.{IsFound}
 

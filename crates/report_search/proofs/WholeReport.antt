@@ -6,8 +6,7 @@ use Rattle.candidate_order.specs.Frontiers.{FrontierValue}
 use Rattle.candidate_formula.specs.{Files.{candidate_of, FrontierFiles}, Pruned.HasOwnFiles}
 use Rattle.topology_text.specs.Value.{NamedTopologyValue}
 use Rattle.report_form.specs.Reports.{WordsValue, ReportValue, IsFrontier, IsReport, IsJoinedPoint, question_of, whole_report}
-use Rattle.frontier_audit.specs.{Rights.{IsRight, IsSearched}, OwedFiles.{Proves, TakesUpProofs}, Searches.IsAsked}
-use Rattle.frontier_audit.specs.Parts.{IsExhaustedPart, IsRightPart, IsSearchedPart, IsSuitedPart, IsUncutPart, IsOf, TakesUpPart}
+use Rattle.frontier_audit.specs.{Rights.{IsRight, IsSearched}, OwedFiles.{Proves, TakesUpProofs}, Searches.IsAsked, Parts.{IsExhaustedPart, IsRightPart, IsSearchedPart, IsSuitedPart, IsUncutPart, IsOf, TakesUpPart}}
 use Rattle.engine_search.specs.Found.{IsFound}
 use Rattle.report_search.{specs.Shelved.{IsShelved, IsUncut}, proofs.{PartQuestions.one_part, Valid.valid_frontier}}
 

@@ -9,22 +9,20 @@ use Rattle.schedule.specs.Links.{TopologyValue}
 use Rattle.collective_spec.specs.declared.kind.Kind.{Kind}
 use Rattle.collective_spec.specs.declared.kind.Kind.TheVariants as kind
 use Rattle.lrat_text.specs.Printing.{cnf_text}
-use Rattle.candidate_order.{specs.{declared.candidate.Candidate.Candidate, Costs.Before}, proofs.{Orders.Before-irrefl, Unique.candidates_apart}}
-use Rattle.candidate_order.specs.Frontiers.{QuestionValue, PointValue, UnknownValue, FrontierValue, IsSolvedBy, IsAnswered, IsPoint, IsUnknown}
+use Rattle.candidate_order.specs.{declared.candidate.Candidate.Candidate, Costs.Before, Frontiers.{QuestionValue, PointValue, UnknownValue, FrontierValue, IsSolvedBy, IsAnswered, IsPoint, IsUnknown}}
+use Rattle.candidate_order.proofs.{Orders.Before-irrefl, Unique.candidates_apart}
 use Rattle.allreduce_join.specs.Joins.{join_of, pairs_of, IsJoin}
 use Rattle.candidate_formula.specs.{Formulas.formula_for, Files.{file_of, HasRefutation, HasLog}, Pruned.is_cut_away}
 use Rattle.proof_audit.specs.Proving.{is_refutation, is_spent_log}
 use Rattle.report_form.specs.Reports as report
 use Rattle.report_form.specs.Reports.{ReportValue, IsReport, IsFrontier, parts_of, question_of}
 use Rattle.frontier_audit.specs.declared.verdict.AuditVerdict.{AuditVerdict, TheVariants.{Verified, Denied}}
-use Rattle.frontier_audit.specs.declared.verdict.Reason.TheVariants.{ScheduleWrong, MarkWrong, CandidateMissing, ProofMissing, ProofRefused, CnfDiffers, PartialRefused, JoinWrong}
-use Rattle.frontier_audit.specs.{Denials.{Denial, Checked, each, in_part, verdict_from}, Candidates.candidates_within, Solutions.{is_solution, is_optimal}}
-use Rattle.frontier_audit.specs.{Joining.{IsSummable, same_point, joins_checked, joined_checked}, Auditing.{refutation_checked, unknown_checked, frontier_checked, audit_of}}
-use Rattle.run_rules.specs.Claims.{Saying, Claim, Each, RefutationClaim, LogClaim, AnswerClaim, FrontierClaim, JoinsClaim, JoinedClaim, IsVerdict}
+use Rattle.frontier_audit.specs.{declared.verdict.Reason.TheVariants.{ScheduleWrong, MarkWrong, CandidateMissing, ProofMissing, ProofRefused, CnfDiffers, PartialRefused, JoinWrong}, Denials.{Denial, Checked, each, in_part, verdict_from}}
+use Rattle.frontier_audit.specs.{Candidates.candidates_within, Solutions.{is_solution, is_optimal}, Joining.{IsSummable, same_point, joins_checked, joined_checked}, Auditing.{refutation_checked, unknown_checked, frontier_checked, audit_of}}
 use Rattle.frontier_audit.specs.inner.Steps.{is_answered, is_mark, is_join, point_checked, refuted_checked, candidate_checked, mark_checked, part_checked}
-use Rattle.frontier_audit.proofs.{Passing.{then_ok, ok_then, each_ok, refused_not, not_refused}, Tried.candidates_exactly, InOrder.within_ascends}
-use Rattle.frontier_audit.proofs.{Beside.{has_refutation, passes_refutation, has_log_of, passes_log}, Marked.{answered_decides, optimal_decides, mark_by, by_mark}, Solved.{solved_by, by_solution}}
-use Rattle.frontier_audit.proofs.{Joined.{AreJoined, are_joined, joined_are}, Right.joinable}
+use Rattle.frontier_audit.proofs.{Passing.{then_ok, ok_then, each_ok, refused_not, not_refused}, Tried.candidates_exactly, InOrder.within_ascends, Beside.{has_refutation, passes_refutation, has_log_of, passes_log}}
+use Rattle.frontier_audit.proofs.{Marked.{answered_decides, optimal_decides, mark_by, by_mark}, Solved.{solved_by, by_solution}, Joined.{AreJoined, are_joined, joined_are}, Right.joinable}
+use Rattle.run_rules.specs.Claims.{Saying, Claim, Each, RefutationClaim, LogClaim, AnswerClaim, FrontierClaim, JoinsClaim, JoinedClaim, IsVerdict}
 
 -- ---- checks and claims
 

@@ -3,14 +3,12 @@ use Rattle.std.{specs.Prelude.{IsTrue, codes}, proofs.Common.{◌≡◌, ℕ, Li
 use Rattle.text_lines.specs.Text.{line}
 use Rattle.outer_ports.specs.{Files.Files, Shelf.FilesStay}
 use Rattle.report_form.specs.Reports.{ReportValue, IsReport, question_of}
-use Rattle.frontier_audit.specs.{declared.verdict.AuditVerdict.AuditVerdict, Auditing.audit_of, Rights.{HasLogs, IsRight}, Shelves.ShelfRight}
+use Rattle.frontier_audit.{specs.{declared.verdict.AuditVerdict.AuditVerdict, Auditing.audit_of, Rights.{HasLogs, IsRight}, Shelves.ShelfRight}, proofs.Audited.shelf_right}
 use Rattle.candidate_formula.specs.Formulas.{formula_for}
 use Rattle.proof_audit.specs.Files.{HasSpentLog}
-use Rattle.frontier_audit.proofs.Audited.{shelf_right}
 use Rattle.frontier_audit.specs.declared.verdict.AuditVerdict.TheVariants as audit
-use Rattle.run_rules.specs.{declared.status.Status.{Status, TheVariants.{Done, Denied}}, Refusals.{Refusal, refusal_line}, Said.{FilesValue, Says, Stay}}
-use Rattle.run_rules.specs.{Audits.{IsAudited, audited, denial, not_denied}, Steps.{verdict_status, verdict_text}, Claims.IsVerdict}
-use Rattle.run_rules.proofs.OneVerdict.{verdict_exactly}
+use Rattle.run_rules.specs.{declared.status.Status.{Status, TheVariants.{Done, Denied}}, Refusals.{Refusal, refusal_line}, Said.{FilesValue, Says, Stay}, Audits.{IsAudited, audited, denial, not_denied}, Steps.{verdict_status, verdict_text}}
+use Rattle.run_rules.{specs.Claims.IsVerdict, proofs.OneVerdict.verdict_exactly}
 
 denied_so : (v : AuditVerdict) (why : Refusal) → not_denied v ≡ Err why → why.status ≡ Denied
 denied_so audit.Verified why e = absurd (cc)

@@ -1,6 +1,5 @@
 -- With which statuses the answer to what is due ends: done, or a refusal that is listed for the command.
-use Rattle.std.proofs.lemmas.Bool.{or_right}
-use Rattle.std.proofs.Common.{◌≡◌, ◌==◌, ℕ, Bool, true, false, not, nat_lt, slice_get, length, List, [], ◌∷◌, Option, None, Some, Result, Ok, Err, refl, sym, subst, ◌∙◌, codes}
+use Rattle.std.proofs.{lemmas.Bool.or_right, Common.{◌≡◌, ◌==◌, ℕ, Bool, true, false, not, nat_lt, slice_get, length, List, [], ◌∷◌, Option, None, Some, Result, Ok, Err, refl, sym, subst, ◌∙◌, codes}}
 use Rattle.text_lines.specs.{Check.{◌>>=◌, refuse, need}, Text.line}
 use Rattle.collective_spec.specs.Collectives.{fits_kind}
 use Rattle.candidate_order.specs.Frontiers.{QuestionValue}
@@ -9,16 +8,13 @@ use Rattle.report_form.specs.{Answer.report_number, Reading.report_of, Reports.R
 use Rattle.round_encoding.specs.Candidates.{size_limit}
 use Rattle.candidate_formula.specs.{Sizes.size_of, Counts.chunk_counts}
 use Rattle.json_values.specs.{Answer.json_number, TopologyForm.topology as topology_form, Reading.read_json}
-use Rattle.json_rules.specs.ReportForm.{report as report_form}
+use Rattle.json_rules.specs.ReportForm.report as report_form
 use Rattle.command_words.specs.declared.command.JsonWhat.TheVariants as what
 use Rattle.command_words.specs.declared.command.{RootWord.RootWord, SearchWords.SearchWords, PointWord.PointWord, Command.Command}
 use Rattle.command_words.specs.declared.command.Command.TheVariants as command
-use Rattle.run_rules.specs.declared.status.Status.{Status, TheVariants.{Done, BadWords, BadTopology, BadReport, Denied, TooLarge, NoCandidate, BadJson}}
-use Rattle.run_rules.specs.{Statuses.status_number, Refusals.{Refusal, refused_as}, Audits.{IsAudited, audited}, Degraded.IsNewSearch}
-use Rattle.run_rules.specs.{Commands.IsOneOf, Ends.{answers_of, refusals_of}, Said.FilesValue, Answers.{IsAnswer, Says}}
-use Rattle.run_rules.specs.Tasks.{Task, Audit, Try, Degrade, fault_in, is_allreduce, point_in, read_report, root_in, search_asked, searchable, task_of}
-use Rattle.run_rules.specs.Steps.{whole_question, words_for}
-use Rattle.run_rules.proofs.Denied.{denied_by, denied_of, done_of}
+use Rattle.run_rules.specs.{declared.status.Status.{Status, TheVariants.{Done, BadWords, BadTopology, BadReport, Denied, TooLarge, NoCandidate, BadJson}}, Statuses.status_number, Refusals.{Refusal, refused_as}, Audits.{IsAudited, audited}}
+use Rattle.run_rules.specs.{Degraded.IsNewSearch, Commands.IsOneOf, Ends.{answers_of, refusals_of}, Said.FilesValue, Answers.{IsAnswer, Says}}
+use Rattle.run_rules.{specs.{Tasks.{Task, Audit, Try, Degrade, fault_in, is_allreduce, point_in, read_report, root_in, search_asked, searchable, task_of}, Steps.{whole_question, words_for}}, proofs.Denied.{denied_by, denied_of, done_of}}
 
 -- what is refused is refused with such a status
 abbrev pub With : {A : Type 0} → (Status → Type 0) → Result A Refusal → Type 0

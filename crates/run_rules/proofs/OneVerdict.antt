@@ -3,15 +3,11 @@ use Rattle.std.proofs.Common.{◌≡◌, ◌↔◌, List, [], ◌∷◌, inl, in
 use Rattle.outer_ports.specs.{declared.part.Part.Part, Files.Files}
 use Rattle.outer_ports.specs.declared.part.Part.TheVariants as part
 use Rattle.schedule.specs.Links.{TopologyValue}
-use Rattle.candidate_order.{specs.{declared.candidate.Candidate.Candidate}, proofs.Orders.{Before-total, has_chunk}}
-use Rattle.candidate_order.specs.Frontiers.{QuestionValue, PointValue, FrontierValue, IsSolvedBy, IsPoint}
+use Rattle.candidate_order.{specs.{declared.candidate.Candidate.Candidate, Frontiers.{QuestionValue, PointValue, FrontierValue, IsSolvedBy, IsPoint}}, proofs.Orders.{Before-total, has_chunk}}
 use Rattle.candidate_formula.specs.Pruned.{is_cut_away}
 use Rattle.report_form.specs.Reports.{ReportValue, IsReport, question_of}
-use Rattle.frontier_audit.specs.declared.verdict.AuditVerdict.{AuditVerdict, TheVariants.Denied}
-use Rattle.frontier_audit.specs.declared.verdict.Reason.TheVariants.{ScheduleWrong, MarkWrong, CandidateMissing}
-use Rattle.frontier_audit.specs.Auditing.{audit_of}
-use Rattle.run_rules.specs.Claims.{Saying, Claim, Each, RefutationClaim, LogClaim, IsFirstMissing, AnswerClaim, FrontierClaim, JoinsClaim, JoinedClaim, IsVerdict}
-use Rattle.run_rules.proofs.Claimed.{audit_decides}
+use Rattle.frontier_audit.specs.{declared.verdict.{AuditVerdict.{AuditVerdict, TheVariants.Denied}, Reason.TheVariants.{ScheduleWrong, MarkWrong, CandidateMissing}}, Auditing.audit_of}
+use Rattle.run_rules.{specs.Claims.{Saying, Claim, Each, RefutationClaim, LogClaim, IsFirstMissing, AnswerClaim, FrontierClaim, JoinsClaim, JoinedClaim, IsVerdict}, proofs.Claimed.audit_decides}
 
 -- it is said of one verdict at most
 abbrev IsOfOne : Saying → Type 0

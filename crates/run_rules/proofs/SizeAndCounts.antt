@@ -1,6 +1,5 @@
 -- Whether a search can be done, check by check.
-use Rattle.std.proofs.Common.{◌≡◌, ◌<◌, ◌≤◌, ◌==◌, ℕ, Bool, true, length, List, Result, Err, sym, subst, ap, ◌∙◌, false, Ok, refl, nat_lt}
-use Rattle.std.proofs.lemmas.Bool.{lt-ltb, le-ltb, ltb-false}
+use Rattle.std.proofs.{Common.{◌≡◌, ◌<◌, ◌≤◌, ◌==◌, ℕ, Bool, true, length, List, Result, Err, sym, subst, ap, ◌∙◌, false, Ok, refl, nat_lt}, lemmas.Bool.{lt-ltb, le-ltb, ltb-false}}
 use Rattle.text_lines.specs.Check.{◌>>=◌, refuse}
 use Rattle.schedule.specs.Links.{TopologyValue}
 use Rattle.collective_spec.{specs.{declared.{collective.Collective.Collective, spec.Spec.Spec}, Collectives.{fits_kind, spec_of}}, proofs.Sized.fitting_kind}

@@ -2,12 +2,11 @@
 use Rattle.std.proofs.Common.{◌≡◌, ◌⊎◌, inl, inr, ℕ, Bool, true, false, not, List, Result, Ok, Err, sym, ap, ◌∙◌}
 use Rattle.text_lines.{specs.Check.{◌>>=◌, refuse}, proofs.Checks.{bind_ok, ok_is}}
 use Rattle.collective_spec.specs.Collectives.{fits_kind}
-use Rattle.topology_text.specs.{declared.fault.TopologyCode.{TopologyCode, TheVariants.OutOfMemory}, Value.NamedTopologyValue, Reading.topology_of}
-use Rattle.topology_text.specs.Answer.{topology_number}
+use Rattle.topology_text.specs.{declared.fault.TopologyCode.{TopologyCode, TheVariants.OutOfMemory}, Value.NamedTopologyValue, Reading.topology_of, Answer.topology_number}
 use Rattle.command_words.specs.declared.{command.SearchWords.SearchWords, fault.WordCode.TheVariants.CustomMismatch}
 use Rattle.report_form.specs.Reports.{WordsValue}
-use Rattle.run_rules.specs.{declared.status.Status.TheVariants.BadTopology, Refusals.{Refusal, refused_as, refused_at, refused_word}}
-use Rattle.run_rules.specs.{Tasks.{root_in, search_asked, searchable}, Steps.{fitting, search_for, search_over, whole_question, words_for}}
+use Rattle.run_rules.specs.{declared.status.Status.TheVariants.BadTopology, Refusals.{Refusal, refused_as, refused_at, refused_word}, Tasks.{root_in, search_asked, searchable}}
+use Rattle.run_rules.specs.Steps.{fitting, search_for, search_over, whole_question, words_for}
 
 -- ---- what can be searched
 

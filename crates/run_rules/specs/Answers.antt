@@ -5,9 +5,8 @@ use Rattle.outer_ports.specs.{Files.Files, Shelf.FilesStay}
 use Rattle.topology_text.specs.Value.{NamedTopologyValue}
 use Rattle.report_form.specs.{Reports.{WordsValue, ReportValue}, Spelling.report_text}
 use Rattle.frontier_audit.specs.{Rights.{IsRight, IsSearched}, OwedFiles.{BreaksOff, KeepsProofs, Proves, TakesUpProofs}}
-use Rattle.run_rules.specs.{declared.status.Status.{Status, TheVariants.Done}, Refusals.{Refusal, refusal_line}, Audits.IsAudited, Tries.Tries}
-use Rattle.run_rules.specs.{Tasks.{Task, Write, Synthesise, Audit, Try, Bound, Order, Degrade}, Bounds.IsBoundAnswer, Orders.IsOrderedAnswer}
-use Rattle.run_rules.specs.Degraded.{IsNewSearch}
+use Rattle.run_rules.specs.{declared.status.Status.{Status, TheVariants.Done}, Refusals.{Refusal, refusal_line}, Audits.IsAudited, Tries.Tries, Tasks.{Task, Write, Synthesise, Audit, Try, Bound, Order, Degrade}, Bounds.IsBoundAnswer}
+use Rattle.run_rules.specs.{Orders.IsOrderedAnswer, Degraded.IsNewSearch}
 pub use Rattle.run_rules.specs.Said.{FilesValue, IsSaid, Says, Stay}
 
 -- a search: the text of one report of these words and this topology, which is right and searched in order, and whose proofs the files are; where proofs are kept, a candidate that was tried and that its files refuted before is refuted, and what refuted any candidate before stands there still; a file that changed is one of its own, and holds the text of the formula, or of lines that are accepted in their turn, or the beginning of such a text

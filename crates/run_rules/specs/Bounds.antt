@@ -4,8 +4,7 @@ use Rattle.outer_ports.specs.declared.part.Part.TheVariants.{Whole}
 use Rattle.text_lines.specs.Text.{text_of}
 use Rattle.candidate_order.specs.Frontiers.{FrontierValue}
 use Rattle.topology_text.specs.{Value.NamedTopologyValue, Spelling.name_at}
-use Rattle.report_form.specs.Reports.{WordsValue, question_of, whole_report}
-use Rattle.report_form.specs.Spelling.{candidate_words, part_words, point_lines, refuted_words, synth_words, unknown_words}
+use Rattle.report_form.specs.{Reports.{WordsValue, question_of, whole_report}, Spelling.{candidate_words, part_words, point_lines, refuted_words, synth_words, unknown_words}}
 use Rattle.frontier_audit.specs.OwedFiles.{BreaksOff, Proves}
 use Rattle.node_cuts.specs.{declared.{floor.Floor.Floor, sets.Sets.Sets}, Floors.floor_of, Sides.has_bit, Cutting.is_cut}
 use Rattle.cut_bounds.specs.Parting.{cuts_among, uncut_among, without_cuts}

@@ -1,10 +1,8 @@
 -- The verdict on a report and the files beside it: claims in their order, and the first that does not hold is denied. This project's own.
 use Rattle.std.specs.Prelude.{◌≡◌, ◌≢◌, ◌⊎◌, not, List, [], ◌∷◌, filter, None, Some}
-use Rattle.outer_ports.specs.{declared.part.Part.{Part, TheVariants.{Reduce, Gather, Joined}}, Files.Files}
-use Rattle.outer_ports.specs.declared.proof_name.FileKind.TheVariants.{Cnf, Lrat, Partial}
+use Rattle.outer_ports.specs.{declared.{part.Part.{Part, TheVariants.{Reduce, Gather, Joined}}, proof_name.FileKind.TheVariants.{Cnf, Lrat, Partial}}, Files.Files}
 use Rattle.schedule.specs.Links.{TopologyValue}
-use Rattle.candidate_order.specs.{declared.candidate.Candidate.Candidate, Costs.Before}
-use Rattle.candidate_order.specs.Frontiers.{QuestionValue, PointValue, UnknownValue, FrontierValue, IsWithin, IsSolvedBy, IsAnswered, IsPoint}
+use Rattle.candidate_order.specs.{declared.candidate.Candidate.Candidate, Costs.Before, Frontiers.{QuestionValue, PointValue, UnknownValue, FrontierValue, IsWithin, IsSolvedBy, IsAnswered, IsPoint}}
 use Rattle.allreduce_join.specs.Joins.{join_of, pairs_of, IsJoin}
 use Rattle.lrat_text.specs.Printing.{cnf_text}
 use Rattle.candidate_formula.specs.{Formulas.formula_for, Files.{file_of, HasRefutation, HasLog}, Pruned.is_cut_away}

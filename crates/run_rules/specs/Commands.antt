@@ -2,8 +2,7 @@
 use Rattle.std.specs.{Prelude.{◌==◌, ℕ, Bool, true, false, IsTrue, List, [], ◌∷◌, Result, Ok, Err}, List.list_any}
 use Rattle.command_words.specs.{declared.{command.Command.Command, fault.WordFault.WordFault}, Words.command_of}
 use Rattle.command_words.specs.declared.command.Command.TheVariants as command
-use Rattle.run_rules.specs.{declared.status.Status.Status, Statuses.status_number}
-use Rattle.run_rules.specs.declared.status.Status.TheVariants.{BadWords, BadTopology, BadReport, TooLarge, NoCandidate, TooLong, BadJson}
+use Rattle.run_rules.specs.{declared.status.Status.{Status, TheVariants.{BadWords, BadTopology, BadReport, TooLarge, NoCandidate, TooLong, BadJson}}, Statuses.status_number}
 
 -- each command reads the source, but `family` and `trial`, which words alone decide
 abbrev pub reads_source : Result Command WordFault → Bool

@@ -4,8 +4,7 @@ use Rattle.outer_ports.specs.declared.part.Part.TheVariants.{Whole}
 use Rattle.text_lines.specs.Text.{text_of}
 use Rattle.candidate_order.specs.{declared.candidate.Candidate.Candidate, Frontiers.FrontierValue}
 use Rattle.topology_text.specs.{Value.NamedTopologyValue, Spelling.lines_of}
-use Rattle.report_form.specs.Reports.{WordsValue, ReportValue, question_of}
-use Rattle.report_form.specs.Spelling.{candidate_words, part_words, point_lines, refuted_words, synth_words, unknown_words}
+use Rattle.report_form.specs.{Reports.{WordsValue, ReportValue, question_of}, Spelling.{candidate_words, part_words, point_lines, refuted_words, synth_words, unknown_words}}
 use Rattle.candidate_formula.specs.Pruned.{is_cut_away}
 use Rattle.engine_search.specs.Found.{IsFound}
 use Rattle.link_faults.specs.{Narrowed.narrowed, Carrying.is_carried}

@@ -3,8 +3,7 @@ use Rattle.std.specs.Prelude.{Bool, true, false, if◌then◌else◌, List, [], 
 use Rattle.command_words.specs.declared.{command.Command.Command, fault.WordFault.WordFault}
 use Rattle.command_words.specs.declared.command.JsonWhat.TheVariants as what
 use Rattle.command_words.specs.declared.command.Command.TheVariants as command
-use Rattle.run_rules.specs.declared.status.Status.{Status, TheVariants.{Done, BadWords, BadTopology, SourceFailed, ShelfFailed, BadReport, Denied, TooLarge, NoCandidate, TooLong, BadJson}}
-use Rattle.run_rules.specs.Commands.{opens_shelf, reads_source}
+use Rattle.run_rules.specs.{declared.status.Status.{Status, TheVariants.{Done, BadWords, BadTopology, SourceFailed, ShelfFailed, BadReport, Denied, TooLarge, NoCandidate, TooLong, BadJson}}, Commands.{opens_shelf, reads_source}}
 
 -- a search changes the files of its candidates
 abbrev pub changes_files : Result Command WordFault → Bool

@@ -3,8 +3,7 @@ use Rattle.std.specs.Prelude.{◌≡◌, Option, None, Some, Result, Ok, Err}
 use Rattle.topology_text.specs.Value.{NamedTopologyValue}
 use Rattle.report_form.specs.Reports.{WordsValue, ReportValue}
 use Rattle.frontier_audit.specs.Searches.{IsAsked}
-use Rattle.run_rules.specs.{declared.{answer.Answer.Answer, report_text.ReportText.{ReportText, TheVariants.{Spelled, Refused}}}, Answers.Says}
-use Rattle.run_rules.specs.{declared.search_text.SearchText.SearchText, Refusals.{Refusal, refusal_line}}
+use Rattle.run_rules.specs.{declared.{answer.Answer.Answer, report_text.ReportText.{ReportText, TheVariants.{Spelled, Refused}}, search_text.SearchText.SearchText}, Answers.Says, Refusals.{Refusal, refusal_line}}
 use Rattle.run_rules.specs.declared.search_text.SearchText.TheVariants as search
 
 -- this is refused, and the answer says so

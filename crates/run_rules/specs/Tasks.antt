@@ -5,24 +5,20 @@ use Rattle.text_lines.specs.Check.{◌>>=◌, refuse, need}
 use Rattle.serde_json.specs.Data.{Data}
 use Rattle.collective_spec.specs.{declared.kind.Kind.{Kind, TheVariants.Allreduce}, Collectives.fits_kind}
 use Rattle.candidate_order.specs.Frontiers.{QuestionValue, PointValue}
-use Rattle.topology_text.specs.{Value.NamedTopologyValue, Answer.topology_number, Reading.{topology_of, node_of}, Family.family_of}
-use Rattle.topology_text.specs.Spelling.{spelling}
-use Rattle.report_form.specs.{declared.fault.ReportCode.ReportCode, Reports.{WordsValue, ReportValue, question_of}, Numbered.point_at, Reading.report_of}
-use Rattle.report_form.specs.{Answer.report_number, Spelling.report_text}
+use Rattle.topology_text.specs.{Value.NamedTopologyValue, Answer.topology_number, Reading.{topology_of, node_of}, Family.family_of, Spelling.spelling}
+use Rattle.report_form.specs.{declared.fault.ReportCode.ReportCode, Reports.{WordsValue, ReportValue, question_of}, Numbered.point_at, Reading.report_of, Answer.report_number, Spelling.report_text}
 use Rattle.round_encoding.specs.Candidates.{size_limit}
 use Rattle.candidate_formula.specs.{Sizes.size_of, Counts.chunk_counts}
 use Rattle.node_programs.specs.Programs.{programs_of}
 use Rattle.replay_text.specs.{Showing.{adding_of, nodes_of, shown_in, shown_text}, Points.programs_of_point}
 use Rattle.json_values.specs.{Answer.json_number, Json.printed, Reading.read_json, TopologyForm.topology as topology_form}
 use Rattle.json_rules.specs.{ReportForm.report as report_form, ProgramsJson.programs_json}
-use Rattle.command_words.specs.declared.command.{JsonWhat.JsonWhat, RootWord.RootWord, SearchWords.SearchWords, PointWord.PointWord, Command.Command}
-use Rattle.command_words.specs.{declared.fault.WordFault.WordFault, Words.command_of}
+use Rattle.command_words.specs.{declared.{command.{JsonWhat.JsonWhat, RootWord.RootWord, SearchWords.SearchWords, PointWord.PointWord, Command.Command}, fault.WordFault.WordFault}, Words.command_of}
 use Rattle.command_words.specs.declared.fault.WordCode.TheVariants.{KeyMissing, UnknownRoot, UnknownPoint, CustomMismatch, ReportNotTaken, UnknownGroup, NotNarrower}
 use Rattle.command_words.specs.declared.command.JsonWhat.TheVariants as what
 use Rattle.command_words.specs.declared.command.Command.TheVariants as command
 use Rattle.node_cuts.specs.declared.sets.Sets.{Sets, TheVariants.{Listed, All}}
-use Rattle.run_rules.specs.{declared.status.Status.TheVariants.{BadTopology, BadReport, TooLarge, NoCandidate, TooLong, BadJson}, Commands.reads_source}
-use Rattle.run_rules.specs.Refusals.{Refusal, refused_at, refused_as, refused_word}
+use Rattle.run_rules.specs.{declared.status.Status.TheVariants.{BadTopology, BadReport, TooLarge, NoCandidate, TooLong, BadJson}, Commands.reads_source, Refusals.{Refusal, refused_at, refused_as, refused_word}}
 
 -- what is to be done, with all that it needs: of a search also whether proofs that stand there are kept, of bounds which sets of nodes are looked at
 pub data Task : Type 0 where

@@ -5,10 +5,9 @@ ghost use Rattle.text_lines.specs.Text.{line};
 ghost use Rattle.command_words.specs.declared.command.Command.{Command};
 ghost use Rattle.outer_ports.specs.Files.{Files};
 ghost use Rattle.report_form.specs.Reports.{ReportValue, IsReport};
-ghost use Rattle.run_rules.specs.{Answers.{FilesValue, IsAnswer, Says}, Audits.{IsAudited, audited}, Refusals.{Refusal, refusal_line}, Commands.IsOneOf, Ends.answers_of, Tasks.task_of};
-ghost use Rattle.frontier_audit.specs.{declared.verdict.AuditVerdict.AuditVerdict, Auditing.audit_of, Rights.{HasLogs, IsRight}, Shelves.ShelfRight};
-ghost use Rattle.run_rules.specs.{Tries.Tries, Claims.IsVerdict, Degraded.IsNewSearch};
+ghost use Rattle.run_rules.specs.{Answers.{FilesValue, IsAnswer, Says}, Audits.{IsAudited, audited}, Refusals.{Refusal, refusal_line}, Commands.IsOneOf, Ends.answers_of, Tasks.task_of, Tries.Tries, Claims.IsVerdict, Degraded.IsNewSearch};
 ghost use Rattle.run_rules.specs.Steps.{verdict_status, verdict_text};
+ghost use Rattle.frontier_audit.specs.{declared.verdict.AuditVerdict.AuditVerdict, Auditing.audit_of, Rights.{HasLogs, IsRight}, Shelves.ShelfRight};
 
 use crate::status::Status;
 

@@ -6,8 +6,7 @@ ghost use Rattle.collective_spec.specs.Collectives.{fits_kind};
 ghost use Rattle.command_words.specs.Commands.{AreSearchWords};
 ghost use Rattle.topology_text.specs.{Answer.topology_number, Reading.node_of};
 ghost use Rattle.report_form.specs.Reports.{IsWords};
-ghost use Rattle.run_rules.specs.{Answers.Says, Read.IsSearchAs, Refusals.{refusal_line, refused_at, refused_word}, Tasks.{limit, root_in, search_asked}};
-ghost use Rattle.run_rules.specs.Steps.{search_for, search_over};
+ghost use Rattle.run_rules.specs.{Answers.Says, Read.IsSearchAs, Refusals.{refusal_line, refused_at, refused_word}, Tasks.{limit, root_in, search_asked}, Steps.{search_for, search_over}};
 
 use crate::OutOfMemory;
 use crate::answer::{Answer, refusal, refused_word};

@@ -6,8 +6,7 @@ ghost use Rattle.topology_text.specs.Family.{family_of};
 ghost use Rattle.report_form.specs.{Spelling.report_text, Rows.{broadcast_report, relay_report}};
 ghost use Rattle.frontier_audit.specs.Rows.{beside_one_step, cnf_of_one_step};
 ghost use Rattle.candidate_formula.specs.Sizes.{size_of};
-ghost use Rattle.run_rules.specs.{Audits.audited, Refusals.{refusal_line, refused_at, refused_word}, Tasks.{Bound, Synthesise, Try, Write, due, searchable}};
-ghost use Rattle.run_rules.specs.Rows.{bounds, broadcast_words, moved_text, search, two_nodes_text};
+ghost use Rattle.run_rules.specs.{Audits.audited, Refusals.{refusal_line, refused_at, refused_word}, Tasks.{Bound, Synthesise, Try, Write, due, searchable}, Rows.{bounds, broadcast_words, moved_text, search, two_nodes_text}};
 
 use crate::status::Status;
 use collective_spec::{Kind, Spec};

@@ -1,6 +1,5 @@
 -- Two or three literals, of which no two are the same; a table of marks that is made longer.
-use Rattle.std.proofs.{Common.{◌≡◌, ◌<◌, ◌≤◌, ℕ, List, length, get_or, sym, ap, ◌∙◌, ⊎_elim, arith, ◌≢◌, AllPairs}, lemmas.Bool.{cases_eq, cases_lt}}
-use Rattle.std.proofs.lemmas.List.{get_or_read, get_or_past}
+use Rattle.std.proofs.{Common.{◌≡◌, ◌<◌, ◌≤◌, ℕ, List, length, get_or, sym, ap, ◌∙◌, ⊎_elim, arith, ◌≢◌, AllPairs}, lemmas.{Bool.{cases_eq, cases_lt}, List.{get_or_read, get_or_past}}}
 use Rattle.cnf_formula.specs.Literals.{LitValue}
 
 -- what stands at two places differs

@@ -1,6 +1,5 @@
 -- Clauses that sleep: where one is woken, and where one more falls asleep.
-use Rattle.std.proofs.Common.{◌≡◌, ℕ, true, false, List, [], ◌∷◌, ◌++◌, length, get_or, set, sym, ⊎_elim, arith, ◌⊎◌}
-use Rattle.std.proofs.lemmas.{Bool.cases_eq, List.{get_or_append_left, get_or_push, length_push, get_or-set_other}}
+use Rattle.std.proofs.{Common.{◌≡◌, ℕ, true, false, List, [], ◌∷◌, ◌++◌, length, get_or, set, sym, ⊎_elim, arith, ◌⊎◌}, lemmas.{Bool.cases_eq, List.{get_or_append_left, get_or_push, length_push, get_or-set_other}}}
 use Rattle.cnf_formula.specs.Literals.{LitValue}
 use Rattle.proof_rules.specs.Held.{Entry}
 use Rattle.sat_core.{specs.inner.Holding.{AreAsleep, IsHeldAs}, proofs.Members.both_more}

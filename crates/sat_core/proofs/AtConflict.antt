@@ -1,15 +1,12 @@
 -- What is learned at a conflict is accepted; and above level 0 no line without a literal is.
-use Rattle.std.proofs.Common.{◌≡◌, ℕ, ◌+◌, ◌<◌, ◌≤◌, Bool, true, List, [], ◌∷◌, length, get_or, take, sym, ap, ◌∙◌, subst, arith, AllPairs, map, filter}
-use Rattle.std.proofs.lemmas.List.Elements.{All-contains}
+use Rattle.std.proofs.{Common.{◌≡◌, ℕ, ◌+◌, ◌<◌, ◌≤◌, Bool, true, List, [], ◌∷◌, length, get_or, take, sym, ap, ◌∙◌, subst, arith, AllPairs, map, filter}, lemmas.List.Elements.All-contains}
 use Rattle.list_laws.proofs.Each.{all_contained}
 use Rattle.cnf_formula.specs.{Literals.{LitValue, negation}, Lines.ProofLineValue, Formulas.IsAbout}
-use Rattle.proof_rules.specs.{Held.CheckerValue, declared.verdict.LineVerdict.TheVariants.Accepted as AcceptedVerdict, Judging.verdict_of, Accepting.Conflicts}
-use Rattle.proof_rules.proofs.Verdicts.{by_implied}
+use Rattle.proof_rules.{specs.{Held.CheckerValue, declared.verdict.LineVerdict.TheVariants.Accepted as AcceptedVerdict, Judging.verdict_of, Accepting.Conflicts}, proofs.Verdicts.by_implied}
 use Rattle.trail_core.specs.{Trails.{StepValue, lits_of}, Meaning.{CoreValue, trues, IsClosed}, Formed.IsTrail}
 use Rattle.conflict_analysis.specs.{Learning.{hints_to, IsAnalysis}, Conflicts.IsConflict}
 use Rattle.sleeping_clauses.specs.{Naming.{name, IsNamed}, Sleeping.{SleepersValue, IsAsleep}}
-use Rattle.sat_core.specs.inner.Holding.{Agree, IsNext}
-use Rattle.sat_core.proofs.{Hinted.{few_named, hints_conflict, leading_numbers, no_groups}, Once.{Apart, consistent_by}, Spent.{no_closing, all_rest}}
+use Rattle.sat_core.{specs.inner.Holding.{Agree, IsNext}, proofs.{Hinted.{few_named, hints_conflict, leading_numbers, no_groups}, Once.{Apart, consistent_by}, Spent.{no_closing, all_rest}}}
 
 -- whatever is resolved, what remains is accepted where it names no variable twice
 pub analysis_accepted : (c : CheckerValue) (core : CoreValue) (names : List ℕ) (s : SleepersValue) (resolved : StepValue → Bool) (conflict : ℕ) (clause : List LitValue) (id : ℕ) → Agree c core names s → IsTrail core.vars core.trail core.limits → IsAnalysis core.clauses core.trail resolved conflict clause → AllPairs Apart clause → IsNext c id

@@ -1,6 +1,5 @@
 -- The cause of a fault, from call to call, and what a fault that is handed on leaves open.
-use Rattle.std.{proofs.Common.{◌≡◌, ℕ, Result, Ok, Err, refl, sym, ap, ◌∙◌, subst, arith, ◌≢◌, IsErrAnd, OnOk}, specs.Result.{IsErr, is_err}}
-use Rattle.std.proofs.lemmas.Bool.{false≢true}
+use Rattle.std.{proofs.{Common.{◌≡◌, ℕ, Result, Ok, Err, refl, sym, ap, ◌∙◌, subst, arith, ◌≢◌, IsErrAnd, OnOk}, lemmas.Bool.false≢true}, specs.Result.{IsErr, is_err}}
 use Rattle.outer_ports.specs.Port.{HasCause}
 use Rattle.ledger_rules.specs.declared.fault.LedgerFault.{LedgerFault}
 use Rattle.ledger_rules.specs.declared.fault.LedgerFault.TheVariants as ledger

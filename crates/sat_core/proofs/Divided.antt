@@ -1,13 +1,11 @@
 -- Some clauses of a core make another, and the others fall asleep: what is held stays held.
-use Rattle.std.proofs.Common.{◌≡◌, ℕ, ◌+◌, ◌<◌, ◌≤◌, true, List, [], ◌∷◌, ◌++◌, length, get_or, sym, ap, ◌∙◌, subst, inl, inr, ⊎_elim, arith, ◌⊎◌, ◌≢◌, AllPairs, Contains, below_more}
-use Rattle.std.proofs.lemmas.{Bool.cases_lt, List.{get_or_append_left, get_or_push, length_push, get_or_default}}
-use Rattle.std.proofs.lemmas.List.Elements.{Contains-push, Contains-append_left}
+use Rattle.std.proofs.{Common.{◌≡◌, ℕ, ◌+◌, ◌<◌, ◌≤◌, true, List, [], ◌∷◌, ◌++◌, length, get_or, sym, ap, ◌∙◌, subst, inl, inr, ⊎_elim, arith, ◌⊎◌, ◌≢◌, AllPairs, Contains, below_more}, lemmas.Bool.cases_lt}
+use Rattle.std.proofs.lemmas.List.{get_or_append_left, get_or_push, length_push, get_or_default, Elements.{Contains-push, Contains-append_left}}
 use Rattle.cnf_formula.specs.{Literals.LitValue, Formulas.FormulaValue, Lines.ProofLineValue}
 use Rattle.ledger_rules.specs.Logs.{checker_of}
 use Rattle.trail_core.specs.Meaning.{CoreValue}
 use Rattle.sleeping_clauses.specs.{declared.awake.Awake.Awake, Sleeping.{SleepersValue, IsAsleep}}
-use Rattle.sat_core.specs.{inner.Dividing.IsDividing, Ready.IsReady}
-use Rattle.sat_core.proofs.{Asleep.{pushed_stays, pushed_sleeps, asleep_more}, Readiness.{named_more, listed_more, ready_moved}}
+use Rattle.sat_core.{specs.{inner.Dividing.IsDividing, Ready.IsReady}, proofs.{Asleep.{pushed_stays, pushed_sleeps, asleep_more}, Readiness.{named_more, listed_more, ready_moved}}}
 
 -- the next clause stays awake
 pub dividing_awake : (clauses : List (List LitValue)) (names : List ℕ) (formula : ℕ) (before : SleepersValue) (k : ℕ) (left left' : List (List LitValue)) (awake awake' : Awake) (now : SleepersValue) (id : ℕ) → IsDividing clauses names formula before k left awake now → k < length clauses

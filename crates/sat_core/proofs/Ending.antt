@@ -1,9 +1,7 @@
 -- Where a search has learned as many lines as may be, they are a spent log; where it closes, there is one line more at most.
-use Rattle.std.proofs.Common.{◌≡◌, ℕ, ◌+◌, ◌≤◌, List, [], ◌∷◌, ◌++◌, length, refl, sym, ap, ◌∙◌, ⊎_elim, arith, ◌↔◌, ◌<◌, IsTrue, Bool, true, false, not}
-use Rattle.std.proofs.lemmas.{Bool.{cases_lt, false≢true}, List.length-append}
+use Rattle.std.proofs.{Common.{◌≡◌, ℕ, ◌+◌, ◌≤◌, List, [], ◌∷◌, ◌++◌, length, refl, sym, ap, ◌∙◌, ⊎_elim, arith, ◌↔◌, ◌<◌, IsTrue, Bool, true, false, not}, lemmas.{Bool.{cases_lt, false≢true}, List.length-append}}
 use Rattle.cnf_formula.specs.{Formulas.FormulaValue, Lines.ProofLineValue, Literals.LitValue}
-use Rattle.proof_rules.specs.{Held.{CheckerValue, start_of, has_none}, Refuting.{is_fresh, with_line, SpentLog}, Learning.AllFresh}
-use Rattle.proof_rules.proofs.InTurn.{are_learned_by}
+use Rattle.proof_rules.{specs.{Held.{CheckerValue, start_of, has_none}, Refuting.{is_fresh, with_line, SpentLog}, Learning.AllFresh}, proofs.InTurn.are_learned_by}
 use Rattle.ledger_rules.specs.Logs.{learned}
 use Rattle.sat_core.specs.Ready.{AreWritten, IsOver}
 

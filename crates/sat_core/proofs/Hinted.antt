@@ -1,7 +1,6 @@
 -- The reasons of the resolved steps in the order of the trail, and then the falsified clause, are a conflict for what remains.
 use Rattle.std.proofs.Common.{◌≡◌, ℕ, ◌+◌, ◌<◌, ◌≤◌, Bool, true, List, [], ◌∷◌, ◌++◌, length, get_or, take, refl, sym, ap, ◌∙◌, subst, inl, inr, ⊎_elim, arith, All, Contains, Some, map, filter, ℤ, pos, ◌⊎◌}
-use Rattle.std.proofs.lemmas.{Bool.{false≢true, cases_Bool}, List.{append-nil, append_assoc, take_at, length-append, length-map, length_push, get_or-append-add}}
-use Rattle.std.proofs.lemmas.List.Elements.{Contains-push_cases, Contains-append_right, All-map, All-push}
+use Rattle.std.proofs.lemmas.{Bool.{false≢true, cases_Bool}, List.{append-nil, append_assoc, take_at, length-append, length-map, length_push, get_or-append-add, Elements.{Contains-push_cases, Contains-append_right, All-map, All-push}}}
 use Rattle.list_laws.proofs.{Each.all_contained, Members.{Contains-cons, Contains-map}, Tests.few_kept}
 use Rattle.cnf_formula.specs.Literals.{LitValue, negation}
 use Rattle.proof_rules.specs.{Held.{Entry, clause_at}, Accepting.{Takes, Falsifies, Conflicts, leading, hint_groups_from}}

@@ -1,15 +1,13 @@
 -- Going back to a level below the last: there the last literal of the clause is open, and all others are false.
-use Rattle.std.proofs.Common.{◌≡◌, ℕ, ◌+◌, ◌-◌, ◌<◌, ◌≤◌, List, [], ◌∷◌, ◌++◌, length, get_or, take, cond, sym, ap, ◌∙◌, subst, inl, inr, ⊎_elim, arith, ◌≢◌, ◌⊎◌, Contains, All, AllPairs, nat_le}
-use Rattle.std.proofs.lemmas.{Bool.cases_lt, List.{get_or-take, get_or_push, length_push, length-take-le, take-map, take_at, take-take, take_more}}
-use Rattle.std.proofs.lemmas.List.{Elements.{Contains-append_left, Contains-push, Contains-push_cases, Contains-get_or, All-contains}, Sums.sum_by-take-le}
+use Rattle.std.proofs.{Common.{◌≡◌, ℕ, ◌+◌, ◌-◌, ◌<◌, ◌≤◌, List, [], ◌∷◌, ◌++◌, length, get_or, take, cond, sym, ap, ◌∙◌, subst, inl, inr, ⊎_elim, arith, ◌≢◌, ◌⊎◌, Contains, All, AllPairs, nat_le}, lemmas.Bool.cases_lt}
+use Rattle.std.proofs.lemmas.List.{get_or-take, get_or_push, length_push, length-take-le, take-map, take_at, take-take, take_more, Elements.{Contains-append_left, Contains-push, Contains-push_cases, Contains-get_or, All-contains}}
+use Rattle.std.proofs.lemmas.List.Sums.{sum_by-take-le}
 use Rattle.list_laws.proofs.Each.{all_contained}
 use Rattle.cnf_formula.specs.{Literals.{LitValue, negation}, Formulas.IsAbout, Lines.ProofLineValue}
-use Rattle.trail_core.specs.{Assigned.{IsFalse, IsOpen, AreLimits, level_at}, Trails.{StepValue, TrailValue}, Search.IsUnit, Formed.IsTrail}
-use Rattle.trail_core.specs.{Meaning.{CoreValue, trues}, Kept.{IsDue, CanAdd, CanAddTo}}
+use Rattle.trail_core.specs.{Assigned.{IsFalse, IsOpen, AreLimits, level_at}, Trails.{StepValue, TrailValue}, Search.IsUnit, Formed.IsTrail, Meaning.{CoreValue, trues}, Kept.{IsDue, CanAdd, CanAddTo}}
 use Rattle.trail_core.proofs.{Trails.{all_counted, level_at_cut}, Keeping.{lits_length, nil_limits, in_front}}
 use Rattle.sat_core.specs.inner.Jumping.{gone_back, IsBacked, HasLevel, AreUpTo, front_of}
-use Rattle.conflict_analysis.specs.{Learned.{IsPointed, IsLearned}, Met.lit_at}
-use Rattle.conflict_analysis.proofs.{Marked.{IsAt, false_at, lit_read, same_place, level_within, level_read}, Levels.{level_below, limits_rise}, Pointed.false_below}
+use Rattle.conflict_analysis.{specs.{Learned.{IsPointed, IsLearned}, Met.lit_at}, proofs.{Marked.{IsAt, false_at, lit_read, same_place, level_within, level_read}, Levels.{level_below, limits_rise}, Pointed.false_below}}
 
 -- what may be added is due
 pub due_by : (t : TrailValue) (clause : List LitValue) → CanAddTo t clause → AreLimits t.limits (length t.steps) → IsDue t.limits t.steps clause

@@ -1,9 +1,8 @@
 -- Clauses of a formula, each literal once, make a core that is ready.
 use Rattle.std.proofs.Common.{◌≡◌, ℕ, ◌+◌, ◌*◌, ◌<◌, ◌≤◌, List, [], ◌∷◌, ◌++◌, length, get_or, take, set, eqb, refl, sym, ap, ◌∙◌, subst, inl, ⊎_elim, arith, ◌≢◌, Contains, Some, All, AllPairs, flat_map}
-use Rattle.std.{specs.List.{enumerate_from, range_with_len}, proofs.lemmas.{Bool.{cases_Bool, eqb-true, eqb-false}, List.Quantifiers.all_pairs_push}}
-use Rattle.std.proofs.lemmas.List.{length_push, get_or_default, take_more, get_or-set_same, get_or-set_other, set-get_or}
+use Rattle.std.proofs.lemmas.{Bool.{cases_Bool, eqb-true, eqb-false}, List.{Quantifiers.all_pairs_push, length_push, get_or_default, take_more, get_or-set_same, get_or-set_other, set-get_or}}
 use Rattle.std.proofs.lemmas.List.FromFn.{length-enumerate_from, get_or-enumerate_from, length-range_with_len, get_or-range_with_len}
-use Rattle.std.proofs.lemmas.List.Elements.{Contains-push, Contains-push_cases, Contains-append_left, Contains-append_right, Contains-get_or, All-push, All-nil, All-cons, All-contains}
+use Rattle.std.{proofs.lemmas.List.Elements.{Contains-push, Contains-push_cases, Contains-append_left, Contains-append_right, Contains-get_or, All-push, All-nil, All-cons, All-contains}, specs.List.{enumerate_from, range_with_len}}
 use Rattle.list_laws.proofs.Each.{all_contained}
 use Rattle.cnf_formula.{specs.{Literals.{LitValue, IsLit, code_of}, Formulas.{FormulaValue, IsAbout, IsClause}}, proofs.Codes.{same_code, code_within}}
 use Rattle.proof_rules.{specs.Held.{Entry, clause_at}, proofs.Numbered.start_numbered}

@@ -1,6 +1,5 @@
 -- A trail that has each variable once is consistent.
-use Rattle.std.proofs.{Common.{◌≡◌, Bool, true, false, List, get_or, sym, ap, ◌∙◌, ⊎_elim, ◌≢◌, AllPairs, not}, lemmas.Bool.{false≢true, cases_order}}
-use Rattle.std.proofs.lemmas.List.{get_or_default}
+use Rattle.std.proofs.{Common.{◌≡◌, Bool, true, false, List, get_or, sym, ap, ◌∙◌, ⊎_elim, ◌≢◌, AllPairs, not}, lemmas.{Bool.{false≢true, cases_order}, List.get_or_default}}
 use Rattle.cnf_formula.specs.Literals.{LitValue, negation}
 use Rattle.trail_core.specs.Assigned.{IsConsistent}
 

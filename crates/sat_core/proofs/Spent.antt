@@ -1,11 +1,8 @@
 -- From a closed trail no hints end in a conflict.
-use Rattle.std.proofs.Common.{◌≡◌, ℕ, true, List, [], ◌∷◌, length, sym, ap, ◌∙◌, subst, inl, inr, ⊎_elim, arith, ◌⊎◌, ◌==◌, Contains, Some}
-use Rattle.std.proofs.lemmas.{Bool.cases_Bool, List.Elements.All-contains}
+use Rattle.std.proofs.{Common.{◌≡◌, ℕ, true, List, [], ◌∷◌, length, sym, ap, ◌∙◌, subst, inl, inr, ⊎_elim, arith, ◌⊎◌, ◌==◌, Contains, Some}, lemmas.{Bool.cases_Bool, List.Elements.All-contains}}
 use Rattle.list_laws.proofs.Members.{Contains-cons}
 use Rattle.cnf_formula.specs.{Literals.{LitValue, negation}, Lines.ProofLineValue}
-use Rattle.proof_rules.specs.{declared.verdict.LineVerdict.TheVariants.Accepted as AcceptedVerdict, Held.{Entry, CheckerValue, clause_at}, Judging.verdict_of}
-use Rattle.proof_rules.specs.Accepting.{IsFalse as IsTaken, Conflicts, leading}
-use Rattle.proof_rules.proofs.Verdicts.{implied_by}
+use Rattle.proof_rules.{specs.{declared.verdict.LineVerdict.TheVariants.Accepted as AcceptedVerdict, Held.{Entry, CheckerValue, clause_at}, Judging.verdict_of, Accepting.{IsFalse as IsTaken, Conflicts, leading}}, proofs.Verdicts.implied_by}
 use Rattle.trail_core.{specs.{Assigned.{IsFalse, IsOpen, IsConsistent}, Search.{IsFalsified, IsUnit}, Meaning.IsClosed}, proofs.Keeping.negated_twice}
 use Rattle.sleeping_clauses.specs.Sleeping.{SleepersValue, IsAsleep}
 use Rattle.sat_core.{specs.inner.Holding.{AreAmongOr, IsSame}, proofs.Members.{stands_by, stands_or_not}}

@@ -1,17 +1,14 @@
 -- The line of a literal of level 0, over plain values: it is accepted, short and fresh.
-use Rattle.std.proofs.Common.{◌≡◌, ℕ, ◌+◌, ◌<◌, ◌≤◌, true, false, Bool, List, [], ◌∷◌, ◌++◌, length, get_or, take, refl, sym, ap, ◌∙◌, subst, ⊎_elim, arith, ◌≢◌, All, AllPairs, Contains, None}
-use Rattle.std.proofs.lemmas.{Bool.false≢true, List.{Elements.{All-push, All-take, Contains-push_cases}, Quantifiers.all_pairs_push}}
-use Rattle.std.proofs.lemmas.List.{length-take-le, length_push, map-append, take-map, get_or-take, get_or_default}
+use Rattle.std.proofs.{Common.{◌≡◌, ℕ, ◌+◌, ◌<◌, ◌≤◌, true, false, Bool, List, [], ◌∷◌, ◌++◌, length, get_or, take, refl, sym, ap, ◌∙◌, subst, ⊎_elim, arith, ◌≢◌, All, AllPairs, Contains, None}, lemmas.Bool.false≢true}
+use Rattle.std.proofs.lemmas.List.{Elements.{All-push, All-take, Contains-push_cases}, Quantifiers.all_pairs_push, length-take-le, length_push, map-append, take-map, get_or-take, get_or_default}
 use Rattle.list_laws.proofs.Each.{all_contained}
 use Rattle.cnf_formula.specs.{Formulas.{FormulaValue, IsAbout}, Literals.{LitValue, negation, code_of}, Lines.ProofLineValue}
 use Rattle.proof_rules.specs.{declared.verdict.LineVerdict.TheVariants.Accepted, Judging.verdict_of, Refuting.is_fresh}
 use Rattle.ledger_rules.specs.Logs.{checker_of}
 use Rattle.trail_core.{specs.{Trails.lits_of, Formed.IsTrail, Meaning.{CoreValue, trues}}, proofs.Keeping.lits_length}
-use Rattle.conflict_analysis.specs.{Met.lit_at, UnitLines.{denied, IsUnitLine}}
-use Rattle.conflict_analysis.proofs.{Marked.{lit_read, lit_about, same_place}, Members.{here, cons_cases}}
+use Rattle.conflict_analysis.{specs.{Met.lit_at, UnitLines.{denied, IsUnitLine}}, proofs.{Marked.{lit_read, lit_about, same_place}, Members.{here, cons_cases}}}
 use Rattle.sleeping_clauses.specs.{Naming.IsNamed, Sleeping.{SleepersValue, HasNone}, declared.awake.Awake.Awake}
-use Rattle.sat_core.specs.{inner.Stating.{AreStated, IsStating}, Ready.IsReady}
-use Rattle.sat_core.proofs.{AtConflict.{line_accepted, line_short}, Fresh.fresh_by, Readiness.{next_number, written_more}}
+use Rattle.sat_core.{specs.{inner.Stating.{AreStated, IsStating}, Ready.IsReady}, proofs.{AtConflict.{line_accepted, line_short}, Fresh.fresh_by, Readiness.{next_number, written_more}}}
 
 -- the core with the trail below a place, and then the negation of its literal
 abbrev denied_core : CoreValue → ℕ → CoreValue

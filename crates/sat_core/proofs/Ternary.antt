@@ -1,13 +1,10 @@
 -- A log of lines whose clauses are stated by none before is shorter than 3 to the number of variables.
 use Rattle.std.proofs.Common.{zero, suc, ◌≡◌, ℕ, ◌+◌, ◌*◌, ◌/◌, ◌<◌, ◌≤◌, ◌^◌, Bool, true, false, eqb, List, [], ◌∷◌, length, refl, sym, ap, ◌∙◌, subst, ⊎_elim, arith, ◌≢◌, Contains, AllPairs, map, not, mul-le-mul_right}
-use Rattle.std.{specs.List.{list_any, IsDistinct, AllByRecursion}, proofs.{Math.Nat.{pow-suc, pow-zero}, lemmas.{List.length-map, Nat.div-mul-add}}}
-use Rattle.std.proofs.lemmas.Bool.{false≢true, cases_Bool, cases_lt, or_cases, or_right, ne_eqb, eqb-true}
-use Rattle.std.proofs.lemmas.{List.Elements.{All-contains, Contains-push, Contains-append_left}, Map.Keys.IsDistinct-cons}
-use Rattle.std.proofs.lemmas.{List.Sums.list_all-from_AllPass, Map.Steps.length-le_from_distinct_below}
+use Rattle.std.proofs.{Math.Nat.{pow-suc, pow-zero}, lemmas.{List.{length-map, Elements.{All-contains, Contains-push, Contains-append_left}}, Nat.div-mul-add, Bool.{false≢true, cases_Bool, cases_lt, or_cases, or_right, ne_eqb, eqb-true}}}
+use Rattle.std.{proofs.lemmas.{Map.{Keys.IsDistinct-cons, Steps.length-le_from_distinct_below}, List.Sums.list_all-from_AllPass}, specs.List.{list_any, IsDistinct, AllByRecursion}}
 use Rattle.list_laws.proofs.Each.{all_contained}
 use Rattle.cnf_formula.specs.{Literals.{LitValue, yes, no, has_literal, is_superset}, Formulas.{FormulaValue, IsAbout, IsClause}, Lines.ProofLineValue}
-use Rattle.proof_rules.specs.{Held.{Entry, CheckerValue, start_of, has_none}, Refuting.{with_line, is_fresh, SpentLog}, Learning.{AllImplied, AllFresh}}
-use Rattle.proof_rules.proofs.{InTurn.learned_in_turn, Verdicts.implied_by}
+use Rattle.proof_rules.{specs.{Held.{Entry, CheckerValue, start_of, has_none}, Refuting.{with_line, is_fresh, SpentLog}, Learning.{AllImplied, AllFresh}}, proofs.{InTurn.learned_in_turn, Verdicts.implied_by}}
 use Rattle.conflict_analysis.proofs.Members.{here}
 use Rattle.sat_core.proofs.{Members.{any_by, found_by, stands_by, not_found}, Once.consistent_by}
 

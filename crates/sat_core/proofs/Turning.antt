@@ -1,16 +1,12 @@
 -- A turn at a conflict, over plain values.
-use Rattle.std.proofs.Common.{◌≡◌, ℕ, Bool, eqb, ◌+◌, ◌-◌, ◌<◌, ◌≤◌, true, List, [], ◌∷◌, ◌++◌, length, get_or, take, sym, ap, ◌∙◌, subst, ⊎_elim, arith, map, false, Contains, AllPairs, ◌≢◌}
-use Rattle.std.proofs.lemmas.Bool.{cases_lt, eqb-false}
+use Rattle.std.proofs.{Common.{◌≡◌, ℕ, Bool, eqb, ◌+◌, ◌-◌, ◌<◌, ◌≤◌, true, List, [], ◌∷◌, ◌++◌, length, get_or, take, sym, ap, ◌∙◌, subst, ⊎_elim, arith, map, false, Contains, AllPairs, ◌≢◌}, lemmas.Bool.{cases_lt, eqb-false}}
 use Rattle.cnf_formula.specs.{Formulas.{FormulaValue, IsClause}, Literals.LitValue, Lines.ProofLineValue, declared.line.LratLine.TheVariants.Addition}
 use Rattle.proof_rules.specs.{declared.verdict.LineVerdict.TheVariants.Accepted, Held.CheckerValue, Judging.verdict_of, Refuting.{is_fresh, Refutes}}
 use Rattle.ledger_rules.specs.Logs.{checker_of}
 use Rattle.trail_core.specs.Meaning.{CoreValue, trues, IsClosed}
 use Rattle.conflict_analysis.specs.{Conflicts.IsConflict, Learned.IsLearned, Met.IsRested}
-use Rattle.sat_core.specs.{inner.{Holding.{Agree, IsNext}, Turning.IsTurn, Jumping.IsBacked, Guided.IsGuided}, declared.guide.Guide.Guide}
-use Rattle.sat_core.specs.Ready.{AreWritten, IsOver}
-use Rattle.sat_core.proofs.{AtConflict.{line_accepted, line_short, no_line_closes}, Fresh.unit_is_fresh}
-use Rattle.sat_core.proofs.Readiness.{IsGrown, next_number, written_more, refuted_by, listed_more}
-use Rattle.sat_core.proofs.Jumping.{pointed_unit, learned_backed, backed_within}
+use Rattle.sat_core.specs.{inner.{Holding.{Agree, IsNext}, Turning.IsTurn, Jumping.IsBacked, Guided.IsGuided}, declared.guide.Guide.Guide, Ready.{AreWritten, IsOver}}
+use Rattle.sat_core.proofs.{AtConflict.{line_accepted, line_short, no_line_closes}, Fresh.unit_is_fresh, Readiness.{IsGrown, next_number, written_more, refuted_by, listed_more}, Jumping.{pointed_unit, learned_backed, backed_within}}
 use Rattle.sleeping_clauses.specs.{Naming.{IsNamed, IsListed}, Sleeping.{SleepersValue, IsAsleep, HasNone, AreFew}, declared.awake.Awake.Awake}
 
 -- what is learned is accepted, short, and fresh above level 0

@@ -1,8 +1,7 @@
 -- What holds between the turns of a search, and where it ends.
 use Rattle.std.specs.Prelude.{◌≡◌, ℕ, ◌+◌, ◌<◌, ◌≤◌, true, List, [], length, get_or, All}
 use Rattle.cnf_formula.specs.{Formulas.FormulaValue, Lines.ProofLineValue}
-use Rattle.proof_rules.specs.{declared.verdict.LineVerdict.TheVariants.Accepted, Held.{CheckerValue, start_of}, Judging.verdict_of}
-use Rattle.proof_rules.specs.Learning.{AllImplied, AllFresh}
+use Rattle.proof_rules.specs.{declared.verdict.LineVerdict.TheVariants.Accepted, Held.{CheckerValue, start_of}, Judging.verdict_of, Learning.{AllImplied, AllFresh}}
 use Rattle.ledger_rules.specs.Logs.{checker_of}
 use Rattle.trail_core.specs.Meaning.{CoreValue}
 use Rattle.sat_core.specs.inner.Holding.{Agree, IsSame}

@@ -3,12 +3,9 @@
 
 ghost use Rattle.std.specs.Prelude.{◌≡◌, ◌≢◌, ◌↔◌, ℕ, ◌+◌, ◌<◌, ◌≤◌, ◌^◌, Bool, true, List, [], ◌∷◌, length, get_or, take, map, Contains, All, AllPairs};
 ghost use Rattle.cnf_formula.specs.{Literals.{LitValue, has_literal}, Lines.ProofLineValue, Formulas.{FormulaValue, IsAbout, Satisfies}};
-ghost use Rattle.proof_rules.specs.{declared.verdict.LineVerdict.TheVariants.Accepted, Held.{Entry, CheckerValue}, Judging.verdict_of, Accepting.Conflicts};
-ghost use Rattle.proof_rules.specs.Refuting.{is_fresh, SpentLog};
-ghost use Rattle.trail_core.specs.{Assigned.IsConsistent, Trails.{StepValue, lits_of}, Search.{IsSatisfied, IsUnit}, Meaning.{CoreValue, trues, IsClosed}};
-ghost use Rattle.trail_core.specs.Formed.{IsTrail};
-ghost use Rattle.sat_core.specs.{inner.{Totals.{IsTotal, AreValues}, Holding.{AreNamed, AreAmongOr, Agree, IsNext}, Hints.numbers_to}, Ready.IsReady};
-ghost use Rattle.sat_core.specs.inner.Measure.{IsLess, remaining};
+ghost use Rattle.proof_rules.specs.{declared.verdict.LineVerdict.TheVariants.Accepted, Held.{Entry, CheckerValue}, Judging.verdict_of, Accepting.Conflicts, Refuting.{is_fresh, SpentLog}};
+ghost use Rattle.trail_core.specs.{Assigned.IsConsistent, Trails.{StepValue, lits_of}, Search.{IsSatisfied, IsUnit}, Meaning.{CoreValue, trues, IsClosed}, Formed.IsTrail};
+ghost use Rattle.sat_core.specs.{inner.{Totals.{IsTotal, AreValues}, Holding.{AreNamed, AreAmongOr, Agree, IsNext}, Hints.numbers_to, Measure.{IsLess, remaining}}, Ready.IsReady};
 ghost use Rattle.conflict_analysis.specs.{Learning.{IsAnalysis, hints_to}, Conflicts.IsConflict, Learned.IsLearned};
 ghost use Rattle.sleeping_clauses.specs.{Naming.{name, IsNamed}, Sleeping.{SleepersValue, IsAsleep, HasNone}, declared.awake.Awake.Awake};
 

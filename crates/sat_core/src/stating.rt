@@ -2,9 +2,8 @@
 //! then have one hint for such a literal, in place of the reasons that led to it.
 
 ghost use Rattle.std.specs.Prelude.{◌≡◌, ◌≢◌, ◌<◌, true, List, [], ◌∷◌, ◌++◌, AllPairs, length, IfOk, IfSome, OnOk, get_or, false};
-ghost use Rattle.sat_core.specs.inner.{Going.{CanSearch, IsSameTrail, IsWrittenOn, StaysReady}, Guided.IsGuided, Stating.{AreStated, AreMarkedOn, IsStating}};
-ghost use Rattle.sat_core.specs.Ready.{IsReady};
-ghost use Rattle.cnf_formula.specs.{Formulas.{FormulaValue, IsClause}, Lines.ProofLineValue, Literals.{code_of}};
+ghost use Rattle.sat_core.specs.{inner.{Going.{CanSearch, IsSameTrail, IsWrittenOn, StaysReady}, Guided.IsGuided, Stating.{AreStated, AreMarkedOn, IsStating}}, Ready.IsReady};
+ghost use Rattle.cnf_formula.specs.{Formulas.{FormulaValue, IsClause}, Lines.ProofLineValue, Literals.code_of};
 ghost use Rattle.sleeping_clauses.specs.Naming.{IsListed};
 ghost use Rattle.outer_ports.specs.Port.{HasCause};
 

@@ -3,8 +3,7 @@
 ghost use Rattle.std.specs.Prelude.{◌≡◌, ◌+◌, ◌<◌, ◌∷◌, ◌++◌, [], true, List, length, IfOk, OnOk};
 ghost use Rattle.cnf_formula.specs.{Formulas.FormulaValue, Lines.ProofLineValue};
 ghost use Rattle.conflict_analysis.specs.Conflicts.{IsConflict};
-ghost use Rattle.sat_core.specs.inner.{Jumping.IsBacked, Turning.{IsTurn, IsTurned}, Guided.IsGuided, Going.{CanSearch, IsWrittenOn}};
-ghost use Rattle.sat_core.specs.Ready.{AreWritten, IsReady};
+ghost use Rattle.sat_core.specs.{inner.{Jumping.IsBacked, Turning.{IsTurn, IsTurned}, Guided.IsGuided, Going.{CanSearch, IsWrittenOn}}, Ready.{AreWritten, IsReady}};
 ghost use Rattle.sleeping_clauses.specs.Sleeping.{sleeping};
 ghost use Rattle.proof_rules.specs.Refuting.{is_fresh};
 ghost use Rattle.ledger_rules.specs.Logs.{checker_of};

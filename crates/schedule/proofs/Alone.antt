@@ -1,8 +1,7 @@
 -- Without links nothing is brought and nothing adds up.
 use Rattle.std.{proofs.Common.{◌≡◌, ℕ, zero, suc, ◌+◌, true, false, List, [], ◌∷◌, length, get_or, refl, sym, ap, ◌∙◌, arith}, specs.List.All}
-use Rattle.schedule.specs.{declared.hop.Hop.Hop, Links.is_usable, Sends.{ScheduleValue, link_of}, Placed.{PlacementValue, holds}, Running.{after, step_of}}
-use Rattle.schedule.specs.{Solving.Solvable, Bags.{Bags, contributions, one_of_each}, Summing.{SummedSolvable, bags_after}}
-use Rattle.schedule.specs.Rows.{at_root, everywhere, plan, two_alone}
+use Rattle.schedule.specs.{declared.hop.Hop.Hop, Links.is_usable, Sends.{ScheduleValue, link_of}, Placed.{PlacementValue, holds}, Running.{after, step_of}, Solving.Solvable, Bags.{Bags, contributions, one_of_each}}
+use Rattle.schedule.specs.{Summing.{SummedSolvable, bags_after}, Rows.{at_root, everywhere, plan, two_alone}}
 
 -- without a group no send has a usable link
 none_usable : (nodes : ℕ) (hops : List Hop) → All (λ h. is_usable (record { nodes = nodes; groups = [] }) (link_of h) ≡ true) hops → hops ≡ []

@@ -1,8 +1,7 @@
 -- Bags keep a count for each node.
-use Rattle.std.proofs.Common.{◌≡◌, ℕ, zero, suc, ◌+◌, Bool, true, false, cond, List, [], ◌∷◌, length, map, Option, Some, None, arith, ◌<◌, get_or, ap, ◌∙◌, refl}
-use Rattle.std.{specs.List.{filter, fold, zip, range_with_len}, proofs.lemmas.{List.{length-map, FromFn.length-map-range_with_len}, Slice.Zip.length-zip}}
-use Rattle.schedule.specs.{declared.hop.Hop.Hop, Sends.ScheduleValue, Bags.{Bag, Bags, added, contributions, one_of_each}}
-use Rattle.schedule.specs.{Summing.{bags_after, goes_to, summed_step}, JoinedRuns.{copied_step, joined_after, replaced}}
+use Rattle.std.proofs.{Common.{◌≡◌, ℕ, zero, suc, ◌+◌, Bool, true, false, cond, List, [], ◌∷◌, length, map, Option, Some, None, arith, ◌<◌, get_or, ap, ◌∙◌, refl}, lemmas.List.{length-map, FromFn.length-map-range_with_len}}
+use Rattle.std.{proofs.lemmas.Slice.Zip.length-zip, specs.List.{filter, fold, zip, range_with_len}}
+use Rattle.schedule.specs.{declared.hop.Hop.Hop, Sends.ScheduleValue, Bags.{Bag, Bags, added, contributions, one_of_each}, Summing.{bags_after, goes_to, summed_step}, JoinedRuns.{copied_step, joined_after, replaced}}
 
 -- each of the bags has so many counts
 abbrev Counted : ℕ → Bags → Type 0

@@ -1,8 +1,7 @@
 -- How many sends a schedule has at most, since each stands in it once.
-use Rattle.std.proofs.Common.{◌≡◌, ℕ, zero, suc, ◌+◌, ◌*◌, ◌<◌, ◌≤◌, ◌^◌, Bool, true, ◌&&◌, ◌||◌, eqb, ltb, List, length, get_or, ◌⊎◌, inl, inr, arith}
-use Rattle.std.{specs.List.{All, AllPairs}, proofs.lemmas.{Bool.{and_parts, or_cases, ltb-true, eqb-true, cases_lt}, List.Elements.All-weaker}}
-use Rattle.schedule.specs.{declared.hop.Hop.Hop, Sends.{ScheduleValue, IsSchedule, IsInRange, hop_before, is_hop_below, link_of}, Tables.IsTabled}
-use Rattle.schedule.proofs.Joining.{IsHopBelow, hop_below}
+use Rattle.std.proofs.{Common.{◌≡◌, ℕ, zero, suc, ◌+◌, ◌*◌, ◌<◌, ◌≤◌, ◌^◌, Bool, true, ◌&&◌, ◌||◌, eqb, ltb, List, length, get_or, ◌⊎◌, inl, inr, arith}, lemmas.Bool.{and_parts, or_cases, ltb-true, eqb-true, cases_lt}}
+use Rattle.std.{proofs.lemmas.List.Elements.All-weaker, specs.List.{All, AllPairs}}
+use Rattle.schedule.{specs.{declared.hop.Hop.Hop, Sends.{ScheduleValue, IsSchedule, IsInRange, hop_before, is_hop_below, link_of}, Tables.IsTabled}, proofs.Joining.{IsHopBelow, hop_below}}
 
 -- each send has its link in a table, and their number fits 32 bits
 pub record IsNarrow (s : ScheduleValue) : Type 0 where

@@ -1,7 +1,6 @@
 -- The first element of a list in order that passes a test.
-use Rattle.std.proofs.Common.{◌≡◌, ℕ, zero, suc, ◌+◌, ◌<◌, ◌≤◌, map, Bool, true, false, List, [], ◌∷◌, ◌++◌, Some, None, ◌⊎◌, inl, inr, refl, ap, subst, ◌∙◌, arith, count_by}
-use Rattle.std.specs.List.{find, filter, list_any, flat_map, range_with_len, AllPairs, AllByRecursion, Contains}
-use Rattle.std.proofs.lemmas.{Bool.{false≢true, or_left, or_right}, List.Elements.{filter_passes, recursion_from_All}}
+use Rattle.std.proofs.{Common.{◌≡◌, ℕ, zero, suc, ◌+◌, ◌<◌, ◌≤◌, map, Bool, true, false, List, [], ◌∷◌, ◌++◌, Some, None, ◌⊎◌, inl, inr, refl, ap, subst, ◌∙◌, arith, count_by}, lemmas.Bool.{false≢true, or_left, or_right}}
+use Rattle.std.{proofs.lemmas.List.Elements.{filter_passes, recursion_from_All}, specs.List.{find, filter, list_any, flat_map, range_with_len, AllPairs, AllByRecursion, Contains}}
 use Rattle.list_laws.proofs.{Members.Contains-cons, Pairs.{pairs_head, pairs_tail}}
 
 -- x is among the elements

@@ -1,10 +1,9 @@
 -- The inverse of a schedule that wastes no send adds everything up at the one holder.
 use Rattle.std.proofs.Common.{◌≡◌, ℕ, zero, suc, ◌+◌, ◌-◌, ◌<◌, Bool, true, false, ◌&&◌, ◌||◌, cond, eqb, List, [], ◌∷◌, length, inl, inr, refl, sym, ap, ◌∙◌, arith, sum_by}
-use Rattle.std.{specs.List.{AllByRecursion, AllPairs, list_any, range_with_len}, proofs.lemmas.Bool.{and_parts, cases_Bool, eqb-true, eq-eqb, false≢true, ne_eqb}}
-use Rattle.std.proofs.lemmas.{Bool.Decides.nat_tests, List.{Elements.recursion_from_All, FromFn.get_or-map-range_with_len}}
+use Rattle.std.proofs.lemmas.{Bool.{and_parts, cases_Bool, eqb-true, eq-eqb, false≢true, ne_eqb, Decides.nat_tests}, List.{Elements.recursion_from_All, FromFn.get_or-map-range_with_len}}
+use Rattle.std.specs.List.{AllByRecursion, AllPairs, list_any, range_with_len}
 use Rattle.list_laws.proofs.{Pairs.{pairs_head, pairs_tail}, Tests.if_so}
-use Rattle.schedule.specs.{declared.hop.Hop.Hop, Sends.{ScheduleValue, IsSchedule, IsInRange, is_hop_below}, Placed.{PlacementValue, holds, same_pair}}
-use Rattle.schedule.specs.{Running.{after, brings}, Solving.Tight}
+use Rattle.schedule.specs.{declared.hop.Hop.Hop, Sends.{ScheduleValue, IsSchedule, IsInRange, is_hop_below}, Placed.{PlacementValue, holds, same_pair}, Running.{after, brings}, Solving.Tight}
 use Rattle.schedule.proofs.{First.each_weaker, Placing.holds-placed, Stepping.{chunks-after, nodes-after}, Returning.{own, returned, returned_more, sends_now}}
 use Rattle.schedule.proofs.Spreading.{IsUseful, Once, back_sum, on_sum, one_step, only_at, reached, spread, sum_alike, sum_at}
 

@@ -1,10 +1,7 @@
 -- Sends in ascending order: the order is total, and a list of different sends has one ascending order.
-use Rattle.std.proofs.Common.{◌≡◌, ℕ, Bool, true, false, ◌&&◌, ◌||◌, eqb, ltb, List, [], ◌∷◌, inl, inr, arith, ◌≢◌}
-use Rattle.std.{specs.List.{AllByRecursion, Sorted.IsPermutation}, proofs.lemmas.Bool.Decides.nat_tests}
-use Rattle.std.proofs.lemmas.Bool.{cases_Bool}
-use Rattle.std.proofs.lemmas.List.{Elements.{All-from_recursion, recursion_from_All}, Sorted.{All-permutation, Contains-permutation, IsPermutation-cons, IsPermutation-middle, IsPermutation-refl, IsPermutation-sym, IsPermutation-trans}}
-use Rattle.schedule.specs.{declared.hop.Hop.Hop, Sends.hop_before, Inverse.{with_hop, in_order}}
-use Rattle.schedule.proofs.{First.{Among, Among-from_Contains, Contains-from_Among, InOrder, each_weaker}, Verdicts.sends_one_way}
+use Rattle.std.proofs.{Common.{◌≡◌, ℕ, Bool, true, false, ◌&&◌, ◌||◌, eqb, ltb, List, [], ◌∷◌, inl, inr, arith, ◌≢◌}, lemmas.{Bool.{Decides.nat_tests, cases_Bool}, List.Elements.{All-from_recursion, recursion_from_All}}}
+use Rattle.std.{proofs.lemmas.List.Sorted.{All-permutation, Contains-permutation, IsPermutation-cons, IsPermutation-middle, IsPermutation-refl, IsPermutation-sym, IsPermutation-trans}, specs.List.{AllByRecursion, Sorted.IsPermutation}}
+use Rattle.schedule.{specs.{declared.hop.Hop.Hop, Sends.hop_before, Inverse.{with_hop, in_order}}, proofs.{First.{Among, Among-from_Contains, Contains-from_Among, InOrder, each_weaker}, Verdicts.sends_one_way}}
 
 -- where neither of two comes first by a number, the number is the same, and what follows decides
 untied : (a b : ℕ) (there back : Bool) → (ltb a b || (eqb a b && there)) ≡ false → (ltb b a || (eqb b a && back)) ≡ false → (a ≡ b) × (there ≡ false) × (back ≡ false)

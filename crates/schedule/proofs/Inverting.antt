@@ -1,12 +1,9 @@
 -- The inverse of a valid schedule is valid, and its inverse is the schedule.
-use Rattle.std.proofs.Common.{◌≡◌, ℕ, zero, suc, true, List, [], ◌∷◌, length, map, inl, inr, refl, sym, ap, ◌∙◌, subst, arith, ◌≢◌, reverse, sum}
-use Rattle.std.{specs.List.{All, AllPairs, AllByRecursion}, proofs.lemmas.{List.{length-reverse, reverse-reverse}}}
-use Rattle.std.proofs.lemmas.List.{Elements.{All-from_recursion, recursion_from_All}, Sorted.{All-permutation, IsPermutation-reverse, sum_by-IsPermutation}}
+use Rattle.std.proofs.{Common.{◌≡◌, ℕ, zero, suc, true, List, [], ◌∷◌, length, map, inl, inr, refl, sym, ap, ◌∙◌, subst, arith, ◌≢◌, reverse, sum}, lemmas.List.{length-reverse, reverse-reverse}}
+use Rattle.std.{proofs.lemmas.List.{Elements.{All-from_recursion, recursion_from_All}, Sorted.{All-permutation, IsPermutation-reverse, sum_by-IsPermutation}}, specs.List.{All, AllPairs, AllByRecursion}}
 use Rattle.list_laws.proofs.Each.{each_map}
-use Rattle.schedule.specs.{declared.hop.Hop.Hop, Sends.{ScheduleValue, IsSchedule, IsInRange, IsRound, IsStep, hop_before, is_hop_below}}
-use Rattle.schedule.specs.Inverse.{inverse_hop, inverse_of}
-use Rattle.schedule.proofs.{First.{Among, InOrder, InOrder-from_pairs, among_each, among_map, map_among}, Verdicts.sends_one_way}
-use Rattle.schedule.proofs.HopOrder.{Apart, among_in_order, ascending_apart, ascends, each_in_order, in_order_among, same_hop}
+use Rattle.schedule.specs.{declared.hop.Hop.Hop, Sends.{ScheduleValue, IsSchedule, IsInRange, IsRound, IsStep, hop_before, is_hop_below}, Inverse.{inverse_hop, inverse_of}}
+use Rattle.schedule.proofs.{First.{Among, InOrder, InOrder-from_pairs, among_each, among_map, map_among}, Verdicts.sends_one_way, HopOrder.{Apart, among_in_order, ascending_apart, ascends, each_in_order, in_order_among, same_hop}}
 
 -- ---- ascending lists of the same sends are the same
 

@@ -1,10 +1,7 @@
 -- A step send by send: what one more of its sends brings.
-use Rattle.std.proofs.Common.{◌≡◌, ℕ, ◌+◌, ◌<◌, ◌≤◌, Bool, true, false, ◌&&◌, ◌||◌, cond, eqb, List, [], ◌∷◌, ◌++◌, length, get_or, take, refl, sym, ap, ◌∙◌, arith}
-use Rattle.std.{specs.List.{list_any, filter}, proofs.lemmas.{Bool.{and_parts, eq-eqb}, List.{take_more, take_all, Folds.list_any-append}}}
-use Rattle.std.proofs.{lemmas.{List.Elements.{All-filter, filter_passes, All-same}, Map.Views.any-filter_same}}
-use Rattle.schedule.specs.{declared.hop.Hop.Hop, Sends.{ScheduleValue, is_hop_below, IsInRange}, Running.{brings, step_of}}
-use Rattle.schedule.specs.Placed.{PlacementValue, same_pair, holds, IsPlacement, with_pair}
-use Rattle.schedule.proofs.Placing.{placed-alike, holds-placed}
+use Rattle.std.proofs.{Common.{◌≡◌, ℕ, ◌+◌, ◌<◌, ◌≤◌, Bool, true, false, ◌&&◌, ◌||◌, cond, eqb, List, [], ◌∷◌, ◌++◌, length, get_or, take, refl, sym, ap, ◌∙◌, arith}, lemmas.{Bool.{and_parts, eq-eqb}, List.{take_more, take_all}}}
+use Rattle.std.{proofs.lemmas.{List.{Folds.list_any-append, Elements.{All-filter, filter_passes, All-same}}, Map.Views.any-filter_same}, specs.List.{list_any, filter}}
+use Rattle.schedule.{specs.{declared.hop.Hop.Hop, Sends.{ScheduleValue, is_hop_below, IsInRange}, Running.{brings, step_of}, Placed.{PlacementValue, same_pair, holds, IsPlacement, with_pair}}, proofs.Placing.{placed-alike, holds-placed}}
 
 -- the numbers of a send are in range
 pub record IsHopBelow (chunks nodes : ℕ) (h : Hop) : Type 0 where

@@ -1,10 +1,7 @@
 -- The load of a group in a step, counted over the sends of the step with a table of the group's links.
-use Rattle.std.proofs.Common.{◌≡◌, ℕ, ◌<◌, ◌^◌, Bool, true, false, ◌&&◌, eqb, cond, List, [], ◌∷◌, length, refl, sym, ap, ◌∙◌, arith}
-use Rattle.std.{specs.List.{filter, count_by, All, AllByRecursion}, proofs.lemmas.List.Sums.{length-filter, count_by-le-length}}
-use Rattle.std.proofs.lemmas.List.Elements.{All-filter, All-same, recursion_from_All}
-use Rattle.schedule.specs.{declared.hop.Hop.Hop, Links.{GroupValue, has_link}, Sends.{ScheduleValue, link_of}, Fitting.load}
-use Rattle.schedule.specs.Tables.{marked_at, Marks, IsTabled}
-use Rattle.schedule.proofs.Few.{IsNarrow}
+use Rattle.std.proofs.{Common.{◌≡◌, ℕ, ◌<◌, ◌^◌, Bool, true, false, ◌&&◌, eqb, cond, List, [], ◌∷◌, length, refl, sym, ap, ◌∙◌, arith}, lemmas.List.Sums.{length-filter, count_by-le-length}}
+use Rattle.std.{proofs.lemmas.List.Elements.{All-filter, All-same, recursion_from_All}, specs.List.{filter, count_by, All, AllByRecursion}}
+use Rattle.schedule.{specs.{declared.hop.Hop.Hop, Links.{GroupValue, has_link}, Sends.{ScheduleValue, link_of}, Fitting.load, Tables.{marked_at, Marks, IsTabled}}, proofs.Few.IsNarrow}
 
 abbrev HasTabledLink : Hop → Type 0
 HasTabledLink h = IsTabled (link_of h)

@@ -1,9 +1,7 @@
 -- A placement by its table of cells: what it holds, and what a cell that is set adds.
-use Rattle.std.proofs.Common.{◌≡◌, ℕ, ◌+◌, ◌*◌, ◌<◌, Bool, true, false, ◌||◌, List, length, get_or, set, replicate, subst, arith}
-use Rattle.std.proofs.lemmas.{Bool.{or_left, cases_Bool, and_from, eq-eqb, both_ways}, List.{get_or-set_same, get_or-set_other, get_or-replicate, get_or_read}}
-use Rattle.std.proofs.lemmas.Nat.{mul-add-lt, same_from_place}
-use Rattle.schedule.specs.{Placed.{PlacementValue, same_pair, holds, IsPlacement, empty_placement, with_pair}, Cells.marked}
-use Rattle.schedule.proofs.Placing.{pair_is, placed-alike, placed-none, holds-placed, placement-placed}
+use Rattle.std.proofs.{Common.{◌≡◌, ℕ, ◌+◌, ◌*◌, ◌<◌, Bool, true, false, ◌||◌, List, length, get_or, set, replicate, subst, arith}, lemmas.Bool.{or_left, cases_Bool, and_from, eq-eqb, both_ways}}
+use Rattle.std.proofs.lemmas.{List.{get_or-set_same, get_or-set_other, get_or-replicate, get_or_read}, Nat.{mul-add-lt, same_from_place}}
+use Rattle.schedule.{specs.{Placed.{PlacementValue, same_pair, holds, IsPlacement, empty_placement, with_pair}, Cells.marked}, proofs.Placing.{pair_is, placed-alike, placed-none, holds-placed, placement-placed}}
 
 abbrev cell : ℕ → List Bool → ℕ × ℕ → Bool
 cell nodes cells pair = get_or cells (pair.0 * nodes + pair.1) false

@@ -1,7 +1,5 @@
 -- Pairs by rows and then by columns: which stand in a grid, and that they stand there in order.
-use Rattle.std.proofs.Common.{◌≡◌, ℕ, zero, suc, ◌+◌, ◌<◌, ◌≤◌, true, List, [], ◌∷◌, map, inl, inr, sym, arith}
-use Rattle.std.specs.List.{list_any, flat_map, range_with_len, AllByRecursion}
-use Rattle.std.proofs.lemmas.Bool.{Decides.nat_tests, or_cases}
+use Rattle.std.{proofs.{Common.{◌≡◌, ℕ, zero, suc, ◌+◌, ◌<◌, ◌≤◌, true, List, [], ◌∷◌, map, inl, inr, sym, arith}, lemmas.Bool.{Decides.nat_tests, or_cases}}, specs.List.{list_any, flat_map, range_with_len, AllByRecursion}}
 use Rattle.schedule.specs.{Failing.pair_before, Placed.{PlacementValue, IsPlacement, same_pair}}
 use Rattle.schedule.proofs.{Placing.{pair_is, pair_itself, in_rows}, First.{Among, InOrder, OneWay, InOrder-append, InOrder-filter, any_among, each_weaker, each_append}}
 

@@ -1,8 +1,6 @@
 -- What a placement holds, when it is given by a test, made empty, or had a pair added; and when two are the same.
-use Rattle.std.proofs.Common.{◌≡◌, ℕ, zero, suc, ◌+◌, ◌<◌, ◌≤◌, Bool, true, false, ◌||◌, ◌&&◌, List, [], ◌∷◌, map, inl, inr, refl, sym, ap, ◌∙◌, arith}
-use Rattle.std.{specs.List.{list_any, flat_map, range_with_len, filter, AllByRecursion}, proofs.lemmas.{List.Folds.list_any-append, Map.Views.any-filter_same}}
-use Rattle.std.proofs.lemmas.Bool.{eq-eqb, and_from, or_left, or_right, cases_eq}
-use Rattle.std.proofs.Math.Bool.{and-true}
+use Rattle.std.proofs.{Common.{◌≡◌, ℕ, zero, suc, ◌+◌, ◌<◌, ◌≤◌, Bool, true, false, ◌||◌, ◌&&◌, List, [], ◌∷◌, map, inl, inr, refl, sym, ap, ◌∙◌, arith}, lemmas.{List.Folds.list_any-append, Map.Views.any-filter_same}}
+use Rattle.std.{proofs.{lemmas.Bool.{eq-eqb, and_from, or_left, or_right, cases_eq}, Math.Bool.and-true}, specs.List.{list_any, flat_map, range_with_len, filter, AllByRecursion}}
 use Rattle.schedule.{specs.Placed.{PlacementValue, same_pair, holds, all_pairs, placed, IsPlacement, empty_placement, with_pair}, proofs.First.each_append}
 
 -- the test on pairs tells them apart

@@ -1,10 +1,8 @@
 -- The bags of an inverse's run, count by count: a step gives each sender back what its receivers had.
-use Rattle.std.proofs.Common.{◌≡◌, ℕ, zero, suc, ◌+◌, ◌-◌, ◌<◌, ◌≤◌, Bool, ◌&&◌, eqb, List, [], ◌∷◌, length, map, get_or, refl, sym, ap, ◌∙◌, subst, arith, filter, fold, sum_by}
-use Rattle.std.{specs.List.AllByRecursion, proofs.lemmas.{List.{Elements.recursion_from_All, Sums.sum_by-cons, Sorted.sum_by-IsPermutation}}}
-use Rattle.std.proofs.Math.Bool.{and_assoc}
+use Rattle.std.proofs.{Common.{◌≡◌, ℕ, zero, suc, ◌+◌, ◌-◌, ◌<◌, ◌≤◌, Bool, ◌&&◌, eqb, List, [], ◌∷◌, length, map, get_or, refl, sym, ap, ◌∙◌, subst, arith, filter, fold, sum_by}, lemmas.List.{Elements.recursion_from_All, Sums.sum_by-cons}}
+use Rattle.std.{proofs.{lemmas.List.Sorted.sum_by-IsPermutation, Math.Bool.and_assoc}, specs.List.AllByRecursion}
 use Rattle.list_laws.proofs.Tests.{if_so}
-use Rattle.schedule.specs.{declared.hop.Hop.Hop, Sends.{ScheduleValue, IsSchedule, IsStep}, Bags.{Bag, Bags, added, contributions}}
-use Rattle.schedule.specs.{Summing.{bags_after, goes_to}, Inverse.{in_order, inverse_hop, inverse_of}}
+use Rattle.schedule.specs.{declared.hop.Hop.Hop, Sends.{ScheduleValue, IsSchedule, IsStep}, Bags.{Bag, Bags, added, contributions}, Summing.{bags_after, goes_to}, Inverse.{in_order, inverse_hop, inverse_of}}
 use Rattle.schedule.proofs.{Bagging.{counted_after, counted_sum}, Spreading.spread, Turning.same_turn, HopOrder.in_order_permutes}
 
 -- ---- counts of sums of bags

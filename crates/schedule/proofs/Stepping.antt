@@ -1,9 +1,7 @@
 -- A run step by step.
-use Rattle.std.proofs.Common.{◌≡◌, ℕ, zero, suc, ◌+◌, ◌<◌, ◌≤◌, List, [], ◌∷◌, ◌++◌, length, get_or, map, refl, arith}
+use Rattle.std.proofs.{Common.{◌≡◌, ℕ, zero, suc, ◌+◌, ◌<◌, ◌≤◌, List, [], ◌∷◌, ◌++◌, length, get_or, map, refl, arith}, lemmas.List.FromFn.{map-range_with_len_more, length-map-range_with_len, get_or-map-range_with_len}}
 use Rattle.std.specs.List.{range_with_len}
-use Rattle.std.proofs.lemmas.List.FromFn.{map-range_with_len_more, length-map-range_with_len, get_or-map-range_with_len}
-use Rattle.schedule.specs.{Sends.{ScheduleValue, IsInRange}, Placed.{PlacementValue, IsPlacement}, Running.{after, step_of, run_of}}
-use Rattle.schedule.proofs.Placing.{placement-placed}
+use Rattle.schedule.{specs.{Sends.{ScheduleValue, IsInRange}, Placed.{PlacementValue, IsPlacement}, Running.{after, step_of, run_of}}, proofs.Placing.placement-placed}
 
 -- a run keeps the numbers of chunks and of nodes
 pub chunks-after : (pre : PlacementValue) (s : ScheduleValue) (n : ℕ) → (after pre s n).chunks ≡ pre.chunks

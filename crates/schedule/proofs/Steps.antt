@@ -1,8 +1,7 @@
 -- The sends of a step stand side by side.
-use Rattle.std.proofs.Common.{◌≡◌, ℕ, ◌+◌, ◌≤◌, Bool, true, false, eqb, ltb, leb, List, [], ◌∷◌, ◌++◌, length, get_or, take, drop, refl, sym, ap, ◌∙◌, arith, length-drop}
+use Rattle.std.proofs.{Common.{◌≡◌, ℕ, ◌+◌, ◌≤◌, Bool, true, false, eqb, ltb, leb, List, [], ◌∷◌, ◌++◌, length, get_or, take, drop, refl, sym, ap, ◌∙◌, arith, length-drop}, lemmas.Bool.Decides.nat_tests}
+use Rattle.std.proofs.lemmas.{Bool.{ltb-true, ltb-false, leb-true, leb-false, eq-eqb, ne_eqb, cases_eq}, List.{append-nil, get_or-take, get_or-drop, take-append-drop, length-take-le, Elements.{filter-append, recursion_from_All}}}
 use Rattle.std.specs.List.{filter, All, AllPairs, AllWithin, AllByRecursion, Sorted.{IsNonDecreasingBy, IsPartitionPoint}}
-use Rattle.std.proofs.lemmas.Bool.{Decides.nat_tests, ltb-true, ltb-false, leb-true, leb-false, eq-eqb, ne_eqb, cases_eq}
-use Rattle.std.proofs.lemmas.List.{append-nil, get_or-take, get_or-drop, take-append-drop, length-take-le, Elements.{filter-append, recursion_from_All}}
 use Rattle.list_laws.proofs.Tests.{filter_none}
 use Rattle.schedule.specs.{declared.hop.Hop.Hop, Sends.hop_before}
 

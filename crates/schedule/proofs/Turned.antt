@@ -1,6 +1,5 @@
 -- A topology whose links are turned round.
-use Rattle.std.proofs.{Common.{◌≡◌, ℕ, ◌+◌, ◌<◌, List, [], ◌∷◌, ◌++◌, length, get_or, map, take, sym, ap, ◌∙◌, arith, ◌≢◌, All}, lemmas.List.Elements.All-map}
-use Rattle.std.proofs.lemmas.List.{take_more, map-append, length-map, get_or-map}
+use Rattle.std.proofs.{Common.{◌≡◌, ℕ, ◌+◌, ◌<◌, List, [], ◌∷◌, ◌++◌, length, get_or, map, take, sym, ap, ◌∙◌, arith, ◌≢◌, All}, lemmas.List.{Elements.All-map, take_more, map-append, length-map, get_or-map}}
 use Rattle.schedule.specs.Links.{GroupValue, TopologyValue, IsLink, IsGroup, IsBelow, IsTopology, turned, reversed_group, reversed_of}
 
 -- one more turn of a loop over a list that pushes a value for each element

@@ -1,11 +1,8 @@
 -- A schedule fits the links turned round exactly where its inverse fits the links.
-use Rattle.std.proofs.Common.{◌≡◌, ℕ, ◌+◌, ◌-◌, ◌*◌, ◌<◌, ◌≤◌, Bool, true, ◌&&◌, cond, eqb, List, [], ◌∷◌, length, get_or, map, refl, sym, ap, ◌∙◌, arith, ◌↔◌, count_by}
-use Rattle.std.{specs.List.{AllByRecursion, list_any}, proofs.lemmas.{List.{length-reverse, get_or-reverse}}}
-use Rattle.std.proofs.{lemmas.List.{Elements.{All-from_recursion, recursion_from_All}, Sums.sum_by-cons, Sorted.sum_by-IsPermutation}}
-use Rattle.schedule.specs.{declared.hop.Hop.Hop, Links.{GroupValue, TopologyValue, has_link, is_usable, reversed_group, reversed_of, turned}, Placed.same_pair}
-use Rattle.schedule.specs.{Sends.{ScheduleValue, IsSchedule, IsStep, link_of}, Fitting.{Fits, load, rounds_at}}
-use Rattle.schedule.specs.Inverse.{in_order, inverse_hop, inverse_of}
-use Rattle.schedule.proofs.{HopOrder.{each_in_order, in_order_permutes}, Inverting.{inverse_inverse, valid_inverse}, Reversing.reversed_twice}
+use Rattle.std.proofs.{Common.{◌≡◌, ℕ, ◌+◌, ◌-◌, ◌*◌, ◌<◌, ◌≤◌, Bool, true, ◌&&◌, cond, eqb, List, [], ◌∷◌, length, get_or, map, refl, sym, ap, ◌∙◌, arith, ◌↔◌, count_by}, lemmas.List.{length-reverse, get_or-reverse}}
+use Rattle.std.{proofs.lemmas.List.{Elements.{All-from_recursion, recursion_from_All}, Sums.sum_by-cons, Sorted.sum_by-IsPermutation}, specs.List.{AllByRecursion, list_any}}
+use Rattle.schedule.specs.{declared.hop.Hop.Hop, Links.{GroupValue, TopologyValue, has_link, is_usable, reversed_group, reversed_of, turned}, Placed.same_pair, Sends.{ScheduleValue, IsSchedule, IsStep, link_of}}
+use Rattle.schedule.{specs.{Fitting.{Fits, load, rounds_at}, Inverse.{in_order, inverse_hop, inverse_of}}, proofs.{HopOrder.{each_in_order, in_order_permutes}, Inverting.{inverse_inverse, valid_inverse}, Reversing.reversed_twice}}
 
 -- ---- links turned round
 

@@ -1,9 +1,8 @@
 -- The usable links, row by row.
-use Rattle.std.proofs.Common.{◌≡◌, ℕ, suc, ◌+◌, ◌≤◌, Bool, cond, List, [], ◌∷◌, ◌++◌, map, sym, ap, ◌∙◌, arith, append_assoc, filter}
-use Rattle.std.{specs.List.range_with_len, proofs.lemmas.List.{Elements.filter-append, FromFn.filter_of_map_range_with_len_more}}
+use Rattle.std.proofs.{Common.{◌≡◌, ℕ, suc, ◌+◌, ◌≤◌, Bool, cond, List, [], ◌∷◌, ◌++◌, map, sym, ap, ◌∙◌, arith, append_assoc, filter}, lemmas.List.{Elements.filter-append, FromFn.filter_of_map_range_with_len_more}}
+use Rattle.std.specs.List.{range_with_len}
 use Rattle.list_laws.proofs.Ranges.{flat_map-range_suc}
-use Rattle.schedule.specs.{Links.{TopologyValue, is_usable, usable_links}, Placed.all_pairs, Tables.{marked_at, Marks}}
-use Rattle.schedule.proofs.Placing.{IsBelow, filter_alike, all_below}
+use Rattle.schedule.{specs.{Links.{TopologyValue, is_usable, usable_links}, Placed.all_pairs, Tables.{marked_at, Marks}}, proofs.Placing.{IsBelow, filter_alike, all_below}}
 
 -- the pairs of one row, with so many columns
 abbrev pub row : ℕ → ℕ → List (ℕ × ℕ)

@@ -1,11 +1,8 @@
 -- What the verdict says, from the first send, the first turn and the first pair that fail.
-use Rattle.std.proofs.Common.{◌≡◌, ℕ, ◌*◌, ◌<◌, ◌≤◌, Bool, true, false, not, ◌&&◌, ◌||◌, eqb, ltb, List, length, get_or, Option, Some, None, refl, sym, ap, ◌∙◌, arith, ◌↔◌}
-use Rattle.std.{specs.List.{find, All}, proofs.lemmas.List.{get_or_default, Elements.{All-from_recursion, recursion_from_All}}}
-use Rattle.std.proofs.lemmas.Bool.{Decides.nat_tests, ltb-true, ltb-false, lt-ltb, le-ltb, not-true, not-false, not_from_true, not_from_false}
-use Rattle.schedule.specs.{declared.{hop.Hop.Hop, verdict.Verdict.Verdict}, Links.{GroupValue, TopologyValue, is_usable}, Running.after}
-use Rattle.schedule.specs.{Sends.{ScheduleValue, IsSchedule, IsStep, hop_before, link_of}, Placed.{PlacementValue, IsPlacement, holds}}
-use Rattle.schedule.specs.Fitting.{Fits, load, rounds_at}
-use Rattle.schedule.specs.Judging.{first_unlinked, first_overfull, first_lacking, group_at, turns, is_overfull, judged, verdict_of}
+use Rattle.std.proofs.{Common.{◌≡◌, ℕ, ◌*◌, ◌<◌, ◌≤◌, Bool, true, false, not, ◌&&◌, ◌||◌, eqb, ltb, List, length, get_or, Option, Some, None, refl, sym, ap, ◌∙◌, arith, ◌↔◌}, lemmas.List.get_or_default}
+use Rattle.std.{proofs.lemmas.{List.Elements.{All-from_recursion, recursion_from_All}, Bool.{Decides.nat_tests, ltb-true, ltb-false, lt-ltb, le-ltb, not-true, not-false, not_from_true, not_from_false}}, specs.List.{find, All}}
+use Rattle.schedule.specs.{declared.{hop.Hop.Hop, verdict.Verdict.Verdict}, Links.{GroupValue, TopologyValue, is_usable}, Running.after, Sends.{ScheduleValue, IsSchedule, IsStep, hop_before, link_of}}
+use Rattle.schedule.specs.{Placed.{PlacementValue, IsPlacement, holds}, Fitting.{Fits, load, rounds_at}, Judging.{first_unlinked, first_overfull, first_lacking, group_at, turns, is_overfull, judged, verdict_of}}
 use Rattle.schedule.specs.Failing.{IsFirstOverfull, pair_before, TellsSolves, TellsNoLink, TellsOverfull, TellsLacking}
 use Rattle.schedule.proofs.First.{Among, InOrder, OneWay, IsFirst, InOrder-from_pairs, Among-from_Contains, Contains-from_Among, among_each, each_weaker, found_first, first_found, found_none, none_found}
 use Rattle.schedule.proofs.Ordered.{IsCell, in_grid, grid_cells, grid_order, pairs_one_way, placement_order, among_from_any, any_from_among}

@@ -1,11 +1,8 @@
 -- A schedule wastes no send where each send moves its chunk and no node is sent a chunk twice.
 use Rattle.std.proofs.Common.{◌≡◌, ℕ, ◌+◌, ◌-◌, ◌<◌, Bool, true, false, ◌&&◌, ◌||◌, not, ltb, List, length, get_or, take, sym, ap, ◌∙◌, subst, arith, AllPairs, Decides}
-use Rattle.std.{specs.List.{list_any, list_all}, proofs.lemmas.Bool.{false≢true, and_parts, and_from, not-true, not_from_false, false_from_ne_true, ltb-true}}
-use Rattle.std.proofs.{lemmas.List.{take_more, get_or-take, get_or_default, length-take, Folds.{list_any_at, list_any_more, list_any_none}}, Math.Bool.or_comm}
-use Rattle.std.proofs.lemmas.List.{FromFn.{get_or-map-range_with_len, length-map-range_with_len}, Quantifiers.all_pairs_push}
-use Rattle.std.proofs.lemmas.List.Sums.{AllPass-from_list_all, list_all-from_AllPass}
-use Rattle.schedule.specs.{declared.hop.Hop.Hop, Placed.{PlacementValue, holds, same_pair, with_pair}, Running.{after, run_of}, Solving.{Tight, moves}}
-use Rattle.schedule.specs.Sends.{ScheduleValue, IsSchedule, IsInRange, is_hop_below}
+use Rattle.std.proofs.lemmas.{Bool.{false≢true, and_parts, and_from, not-true, not_from_false, false_from_ne_true, ltb-true}, List.{take_more, get_or-take, get_or_default, length-take, Folds.{list_any_at, list_any_more, list_any_none}}}
+use Rattle.std.{proofs.{Math.Bool.or_comm, lemmas.List.{FromFn.{get_or-map-range_with_len, length-map-range_with_len}, Quantifiers.all_pairs_push, Sums.{AllPass-from_list_all, list_all-from_AllPass}}}, specs.List.{list_any, list_all}}
+use Rattle.schedule.specs.{declared.hop.Hop.Hop, Placed.{PlacementValue, holds, same_pair, with_pair}, Running.{after, run_of}, Solving.{Tight, moves}, Sends.{ScheduleValue, IsSchedule, IsInRange, is_hop_below}}
 use Rattle.schedule.proofs.{Placing.holds-placed, Stepping.{chunks-after, nodes-after}}
 
 abbrev pub Once : List Hop → Type 0

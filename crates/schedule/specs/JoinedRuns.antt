@@ -1,8 +1,6 @@
 -- Runs that add in their first steps and copy in the later ones: an allreduce as a reducescatter and then an allgather (Cai et al., PPoPP 2021, allreduce; the rule for several senders is this project's own).
-use Rattle.std.specs.Prelude.{◌≡◌, ◌&&◌, ℕ, zero, suc, ◌+◌, ◌<◌, ◌≤◌, max, Bool, not, if◌then◌else◌, nat_le, nat_lt, List, length, map, filter, count_by, find, Option, None, Some, All}
-use Rattle.std.specs.List.{flat_map, range_with_len, reduce}
-use Rattle.schedule.specs.{declared.hop.Hop.Hop, Links.TopologyValue, Sends.ScheduleValue, Placed.all_pairs, Fitting.Fits, Summing.{goes_to, summed_step}}
-use Rattle.schedule.specs.Bags.{Bag, Bags, is_empty, contributions, one_of_each}
+use Rattle.std.specs.{Prelude.{◌≡◌, ◌&&◌, ℕ, zero, suc, ◌+◌, ◌<◌, ◌≤◌, max, Bool, not, if◌then◌else◌, nat_le, nat_lt, List, length, map, filter, count_by, find, Option, None, Some, All}, List.{flat_map, range_with_len, reduce}}
+use Rattle.schedule.specs.{declared.hop.Hop.Hop, Links.TopologyValue, Sends.ScheduleValue, Placed.all_pairs, Fitting.Fits, Summing.{goes_to, summed_step}, Bags.{Bag, Bags, is_empty, contributions, one_of_each}}
 
 -- the nodes that send the chunk to the node in this step, and whose bag is not empty
 abbrev pub filled_senders : List Hop → Bags → ℕ → ℕ × ℕ → List ℕ

@@ -1,7 +1,6 @@
 -- Small topologies, placements and schedules whose runs and verdicts are known.
 use Rattle.std.specs.Prelude.{ℕ, ◌==◌, true, List, [], ◌∷◌}
-use Rattle.schedule.specs.{declared.{hop.Hop.Hop, verdict.Verdict.Verdict}, Links.{GroupValue, TopologyValue}, Sends.ScheduleValue, Judging.verdict_of}
-use Rattle.schedule.specs.Placed.{PlacementValue, placed}
+use Rattle.schedule.specs.{declared.{hop.Hop.Hop, verdict.Verdict.Verdict}, Links.{GroupValue, TopologyValue}, Sends.ScheduleValue, Judging.verdict_of, Placed.{PlacementValue, placed}}
 
 -- a group of one link
 abbrev pub only : ℕ → ℕ → ℕ → GroupValue

@@ -1,7 +1,6 @@
 -- When a schedule solves an instance (Cai et al., PPoPP 2021, section on the synthesis problem).
 use Rattle.std.specs.Prelude.{◌≡◌, ◌&&◌, ℕ, ◌-◌, Bool, true, false, not, length, sum, All, AllPairs}
-use Rattle.schedule.specs.{declared.hop.Hop.Hop, Links.TopologyValue, Sends.{ScheduleValue, IsSchedule, IsInRange}, Placed.{PlacementValue, holds, same_pair}}
-use Rattle.schedule.specs.{Running.after, Fitting.Fits}
+use Rattle.schedule.specs.{declared.hop.Hop.Hop, Links.TopologyValue, Sends.{ScheduleValue, IsSchedule, IsInRange}, Placed.{PlacementValue, holds, same_pair}, Running.after, Fitting.Fits}
 
 -- so many steps and rounds, within the bandwidth, and every pair that is demanded is held at the end
 pub record Solves (t : TopologyValue) (pre post : PlacementValue) (s : ScheduleValue) (steps rounds : ℕ) : Type 0 where

@@ -1,7 +1,6 @@
 -- Schedules that add up: when each demanded chunk ends with one contribution of each node (Cai et al., PPoPP 2021, collectives that combine chunks; the counts are this project's own).
 use Rattle.std.specs.Prelude.{◌≡◌, ◌==◌, ◌&&◌, ℕ, zero, suc, ◌+◌, Bool, List, length, map, filter, fold, sum, All}
-use Rattle.schedule.specs.{declared.hop.Hop.Hop, Links.TopologyValue, Sends.{ScheduleValue, IsSchedule, IsInRange}, Placed.{PlacementValue, same_pair}}
-use Rattle.schedule.specs.{Fitting.Fits, Bags.{Bag, Bags, added, contributions, one_of_each}}
+use Rattle.schedule.specs.{declared.hop.Hop.Hop, Links.TopologyValue, Sends.{ScheduleValue, IsSchedule, IsInRange}, Placed.{PlacementValue, same_pair}, Fitting.Fits, Bags.{Bag, Bags, added, contributions, one_of_each}}
 
 -- the send is one of this step, and goes to this chunk at this node
 abbrev pub goes_to : ℕ → ℕ × ℕ → Hop → Bool

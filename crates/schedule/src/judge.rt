@@ -1,7 +1,6 @@
 ghost use Rattle.std.specs.{Prelude.{◌≡◌, ◌<◌, All, IfOk, None, Option, find, not, true}, List.range_with_len};
-ghost use Rattle.schedule.specs.{Links.{is_usable}, Placed.{holds, lacks}, Running.run_of};
-ghost use Rattle.schedule.specs.Sends.{IsInRange, is_hop_below, link_of};
-ghost use Rattle.schedule.specs.{Failing.{TellsSolves, TellsNoLink, TellsOverfull, TellsLacking}, Judging.{first_overfull, first_unlinked, verdict_of}};
+ghost use Rattle.schedule.specs.{Links.is_usable, Placed.{holds, lacks}, Running.run_of, Sends.{IsInRange, is_hop_below, link_of}, Failing.{TellsSolves, TellsNoLink, TellsOverfull, TellsLacking}};
+ghost use Rattle.schedule.specs.Judging.{first_overfull, first_unlinked, verdict_of};
 
 use crate::OutOfMemory;
 use crate::bandwidth::{first_overfull, load_of};

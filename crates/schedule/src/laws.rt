@@ -1,9 +1,8 @@
 //! Laws of placements, runs and topologies, for those who build on the definitions.
 
 ghost use Rattle.std.specs.Prelude.{◌≡◌, ◌↔◌, ◌<◌, ◌≤◌, ◌||◌, ℕ, Bool, List, None, length, sum, slice_index_or};
-ghost use Rattle.schedule.specs.{Links.{TopologyValue, reversed_of}, Placed.{PlacementValue, HeldByOne, IsPlacement, holds, placed, same_pair, with_pair}};
-ghost use Rattle.schedule.specs.{Running.{after, run_of}, Sends.{ScheduleValue, IsSchedule, IsInRange}, Fitting.Fits, Judging.{first_unlinked, first_overfull}};
-ghost use Rattle.schedule.specs.{Solving.{Solvable, Solves, Tight}, Bags.contributions, Summing.{SummedSolvable, Sums, bags_after}, Inverse.inverse_of};
+ghost use Rattle.schedule.specs.{Links.{TopologyValue, reversed_of}, Placed.{PlacementValue, HeldByOne, IsPlacement, holds, placed, same_pair, with_pair}, Running.{after, run_of}, Sends.{ScheduleValue, IsSchedule, IsInRange}, Fitting.Fits};
+ghost use Rattle.schedule.specs.{Judging.{first_unlinked, first_overfull}, Solving.{Solvable, Solves, Tight}, Bags.contributions, Summing.{SummedSolvable, Sums, bags_after}, Inverse.inverse_of};
 ghost use Rattle.schedule.specs.{JoinedRuns.{Clashes, first_clash, joined_after}, Rows.{at_root, everywhere, two_alone}};
 
 use crate::hop::Hop;

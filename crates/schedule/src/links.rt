@@ -1,6 +1,5 @@
 ghost use Rattle.std.specs.{Prelude.{◌≡◌, ◌<◌, ◌≤◌, ◌^◌, ◌++◌, [], ◌∷◌, if◌then◌else◌, All, count_by, filter, length, map, IfOk, OnOk}, List.range_with_len};
-ghost use Rattle.schedule.specs.{Links.{IsBelow, IsTopology, has_link, is_usable}, Placed.all_pairs, Sends.link_of};
-ghost use Rattle.schedule.specs.Tables.{Marks, AddsLinks, IsTabled, marked_at};
+ghost use Rattle.schedule.specs.{Links.{IsBelow, IsTopology, has_link, is_usable}, Placed.all_pairs, Sends.link_of, Tables.{Marks, AddsLinks, IsTabled, marked_at}};
 
 use crate::OutOfMemory;
 use crate::group::Group;

@@ -1,9 +1,8 @@
 //! Worked rows: what the definitions say of small schedules whose runs are known.
 
 ghost use Rattle.std.specs.Prelude.{◌≡◌, [], ◌∷◌, Some, None, map};
-ghost use Rattle.schedule.specs.{Links.{IsTopology, reversed_of}, Sends.IsSchedule, Placed.{HeldByOne, IsPlacement, empty_placement}, Running.run_of};
-ghost use Rattle.schedule.specs.{Solving.{Solvable, Solves, Tight}, Bags.{contributions, held_at_2, listed, of_placement}, Inverse.inverse_of};
-ghost use Rattle.schedule.specs.Rows.{line_of_2, line_of_3, back_of_2, twice_grouped, only, at_root, everywhere, send, plan, broadcast, ring_broadcast, ring_of_4, ring_reduce, pair_allreduce, met_from_both};
+ghost use Rattle.schedule.specs.{Links.{IsTopology, reversed_of}, Sends.IsSchedule, Placed.{HeldByOne, IsPlacement, empty_placement}, Running.run_of, Solving.{Solvable, Solves, Tight}, Bags.{contributions, held_at_2, listed, of_placement}};
+ghost use Rattle.schedule.specs.{Inverse.inverse_of, Rows.{line_of_2, line_of_3, back_of_2, twice_grouped, only, at_root, everywhere, send, plan, broadcast, ring_broadcast, ring_of_4, ring_reduce, pair_allreduce, met_from_both}};
 ghost use Rattle.schedule.specs.{Summing.{Sums, SummedSolvable, bags_after}, JoinedRuns.{AllSummed, Clashes, first_clash, joined_after, joined_run}};
 
 use crate::verdict::Verdict;

@@ -1,7 +1,6 @@
 -- Pieces of the text, appended one after another.
-use Rattle.std.proofs.Common.{◌≡◌, ℕ, ◌+◌, Bool, true, false, List, [], ◌∷◌, ◌++◌, map, refl, sym, ap, ◌∙◌, append_assoc, arith, ⊎_elim, codes, filter, if◌then◌else◌}
-use Rattle.std.{specs.List.{flat_map, range_with_len}, proofs.lemmas.{Bool.cases_Bool, Grind.flat_map-append, List.{append-nil, map-append, map-id}}}
-use Rattle.std.proofs.lemmas.List.{Elements.filter-append, FromFn.map-range_with_len_more}
+use Rattle.std.proofs.{Common.{◌≡◌, ℕ, ◌+◌, Bool, true, false, List, [], ◌∷◌, ◌++◌, map, refl, sym, ap, ◌∙◌, append_assoc, arith, ⊎_elim, codes, filter, if◌then◌else◌}, lemmas.{Bool.cases_Bool, Grind.flat_map-append}}
+use Rattle.std.{proofs.lemmas.List.{append-nil, map-append, map-id, Elements.filter-append, FromFn.map-range_with_len_more}, specs.List.{flat_map, range_with_len}}
 use Rattle.text_lines.specs.Text.{line, text_of, fields}
 use Rattle.outer_ports.specs.declared.part.Part.TheVariants.{Whole}
 use Rattle.candidate_order.specs.Frontiers.{FrontierValue}

@@ -5,8 +5,7 @@ ghost use Rattle.outer_ports.specs.Port.{HasCause, Tells};
 ghost use Rattle.command_words.specs.Commands.{AreSearchWords};
 ghost use Rattle.candidate_order.specs.Ranges.{unpruned};
 ghost use Rattle.frontier_audit.specs.{OwedFiles.BreaksOff, Searches.IsAsked};
-ghost use Rattle.run_rules.specs.{Answers.{IsAnswer, LeavesOff}, Bounds.IsBoundAnswer, Commands.IsRefusal, Refusals.Refusal, Tasks.{given_sets, limit}};
-ghost use Rattle.run_rules.specs.Steps.{bound_asked};
+ghost use Rattle.run_rules.specs.{Answers.{IsAnswer, LeavesOff}, Bounds.IsBoundAnswer, Commands.IsRefusal, Refusals.Refusal, Tasks.{given_sets, limit}, Steps.bound_asked};
 
 use crate::bound_printing::print_bounds;
 use crate::bound_searching::search_bounds;

@@ -4,8 +4,7 @@ ghost use Rattle.std.specs.Prelude.{◌≡◌, ◌≢◌, ◌≤◌, length, IfO
 ghost use Rattle.outer_ports.specs.Port.{HasCause, Tells};
 ghost use Rattle.command_words.specs.Commands.{AreSearchWords};
 ghost use Rattle.frontier_audit.specs.Searches.{IsAsked};
-ghost use Rattle.run_rules.specs.{Answers.{IsAnswer, IsSearch, LeavesOff}, Commands.IsRefusal, Refusals.Refusal, Tasks.{Synthesise, limit}};
-ghost use Rattle.run_rules.specs.Steps.{synthesis_asked};
+ghost use Rattle.run_rules.specs.{Answers.{IsAnswer, IsSearch, LeavesOff}, Commands.IsRefusal, Refusals.Refusal, Tasks.{Synthesise, limit}, Steps.synthesis_asked};
 
 use command_words::SearchWords;
 use outer_ports::Shelf;

@@ -1,6 +1,5 @@
 -- The numbers from 0 on.
-use Rattle.std.{proofs.Common.{◌≡◌, ◌+◌, ℕ, [], ◌∷◌, ◌++◌, sym, ap, ◌∙◌, arith}, specs.List.range_with_len}
-use Rattle.std.proofs.lemmas.List.{map-id, FromFn.map-range_with_len_more}
+use Rattle.std.{proofs.{Common.{◌≡◌, ◌+◌, ℕ, [], ◌∷◌, ◌++◌, sym, ap, ◌∙◌, arith}, lemmas.List.{map-id, FromFn.map-range_with_len_more}}, specs.List.range_with_len}
 
 pub range_more : (n : ℕ) → range_with_len 0 (n + 1) ≡ range_with_len 0 n ++ n ∷ []
 range_more n = sym (map-id (range_with_len 0 (n + 1))) ∙ map-range_with_len_more (λ x. x) 0 n n (omega arith) ∙ ap (λ xs. xs ++ n ∷ []) (map-id (range_with_len 0 n))

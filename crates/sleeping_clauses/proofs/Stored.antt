@@ -1,6 +1,5 @@
 -- The tables of clauses that sleep, where one more falls asleep.
-use Rattle.std.proofs.Common.{◌≡◌, ◌≤◌, ℕ, ◌+◌, ◌*◌, Bool, true, List, [], ◌∷◌, ◌++◌, length, get_or, cond, arith, ◌≢◌, AllPairs, Contains, count_by}
-use Rattle.std.proofs.lemmas.List.{length_push, Sums.sum_by_push}
+use Rattle.std.proofs.{Common.{◌≡◌, ◌≤◌, ℕ, ◌+◌, ◌*◌, Bool, true, List, [], ◌∷◌, ◌++◌, length, get_or, cond, arith, ◌≢◌, AllPairs, Contains, count_by}, lemmas.List.{length_push, Sums.sum_by_push}}
 use Rattle.list_laws.proofs.Places.{by_place_push}
 use Rattle.cnf_formula.specs.Literals.{LitValue, code_of}
 use Rattle.sleeping_clauses.specs.{declared.sleepers.Led.Led, Sleeping.{list_at, IsLed, AreStored}}

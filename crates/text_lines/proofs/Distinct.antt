@@ -1,8 +1,6 @@
 -- Lists whose elements differ, as they are read one after another.
-use Rattle.std.{proofs.Common.{◌≡◌, ◌≢◌, ℕ, ◌<◌, Bool, false, List, [], ◌∷◌, ◌++◌, length, get_or, refl, sym, ◌∙◌, subst, arith}, specs.Bool.Decides}
-use Rattle.std.proofs.lemmas.{Grind.common_steps, Bool.Decides.nat_tests}
-use Rattle.std.{specs.List.{All, AllPairs, list_any}, proofs.lemmas.{Bool.{both_ways, false_from_ne_true}, List.{length-append, get_or_append_left, get_or_at}}}
-use Rattle.std.proofs.lemmas.List.{Quantifiers.all_pairs_push, Folds.{list_any_at, list_any_none}}
+use Rattle.std.proofs.{Common.{◌≡◌, ◌≢◌, ℕ, ◌<◌, Bool, false, List, [], ◌∷◌, ◌++◌, length, get_or, refl, sym, ◌∙◌, subst, arith}, lemmas.{Grind.common_steps, Bool.{Decides.nat_tests, both_ways, false_from_ne_true}}}
+use Rattle.std.{proofs.lemmas.List.{length-append, get_or_append_left, get_or_at, Quantifiers.all_pairs_push, Folds.{list_any_at, list_any_none}}, specs.{Bool.Decides, List.{All, AllPairs, list_any}}}
 
 -- each two elements differ
 abbrev pub AreDistinct : {A : Type 0} → List A → Type 0

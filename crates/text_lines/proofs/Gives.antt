@@ -1,7 +1,6 @@
 -- What a reader gives: the lines of a valid value, or a fault behind the first lines of one.
 use Rattle.std.proofs.Common.{◌≡◌, ℕ, zero, suc, ◌+◌, ◌-◌, Bool, true, false, List, [], ◌∷◌, ◌++◌, map, length, take, Option, Some, Result, Ok, Err, ◌⊎◌, inl, inr, refl, sym, ap, ◌∙◌, subst, append_assoc, arith, if◌then◌else◌, flat_map}
-use Rattle.std.proofs.lemmas.{Grind.common_steps, Bool.Decides.nat_tests}
-use Rattle.std.proofs.{Math.Seq.take-append_seam, lemmas.List.{append-nil, length-append, length-map, map-append}}
+use Rattle.std.proofs.{lemmas.{Grind.common_steps, Bool.Decides.nat_tests, List.{append-nil, length-append, length-map, map-append}}, Math.Seq.take-append_seam}
 use Rattle.text_lines.specs.{Text.{Row, Place}, Check.{◌>>=◌, first, line_part}, Repeated.{row_begins, lines_at, parts_from, parts_at}}
 use Rattle.text_lines.proofs.{Checks.{bind_ok, bind_err, part_ok, part_err_at, first_is, ok_is}, Repeated.{line_by, lines_are_parts}, Rows.row_of}
 

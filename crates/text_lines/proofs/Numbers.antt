@@ -1,10 +1,7 @@
 -- Which numbers a token spells.
-use Rattle.std.proofs.Common.{◌≡◌, ◌≢◌, ℕ, ◌+◌, ◌-◌, ◌*◌, ◌^◌, ◌<◌, ◌≤◌, List, length, get_or, take, None, Some, sym, ap, ◌∙◌, arith, decimal, bytes_eq}
-use Rattle.std.proofs.lemmas.Grind.{common_steps}
-use Rattle.std.{specs.{Char.digit_value, Str.Parse.{AllDigits, digits_value}}, proofs.lemmas.{Bool.Decides.nat_tests, Slice.Eq.bytes_eq-Decides}}
-use Rattle.std.proofs.lemmas.{Bool.{and_parts, and_from, leb-true, le-leb, cases_lt, cond-true, cond-false, false_from_ne_true}, Int.Digits.digits_value_more}
-use Rattle.std.proofs.lemmas.Str.Parse.{numerals_by_value, tells_digits, digit_at, digits_value-take-le}
-use Rattle.std.proofs.lemmas.Fmt.{decimal_is_IsNumeral, decimal_nonempty, first_decimal, decimal_digit, decimal-digits_value}
+use Rattle.std.proofs.{Common.{◌≡◌, ◌≢◌, ℕ, ◌+◌, ◌-◌, ◌*◌, ◌^◌, ◌<◌, ◌≤◌, List, length, get_or, take, None, Some, sym, ap, ◌∙◌, arith, decimal, bytes_eq}, lemmas.{Grind.common_steps, Bool.Decides.nat_tests, Slice.Eq.bytes_eq-Decides}}
+use Rattle.std.proofs.lemmas.{Bool.{and_parts, and_from, leb-true, le-leb, cases_lt, cond-true, cond-false, false_from_ne_true}, Int.Digits.digits_value_more, Str.Parse.{numerals_by_value, tells_digits, digit_at, digits_value-take-le}}
+use Rattle.std.{proofs.lemmas.Fmt.{decimal_is_IsNumeral, decimal_nonempty, first_decimal, decimal_digit, decimal-digits_value}, specs.{Char.digit_value, Str.Parse.{AllDigits, digits_value}}}
 use Rattle.text_lines.specs.Number.{number_up_to}
 
 pub value_of_decimal : (n : ℕ) → n < 2 ^ 64 → digits_value 10 (decimal n) ≡ n

@@ -1,8 +1,6 @@
 -- Lines that are spelled are read, one by one, many of a kind, and many parts of a kind.
-use Rattle.std.proofs.Common.{◌≡◌, ℕ, zero, suc, ◌+◌, ◌≤◌, Bool, true, false, List, [], ◌∷◌, ◌++◌, map, length, Option, Some, Result, Ok, refl, sym, ap, ◌∙◌, subst, append_assoc, arith, flat_map, if◌then◌else◌}
-use Rattle.std.proofs.lemmas.List.{append-nil}
-use Rattle.text_lines.specs.{Text.{Row, Place}, Check.{◌>>=◌, at_line, first, line_part}, Repeated.{begins, row_begins, lines_from, parts_from}}
-use Rattle.text_lines.proofs.{Gives.rows_split, Repeated.place, Rows.row_of}
+use Rattle.std.proofs.{Common.{◌≡◌, ℕ, zero, suc, ◌+◌, ◌≤◌, Bool, true, false, List, [], ◌∷◌, ◌++◌, map, length, Option, Some, Result, Ok, refl, sym, ap, ◌∙◌, subst, append_assoc, arith, flat_map, if◌then◌else◌}, lemmas.List.append-nil}
+use Rattle.text_lines.{specs.{Text.{Row, Place}, Check.{◌>>=◌, at_line, first, line_part}, Repeated.{begins, row_begins, lines_from, parts_from}}, proofs.{Gives.rows_split, Repeated.place, Rows.row_of}}
 
 -- ---- what was read, and the lines that are left, at whatever number they stand
 

@@ -1,8 +1,6 @@
 -- Lines that repeat are parts of one line each, and parts that repeat go on behind the one before.
-use Rattle.std.proofs.Common.{◌≡◌, ℕ, zero, suc, ◌+◌, ◌<◌, ◌≤◌, Bool, true, false, List, [], ◌∷◌, ◌++◌, length, drop, Option, Some, Result, Ok, Err, refl, ap, ◌∙◌, arith, if◌then◌else◌}
-use Rattle.std.proofs.lemmas.{Grind.common_steps, Bool.Decides.nat_tests}
-use Rattle.text_lines.specs.{Text.{Row, Place, behind}, Check.{◌>>=◌, at_line, first, line_part}, Repeated.{begins, row_begins, lines_from, lines_at, parts_from, parts_at}}
-use Rattle.text_lines.proofs.Checks.{first_is, part_ok, after_line}
+use Rattle.std.proofs.{Common.{◌≡◌, ℕ, zero, suc, ◌+◌, ◌<◌, ◌≤◌, Bool, true, false, List, [], ◌∷◌, ◌++◌, length, drop, Option, Some, Result, Ok, Err, refl, ap, ◌∙◌, arith, if◌then◌else◌}, lemmas.{Grind.common_steps, Bool.Decides.nat_tests}}
+use Rattle.text_lines.{specs.{Text.{Row, Place, behind}, Check.{◌>>=◌, at_line, first, line_part}, Repeated.{begins, row_begins, lines_from, lines_at, parts_from, parts_at}}, proofs.Checks.{first_is, part_ok, after_line}}
 
 abbrev pub place : ℕ → List Row → Place
 place n rows = record { number = n; rows = rows }

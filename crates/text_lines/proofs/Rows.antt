@@ -1,11 +1,8 @@
 -- How a text falls into lines, and a line into tokens, and how they give the text back.
-use Rattle.std.proofs.Common.{◌≡◌, ◌≢◌, ℕ, ◌+◌, ◌-◌, ◌<◌, ◌≤◌, Bool, true, false, eqb, List, [], ◌∷◌, ◌++◌, map, length, get_or, drop, slice_range, refl, sym, ap, ◌∙◌, arith}
-use Rattle.std.{specs.List.{All, AllByRecursion, flat_map, join_with_byte, slice_split}, proofs.lemmas.{Bool.{ne_eqb, eq-eqb, eqb-true}, List.Folds.drop_split}}
-use Rattle.std.proofs.lemmas.List.{append_assoc, length-take, length-drop, drop_all, drop_more, take_rest}
-use Rattle.std.proofs.lemmas.List.Elements.{All-nil, All-cons, All-head, All-tail, All-append, All-weaker}
-use Rattle.std.proofs.lemmas.List.Splits.{slice_split_none, slice_split_at, join_with_byte-slice_split}
-use Rattle.text_lines.specs.Text.{Row, onto_row, rows_of, row_text, StartsLine, words_of, StartsToken, line, text_of}
-use Rattle.text_lines.proofs.Cut.{IsApart, no_separator, cut_at}
+use Rattle.std.proofs.{Common.{◌≡◌, ◌≢◌, ℕ, ◌+◌, ◌-◌, ◌<◌, ◌≤◌, Bool, true, false, eqb, List, [], ◌∷◌, ◌++◌, map, length, get_or, drop, slice_range, refl, sym, ap, ◌∙◌, arith}, lemmas.Bool.{ne_eqb, eq-eqb, eqb-true}}
+use Rattle.std.proofs.lemmas.List.{Folds.drop_split, append_assoc, length-take, length-drop, drop_all, drop_more, take_rest, Elements.{All-nil, All-cons, All-head, All-tail, All-append, All-weaker}}
+use Rattle.std.{proofs.lemmas.List.Splits.{slice_split_none, slice_split_at, join_with_byte-slice_split}, specs.List.{All, AllByRecursion, flat_map, join_with_byte, slice_split}}
+use Rattle.text_lines.{specs.Text.{Row, onto_row, rows_of, row_text, StartsLine, words_of, StartsToken, line, text_of}, proofs.Cut.{IsApart, no_separator, cut_at}}
 
 abbrev pub row : List ℕ → Bool → Row
 row bytes whole = record { bytes = bytes; whole = whole }

@@ -1,9 +1,7 @@
 -- Readers that fail alike where their lines are the same, and how they are put together.
-use Rattle.std.proofs.Common.{◌≡◌, ℕ, zero, suc, ◌+◌, ◌-◌, ◌≤◌, Bool, true, false, List, [], ◌∷◌, ◌++◌, length, drop, take, Option, Some, Result, Ok, Err, refl, sym, ap, ◌∙◌, subst, arith, if◌then◌else◌}
-use Rattle.std.proofs.lemmas.List.{drop-take}
+use Rattle.std.proofs.{Common.{◌≡◌, ℕ, zero, suc, ◌+◌, ◌-◌, ◌≤◌, Bool, true, false, List, [], ◌∷◌, ◌++◌, length, drop, take, Option, Some, Result, Ok, Err, refl, sym, ap, ◌∙◌, subst, arith, if◌then◌else◌}, lemmas.List.drop-take}
 use Rattle.text_lines.specs.{Text.{Row, Place, behind}, Check.{◌>>=◌, first, line_part}, Repeated.{row_begins, lines_at, parts_at}}
-use Rattle.text_lines.proofs.{Checks.{bind_ok, part_ok, part_err_at}, Gives.{Gives, gives_done, gives_like, gives_then}}
-use Rattle.text_lines.proofs.Repeated.{line_by, lines_are_parts, Shortens, line_shortens, parts_on, parts_behind, parts_turn}
+use Rattle.text_lines.proofs.{Checks.{bind_ok, part_ok, part_err_at}, Gives.{Gives, gives_done, gives_like, gives_then}, Repeated.{line_by, lines_are_parts, Shortens, line_shortens, parts_on, parts_behind, parts_turn}}
 
 -- ---- lines that are the same
 

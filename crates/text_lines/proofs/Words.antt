@@ -1,9 +1,7 @@
 -- The words that lines are made of.
-use Rattle.std.proofs.Common.{◌≡◌, ℕ, ◌^◌, ◌<◌, Bool, true, false, ◌&&◌, not, eqb, List, [], ◌∷◌, ◌++◌, length, get_or, drop, refl, sym, ap, ◌∙◌, arith, decimal, nat_eq, nat_lt}
-use Rattle.std.{specs.List.{AllByRecursion, flat_map, join_with_byte, list_any, list_all, starts_with}, proofs.lemmas.Bool.Decides.Decides-eqb}
-use Rattle.std.proofs.lemmas.{Bool.{and_parts, ltb-true, ne_eqb, or_from, not-true}, Fmt.{decimal_is_IsNumeral, decimal_nonempty}, List.Splits.slice_split_at}
-use Rattle.std.proofs.lemmas.List.{append-nil, append_assoc, Elements.{All-append, All-weaker, All-from_get_or}, Sums.AllPass-from_list_all}
-use Rattle.std.proofs.lemmas.{Slice.Eq.starts_is, Str.Parse.digit_at}
+use Rattle.std.proofs.{Common.{◌≡◌, ℕ, ◌^◌, ◌<◌, Bool, true, false, ◌&&◌, not, eqb, List, [], ◌∷◌, ◌++◌, length, get_or, drop, refl, sym, ap, ◌∙◌, arith, decimal, nat_eq, nat_lt}, lemmas.Bool.Decides.Decides-eqb}
+use Rattle.std.proofs.lemmas.{Bool.{and_parts, ltb-true, ne_eqb, or_from, not-true}, Fmt.{decimal_is_IsNumeral, decimal_nonempty}, List.{Splits.slice_split_at, append-nil, append_assoc, Elements.{All-append, All-weaker, All-from_get_or}}}
+use Rattle.std.{proofs.lemmas.{List.Sums.AllPass-from_list_all, Slice.Eq.starts_is, Str.Parse.digit_at}, specs.List.{AllByRecursion, flat_map, join_with_byte, list_any, list_all, starts_with}}
 use Rattle.text_lines.{specs.Text.words_of, proofs.Rows.{IsToken, AreTokens}}
 
 -- a token that isn't empty

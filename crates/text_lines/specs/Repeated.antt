@@ -1,6 +1,5 @@
 -- Lines, and parts of several lines, that repeat: each begins with a word, and the first line that doesn't begin so stays to be read.
-use Rattle.std.specs.Prelude.{ℕ, ◌+◌, zero, suc, Bool, false, if◌then◌else◌, List, [], ◌∷◌, ◌++◌, length, Option, None, Some, Result, Ok, nat_eq}
-use Rattle.std.specs.List.{starts_with}
+use Rattle.std.specs.{Prelude.{ℕ, ◌+◌, zero, suc, Bool, false, if◌then◌else◌, List, [], ◌∷◌, ◌++◌, length, Option, None, Some, Result, Ok, nat_eq}, List.starts_with}
 use Rattle.text_lines.specs.{Text.{Row, Place}, Check.{◌>>=◌, at_line, first}}
 
 -- the line begins with the word

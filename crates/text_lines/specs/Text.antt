@@ -1,6 +1,5 @@
 -- A text as its lines, and a line as its tokens; and how lines and tokens are spelled.
-use Rattle.std.specs.Prelude.{◌≡◌, ℕ, ◌+◌, ◌==◌, Bool, true, false, if◌then◌else◌, List, [], ◌∷◌, ◌++◌, length, drop}
-use Rattle.std.specs.List.{slice_split, flat_map, join_with_byte}
+use Rattle.std.specs.{Prelude.{◌≡◌, ℕ, ◌+◌, ◌==◌, Bool, true, false, if◌then◌else◌, List, [], ◌∷◌, ◌++◌, length, drop}, List.{slice_split, flat_map, join_with_byte}}
 
 -- a line without its line feed, and whether one ended it
 pub record Row : Type 0 where

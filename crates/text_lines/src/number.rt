@@ -1,7 +1,6 @@
 //! Numbers in canonical decimal, and the words of a text that is written.
 
-ghost use Rattle.std.specs.{Prelude.{◌≡◌, ◌≢◌, ℕ, ◌+◌, ◌*◌, ◌^◌, ◌<◌, ◌≤◌, ◌++◌, IfSome, IfNone, OnOk, OnErr, decimal}, Char.digit_value};
-ghost use Rattle.std.specs.Str.Parse.{AllDigits, digits_value};
+ghost use Rattle.std.specs.{Prelude.{◌≡◌, ◌≢◌, ℕ, ◌+◌, ◌*◌, ◌^◌, ◌<◌, ◌≤◌, ◌++◌, IfSome, IfNone, OnOk, OnErr, decimal}, Char.digit_value, Str.Parse.{AllDigits, digits_value}};
 ghost use Rattle.text_lines.specs.Number.{number_up_to};
 
 use crate::digits::push_number_reserved;

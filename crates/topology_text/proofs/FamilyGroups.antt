@@ -1,9 +1,7 @@
 -- The groups of families.
 use Rattle.std.proofs.Common.{◌≡◌, ◌≢◌, ℕ, zero, suc, ◌+◌, ◌*◌, ◌/◌, ◌%◌, ◌<◌, ◌≤◌, Bool, true, false, ◌&&◌, ◌||◌, cond, eqb, not, List, [], ◌∷◌, ◌++◌, map, length, get_or, refl, sym, ap, ◌∙◌, subst, append_assoc, arith}
-use Rattle.std.{specs.List.{All, filter, list_any, range_with_len}, proofs.lemmas.{Bool.{eq-eqb, ne_eqb}, Nat.{div-mul-add, mod-mul-add, mul-le}}}
-use Rattle.std.proofs.lemmas.List.{length-append, length-map, Elements.{All-nil, All-cons, All-append, All-map, All-filter, All-weaker, All-from_get_or}}
-use Rattle.std.proofs.lemmas.List.FromFn.{get_or-range_with_len, map-range_with_len_more, length-map-range_with_len, length-range_with_len}
-use Rattle.std.proofs.lemmas.List.Kept.{AllPairs-filter}
+use Rattle.std.proofs.lemmas.{Bool.{eq-eqb, ne_eqb}, Nat.{div-mul-add, mod-mul-add, mul-le}, List.{length-append, length-map, Elements.{All-nil, All-cons, All-append, All-map, All-filter, All-weaker, All-from_get_or}}}
+use Rattle.std.{proofs.lemmas.List.{FromFn.{get_or-range_with_len, map-range_with_len_more, length-map-range_with_len, length-range_with_len}, Kept.AllPairs-filter}, specs.List.{All, filter, list_any, range_with_len}}
 use Rattle.list_laws.proofs.Tests.{few_kept}
 use Rattle.schedule.specs.{Links.{GroupValue, IsLink, IsBelow, IsGroup, turned}, Placed.same_pair}
 use Rattle.topology_text.specs.declared.family_kind.FamilyKind.{FamilyKind, TheVariants.{Complete, Shared, Mesh, Switch, Boxes}}

@@ -1,11 +1,9 @@
 -- Families are topologies.
-use Rattle.std.proofs.Common.{◌≡◌, ℕ, ◌+◌, ◌<◌, true, List, [], ◌∷◌, ◌++◌, map, drop, None, Some, refl, ap, ◌∙◌, subst, arith}
-use Rattle.std.{specs.{Fmt.digits, List.{list_all, range_with_len}}, proofs.lemmas.List.{length-map, Elements.{All-get_or, All-from_get_or}}}
-use Rattle.std.proofs.lemmas.List.FromFn.{get_or-range_with_len, get_or-map-range_with_len, map-range_with_len_more, length-range_with_len}
-use Rattle.std.proofs.lemmas.{List.Sums.AllPass-from_list_all, Fmt.decimal_injective}
+use Rattle.std.proofs.{Common.{◌≡◌, ℕ, ◌+◌, ◌<◌, true, List, [], ◌∷◌, ◌++◌, map, drop, None, Some, refl, ap, ◌∙◌, subst, arith}, lemmas.List.{length-map, Elements.{All-get_or, All-from_get_or}}}
+use Rattle.std.proofs.lemmas.{List.{FromFn.{get_or-range_with_len, get_or-map-range_with_len, map-range_with_len_more, length-range_with_len}, Sums.AllPass-from_list_all}, Fmt.decimal_injective}
+use Rattle.std.specs.{Fmt.digits, List.{list_all, range_with_len}}
 use Rattle.schedule.specs.Links.{IsTopology}
-use Rattle.topology_text.specs.{declared.family_kind.FamilyKind.FamilyKind, Names.{is_name, name_of, AreNames}, Value.IsNamed}
-use Rattle.topology_text.specs.Family.{is_allowed, family_groups, numbered_name}
+use Rattle.topology_text.specs.{declared.family_kind.FamilyKind.FamilyKind, Names.{is_name, name_of, AreNames}, Value.IsNamed, Family.{is_allowed, family_groups, numbered_name}}
 use Rattle.topology_text.proofs.{Front.name_of_name, FamilyLinks.{IsSize, allowed_size}, FamilyGroups.family_groups_are}
 
 -- ---- names

@@ -1,10 +1,8 @@
 -- The sizes of families and their links.
-use Rattle.std.proofs.Common.{◌≡◌, ◌≢◌, ℕ, ◌+◌, ◌*◌, ◌/◌, ◌%◌, ◌<◌, ◌≤◌, Bool, true, ◌&&◌, ◌||◌, cond, eqb, leb, List, [], ◌∷◌, ◌++◌, map, length, get_or, inl, inr, refl, sym, ap, ◌∙◌, subst, arith, bit_xor}
-use Rattle.std.{specs.{Int.Bits.xor_self, List.{All, filter, list_any, range_with_len}}, proofs.lemmas.List.{length-map, Kept.AllPairs-filter}}
-use Rattle.std.proofs.Math.Nat.{div-lt_iff_lt-mul, mod-eq-sub-div-mul, div-mul-le_self, mod-eq_of_lt, mod_self, mul-le-mul_left}
-use Rattle.std.proofs.lemmas.Bool.{cases_lt, and_parts, or_cases, leb-true, eqb-true, eqb-false, not-true}
-use Rattle.std.proofs.lemmas.List.Elements.{All-filter, All-from_get_or, filter_passes}
-use Rattle.std.proofs.lemmas.List.FromFn.{get_or-map-range_with_len, filter_of_map_range_with_len_more, length-range_with_len}
+use Rattle.std.proofs.{Common.{◌≡◌, ◌≢◌, ℕ, ◌+◌, ◌*◌, ◌/◌, ◌%◌, ◌<◌, ◌≤◌, Bool, true, ◌&&◌, ◌||◌, cond, eqb, leb, List, [], ◌∷◌, ◌++◌, map, length, get_or, inl, inr, refl, sym, ap, ◌∙◌, subst, arith, bit_xor}, lemmas.List.length-map}
+use Rattle.std.proofs.{lemmas.List.Kept.AllPairs-filter, Math.Nat.{div-lt_iff_lt-mul, mod-eq-sub-div-mul, div-mul-le_self, mod-eq_of_lt, mod_self, mul-le-mul_left}}
+use Rattle.std.proofs.lemmas.{Bool.{cases_lt, and_parts, or_cases, leb-true, eqb-true, eqb-false, not-true}, List.Elements.{All-filter, All-from_get_or, filter_passes}}
+use Rattle.std.{proofs.lemmas.List.FromFn.{get_or-map-range_with_len, filter_of_map_range_with_len_more, length-range_with_len}, specs.{Int.Bits.xor_self, List.{All, filter, list_any, range_with_len}}}
 use Rattle.list_laws.proofs.Tests.{few_kept}
 use Rattle.text_lines.proofs.Distinct.{AreDistinct}
 use Rattle.schedule.specs.Links.{IsLink, IsBelow}

@@ -1,9 +1,8 @@
 -- The line that is blamed is the first at which the text can't go on to be a topology's.
 use Rattle.std.proofs.Common.{◌≡◌, ◌≢◌, ℕ, ◌-◌, List, take, Result, Ok, Err, inl, inr, refl, sym, ap, ◌∙◌, arith, IfErr}
 use Rattle.text_lines.{specs.Text.start, proofs.Gives.cut_agrees}
-use Rattle.topology_text.specs.{declared.fault.{TopologyCode.{TopologyCode, TheVariants.OutOfMemory}, TopologyFault.TopologyFault}, Answer.Answers, First.{Agrees, FailsFirstAt}}
-use Rattle.topology_text.specs.{Value.{NamedTopologyValue, IsNamed}, Spelling.{lines_of, spelling}, Reading.topology_of}
-use Rattle.topology_text.proofs.{Laws.{rows_of_spelling, whole_at, whole_gives, all_again}, SteadyParts.settles_topology}
+use Rattle.topology_text.specs.{declared.fault.{TopologyCode.{TopologyCode, TheVariants.OutOfMemory}, TopologyFault.TopologyFault}, Answer.Answers, First.{Agrees, FailsFirstAt}, Value.{NamedTopologyValue, IsNamed}}
+use Rattle.topology_text.{specs.{Spelling.{lines_of, spelling}, Reading.topology_of}, proofs.{Laws.{rows_of_spelling, whole_at, whole_gives, all_again}, SteadyParts.settles_topology}}
 
 -- no topology has the line that is blamed behind the lines before it
 none_agrees : (text : List ℕ) (e : TopologyCode × ℕ) → whole_at (start text) ≡ Err e → (t : NamedTopologyValue) → IsNamed t → Agrees e.1 text t → ⊥

@@ -1,17 +1,14 @@
 -- The lines of the header and of the nodes: what is read stands there, and what stands there is read.
-use Rattle.std.proofs.lemmas.Bool.Decides.{nat_tests}
-use Rattle.std.proofs.lemmas.Grind.{common_steps}
+use Rattle.std.proofs.lemmas.{Bool.Decides.nat_tests, Grind.common_steps}
 use Rattle.std.proofs.Common.{◌≡◌, ℕ, ◌<◌, ◌≤◌, Bool, true, false, ◌||◌, not, cond, eqb, leb, List, [], ◌∷◌, ◌++◌, length, drop, Option, None, Some, Ok, refl, sym, ap, ◌∙◌, subst, append_assoc, arith, bytes_eq, codes, nat_le, if◌then◌else◌}
-use Rattle.std.{specs.{Option.is_some, List.{All, list_any}}, proofs.lemmas.List.{append-nil, length-append, Splits.length-slice_split}}
-use Rattle.std.proofs.lemmas.Bool.{and_parts, or_parts, not-false, leb-true, leb-false, ltb-true, lt-leb, cond-true, or_cases, eqb-true, ne_eqb, false_from_ne_true}
-use Rattle.std.proofs.lemmas.{List.{Elements.{All-nil, All-push, All-weaker, recursion_from_All}, Sums.AllPass-from_list_all}, Slice.Eq.bytes_eq-Decides}
+use Rattle.std.proofs.lemmas.{List.{append-nil, length-append, Splits.length-slice_split}, Bool.{and_parts, or_parts, not-false, leb-true, leb-false, ltb-true, lt-leb, cond-true, or_cases, eqb-true, ne_eqb, false_from_ne_true}}
+use Rattle.std.{proofs.lemmas.{List.{Elements.{All-nil, All-push, All-weaker, recursion_from_All}, Sums.AllPass-from_list_all}, Slice.Eq.bytes_eq-Decides}, specs.{Option.is_some, List.{All, list_any}}}
 use Rattle.text_lines.specs.{Text.{Row, Place, words_of}, Check.{first, line_part}, Repeated.begins}
-use Rattle.text_lines.proofs.{Checks.{if_some, refuse_ok, need_ok, need_is, ok_is}, Distinct.{AreDistinct, distinct_nil, distinct_push, none_before, next_has}}
-use Rattle.text_lines.proofs.{Gives.{Gives, Between, line_gives}, ReadBack.{Reads, line_again}, Repeated.place, Rows.{row_of, row_back, words_again}, Words.{IsWord, AreWords, literal, tokens_from, none_empty, begins_is}}
+use Rattle.text_lines.proofs.{Checks.{if_some, refuse_ok, need_ok, need_is, ok_is}, Distinct.{AreDistinct, distinct_nil, distinct_push, none_before, next_has}, Gives.{Gives, Between, line_gives}, ReadBack.{Reads, line_again}}
+use Rattle.text_lines.proofs.{Repeated.place, Rows.{row_of, row_back, words_again}, Words.{IsWord, AreWords, literal, tokens_from, none_empty, begins_is}}
 use Rattle.collective_spec.specs.Patterns.{PatternValue}
-use Rattle.topology_text.specs.declared.fault.TopologyCode.{TopologyCode, TheVariants.{BadHeader, BadLine, BadName, NameTwice, TooManyNodes, NoNodes}}
-use Rattle.topology_text.specs.{Names.{is_name_byte, is_name, name_of, AreNames}, Spelling.{header_words, nodes_words, head_words}}
-use Rattle.topology_text.specs.Reading.{has_empty, version_of, header_line, names_from, nodes_line}
+use Rattle.topology_text.specs.{declared.fault.TopologyCode.{TopologyCode, TheVariants.{BadHeader, BadLine, BadName, NameTwice, TooManyNodes, NoNodes}}, Names.{is_name_byte, is_name, name_of, AreNames}}
+use Rattle.topology_text.specs.{Spelling.{header_words, nodes_words, head_words}, Reading.{has_empty, version_of, header_line, names_from, nodes_line}}
 
 -- what a test chose is the one, or the other
 pub chosen : {X G : Type 0} {z : X} (b : Bool) (x y : X) → cond b x y ≡ z → (b ≡ true → x ≡ z → G) → (b ≡ false → y ≡ z → G) → G

@@ -1,15 +1,12 @@
 -- The lines of groups: what is read stands there, and what stands there is read.
-use Rattle.std.proofs.lemmas.Bool.Decides.{nat_tests}
-use Rattle.std.proofs.lemmas.Grind.{common_steps}
+use Rattle.std.proofs.lemmas.{Bool.Decides.nat_tests, Grind.common_steps}
 use Rattle.std.proofs.Common.{◌≡◌, ℕ, ◌<◌, ◌≤◌, true, false, ◌||◌, not, leb, ltb, List, [], ◌∷◌, ◌++◌, map, length, drop, Option, None, Some, Result, Ok, refl, sym, ap, ◌∙◌, subst, arith, codes, decimal, slice_index_or}
-use Rattle.std.{specs.List.All, proofs.lemmas.Bool.{or_parts, not-false, leb-false, lt-leb, le-ltb, ltb-false}}
-use Rattle.std.proofs.lemmas.List.{length-append, length-map, Elements.{All-nil, All-push, All-get_or, All-map, All-weaker, recursion_from_All}}
+use Rattle.std.{proofs.lemmas.{Bool.{or_parts, not-false, leb-false, lt-leb, le-ltb, ltb-false}, List.{length-append, length-map, Elements.{All-nil, All-push, All-get_or, All-map, All-weaker, recursion_from_All}}}, specs.List.All}
 use Rattle.text_lines.specs.{Text.{Row, Place, words_of}, Repeated.begins}
 use Rattle.text_lines.proofs.{Checks.{bind_ok, refuse_ok, ok_is}, Distinct.next_has, Gives.{GivesPart, Takes, lines_give}, ReadBack.{Reads, Ends, ReadsLine, lines_again}, Repeated.place, Rows.{row_of, row_back, words_again}}
 use Rattle.text_lines.proofs.Words.{IsWord, AreWords, literal, tokens_from, none_empty, begins_is, decimal_word, token-append}
 use Rattle.schedule.specs.Links.{GroupValue, IsBelow, IsGroup}
-use Rattle.topology_text.specs.declared.fault.TopologyCode.{TopologyCode, TheVariants.{BadLine, TooManyGroups, WidthRange}}
-use Rattle.topology_text.specs.{Spelling.{link_word, group_words}, Reading.{has_empty, one_to_16, links_from, group_line, groups_at}}
+use Rattle.topology_text.specs.{declared.fault.TopologyCode.{TopologyCode, TheVariants.{BadLine, TooManyGroups, WidthRange}}, Spelling.{link_word, group_words}, Reading.{has_empty, one_to_16, links_from, group_line, groups_at}}
 use Rattle.topology_text.proofs.{Front.{Names, name_word}, Links.{links_nil, links_take, links_again, small_take, small_again}}
 
 -- ---- words of links

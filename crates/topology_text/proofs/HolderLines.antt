@@ -1,12 +1,11 @@
 -- The lines of the chunks of a pattern: what is read stands there, and what stands there is read.
-use Rattle.std.proofs.Common.{◌≡◌, ℕ, zero, suc, ◌+◌, ◌-◌, ◌<◌, ◌≤◌, List, [], ◌∷◌, ◌++◌, map, length, replicate, Result, refl, sym, ap, ◌∙◌, append_assoc, arith, codes}
-use Rattle.std.{specs.List.AllByRecursion, proofs.lemmas.List.{append-nil, length-replicate}}
+use Rattle.std.proofs.{Common.{◌≡◌, ℕ, zero, suc, ◌+◌, ◌-◌, ◌<◌, ◌≤◌, List, [], ◌∷◌, ◌++◌, map, length, replicate, Result, refl, sym, ap, ◌∙◌, append_assoc, arith, codes}, lemmas.List.{append-nil, length-replicate}}
+use Rattle.std.specs.List.{AllByRecursion}
 use Rattle.text_lines.specs.{Text.{Row, Place}, Check.{◌>>=◌, line_part}}
-use Rattle.text_lines.proofs.{Gives.{Gives, gives_done, gives_like, gives_then, Between, here, then_on, Cut, cut_here, cut_on}, ReadBack.{Reads, reads_here, reads_as, reads_then, line_again}}
-use Rattle.text_lines.proofs.{Repeated.place, Rows.{AreTokens, row_of}, Words.{IsWord, literal, tokens_from}}
+use Rattle.text_lines.proofs.{Gives.{Gives, gives_done, gives_like, gives_then, Between, here, then_on, Cut, cut_here, cut_on}, ReadBack.{Reads, reads_here, reads_as, reads_then, line_again}, Repeated.place, Rows.{AreTokens, row_of}}
+use Rattle.text_lines.proofs.Words.{IsWord, literal, tokens_from}
 use Rattle.topology_text.specs.{declared.fault.TopologyCode.TopologyCode, Reading.{holders_line, Pairs, row_of_pairs, holders_at}}
-use Rattle.topology_text.proofs.{Front.Names, Held.{Ascends, EachAscends, pairs_from}}
-use Rattle.topology_text.proofs.PatternLines.{named_words, named_are_words, holders_line_gives, holders_line_again}
+use Rattle.topology_text.proofs.{Front.Names, Held.{Ascends, EachAscends, pairs_from}, PatternLines.{named_words, named_are_words, holders_line_gives, holders_line_again}}
 
 -- ---- the nodes that hold each chunk before, and after
 

@@ -1,10 +1,8 @@
 -- A placement that is made pair by pair.
-use Rattle.std.proofs.Common.{arith, ◌≡◌, ℕ, ◌+◌, ◌<◌, Bool, true, false, ◌&&◌, ◌||◌, eqb, List, [], length, get_or, take, refl, sym, ap, ◌∙◌}
-use Rattle.std.{specs.List.list_any, proofs.lemmas.{Bool.{eqb-true, eq-eqb}, List.Folds.list_any_more}}
-use Rattle.std.proofs.lemmas.List.Elements.{All-from_recursion, All-filter, All-get_or}
+use Rattle.std.proofs.{Common.{arith, ◌≡◌, ℕ, ◌+◌, ◌<◌, Bool, true, false, ◌&&◌, ◌||◌, eqb, List, [], length, get_or, take, refl, sym, ap, ◌∙◌}, lemmas.{Bool.{eqb-true, eq-eqb}, List.Folds.list_any_more}}
+use Rattle.std.{proofs.lemmas.List.Elements.{All-from_recursion, All-filter, All-get_or}, specs.List.list_any}
 use Rattle.list_laws.proofs.Tests.{same_test}
-use Rattle.schedule.specs.Placed.{PlacementValue, same_pair, holds, all_pairs, placed, IsPlacement, empty_placement, with_pair}
-use Rattle.schedule.proofs.Placing.{IsBelow, all_below, placed-alike, placed-none, holds-placed}
+use Rattle.schedule.{specs.Placed.{PlacementValue, same_pair, holds, all_pairs, placed, IsPlacement, empty_placement, with_pair}, proofs.Placing.{IsBelow, all_below, placed-alike, placed-none, holds-placed}}
 
 abbrev pub among : List (ℕ × ℕ) → ℕ × ℕ → Bool
 among pairs pair = list_any (same_pair pair) pairs

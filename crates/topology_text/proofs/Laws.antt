@@ -1,15 +1,13 @@
 -- Whole topologies: what is read stands there, and what stands there is read.
-use Rattle.std.proofs.Common.{◌≡◌, ℕ, Bool, List, [], ◌∷◌, ◌++◌, get_or, map, length, Option, None, Some, Result, Ok, Err, refl, sym, ap, ◌∙◌, subst, arith, IfOk, IfSome, codes}
-use Rattle.std.{specs.{Option.is_some, List.{All, AllByRecursion}}, proofs.lemmas.List.{append-nil, Elements.{All-nil, All-cons, All-map, recursion_from_All}}}
+use Rattle.std.proofs.{Common.{◌≡◌, ℕ, Bool, List, [], ◌∷◌, ◌++◌, get_or, map, length, Option, None, Some, Result, Ok, Err, refl, sym, ap, ◌∙◌, subst, arith, IfOk, IfSome, codes}, lemmas.List.append-nil}
+use Rattle.std.{proofs.lemmas.List.Elements.{All-nil, All-cons, All-map, recursion_from_All}, specs.{Option.is_some, List.{All, AllByRecursion}}}
 use Rattle.text_lines.specs.{Text.{Row, Place, rows_of, start}, Check.{◌>>=◌, refuse, first, line_part}}
-use Rattle.text_lines.proofs.{Checks.{part_ok, part_err_at}, Gives.{Gives, gives_done, gives_then, rows_split, Between, then_on, Cut, cut_here, cut_more, cut_on, Stops, GivesPart}, ReadBack.{Reads, reads_here, reads_as, reads_then, reads_end, Ends}}
-use Rattle.text_lines.proofs.{Repeated.place, Rows.{AreTokens, row_of, rows_again, text_back}, Words.{literal, tokens_from}}
+use Rattle.text_lines.proofs.{Checks.{part_ok, part_err_at}, Gives.{Gives, gives_done, gives_then, rows_split, Between, then_on, Cut, cut_here, cut_more, cut_on, Stops, GivesPart}}
+use Rattle.text_lines.proofs.{ReadBack.{Reads, reads_here, reads_as, reads_then, reads_end, Ends}, Repeated.place, Rows.{AreTokens, row_of, rows_again, text_back}, Words.{literal, tokens_from}}
 use Rattle.schedule.{specs.Links.{GroupValue, IsGroup, IsBelow}, proofs.First.each_append}
 use Rattle.collective_spec.specs.Patterns.{PatternValue, IsPattern}
-use Rattle.topology_text.specs.{declared.fault.{TopologyCode.{TopologyCode, TheVariants.BadLine}, TopologyFault.TopologyFault}, Names.AreNames, Answer.Answers}
-use Rattle.topology_text.specs.Value.{NamedTopologyValue, IsNamed, named_with}
-use Rattle.topology_text.specs.Spelling.{header_words, nodes_words, group_words, custom_lines, lines_of, spelling, head_words}
-use Rattle.topology_text.specs.Reading.{nodes_line, groups_at, pattern_at, named_at, topology_at, topology_of}
+use Rattle.topology_text.specs.{declared.fault.{TopologyCode.{TopologyCode, TheVariants.BadLine}, TopologyFault.TopologyFault}, Names.AreNames, Answer.Answers, Value.{NamedTopologyValue, IsNamed, named_with}}
+use Rattle.topology_text.specs.{Spelling.{header_words, nodes_words, group_words, custom_lines, lines_of, spelling, head_words}, Reading.{nodes_line, groups_at, pattern_at, named_at, topology_at, topology_of}}
 use Rattle.topology_text.proofs.{Front.{Names, head_is, header_gives, header_reads, nodes_give, nodes_reads, nodes_are_words}, Groups.{Groups, groups_nil, groups_give, groups_read, group_is_words}}
 use Rattle.topology_text.proofs.Patterns.{IsCustom, some_pattern, pattern_gives, pattern_reads, pattern_ends, custom_are_words}
 

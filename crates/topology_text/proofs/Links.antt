@@ -1,17 +1,12 @@
 -- The links and the width of a group's line: what is read stands there, and what stands there is read.
-use Rattle.std.proofs.lemmas.Bool.Decides.{nat_tests}
-use Rattle.std.proofs.lemmas.Grind.{common_steps}
+use Rattle.std.proofs.lemmas.{Bool.Decides.nat_tests, Grind.common_steps}
 use Rattle.std.proofs.Common.{◌≡◌, ℕ, ◌<◌, ◌≤◌, true, false, eqb, ltb, List, [], ◌∷◌, ◌++◌, map, length, get_or, None, Some, Ok, refl, sym, ap, ◌∙◌, subst, append_assoc, arith, bytes_eq, decimal}
-use Rattle.std.{specs.{Bool.Decides, List.{All, list_any, join_with_byte, position_or_len}}, proofs.lemmas.List.{append-nil, length-map, map_push}}
-use Rattle.std.proofs.lemmas.{Bool.{eqb-false, ne_eqb, cond-true, lt-ltb, false_from_ne_true}, Slice.Eq.bytes_eq-Decides}
-use Rattle.std.proofs.lemmas.List.{Elements.{All-nil, All-push, All-get_or}, Quantifiers.position-Some, Sums.position_or_len_is}
-use Rattle.std.proofs.lemmas.List.Splits.{slice_split_at, slice_split_none, join_with_byte-slice_split}
-use Rattle.text_lines.proofs.{Checks.{bind_ok, refuse_ok, need_ok, ok_is}, Distinct.{AreDistinct, distinct_nil, distinct_push, none_before, next_has}}
-use Rattle.text_lines.proofs.Numbers.{up_to_found, up_to_some}
+use Rattle.std.proofs.lemmas.{List.{append-nil, length-map, map_push, Elements.{All-nil, All-push, All-get_or}, Quantifiers.position-Some}, Bool.{eqb-false, ne_eqb, cond-true, lt-ltb, false_from_ne_true}, Slice.Eq.bytes_eq-Decides}
+use Rattle.std.{proofs.lemmas.List.{Sums.position_or_len_is, Splits.{slice_split_at, slice_split_none, join_with_byte-slice_split}}, specs.{Bool.Decides, List.{All, list_any, join_with_byte, position_or_len}}}
+use Rattle.text_lines.proofs.{Checks.{bind_ok, refuse_ok, need_ok, ok_is}, Distinct.{AreDistinct, distinct_nil, distinct_push, none_before, next_has}, Numbers.{up_to_found, up_to_some}}
 use Rattle.schedule.{specs.{Links.{IsLink, IsBelow, IsGroup}, Placed.same_pair}, proofs.Placing.{pair_is, pair_itself}}
-use Rattle.topology_text.specs.{declared.fault.TopologyCode.{TopologyCode, TheVariants.{UnknownNode, SelfLink, LinkTwice, WidthRange}}, Names.is_name}
-use Rattle.topology_text.specs.{Spelling.{name_at, link_word}, Reading.{both_sides, node_of, link_read, links_from, one_to_16}}
-use Rattle.topology_text.proofs.{Front.{Names, name_free}, Sides.{pieces, sides}}
+use Rattle.topology_text.specs.{declared.fault.TopologyCode.{TopologyCode, TheVariants.{UnknownNode, SelfLink, LinkTwice, WidthRange}}, Names.is_name, Spelling.{name_at, link_word}}
+use Rattle.topology_text.{specs.Reading.{both_sides, node_of, link_read, links_from, one_to_16}, proofs.{Front.{Names, name_free}, Sides.{pieces, sides}}}
 
 -- ---- nodes
 

@@ -1,12 +1,10 @@
 -- The lines of a pattern: what is read stands there, and what stands there is read.
 use Rattle.std.proofs.Common.{◌≡◌, ℕ, ◌+◌, ◌^◌, ◌<◌, ◌≤◌, Bool, true, false, ◌||◌, not, eqb, List, [], ◌∷◌, ◌++◌, map, length, get_or, drop, Option, None, Some, Ok, Err, refl, sym, ap, ◌∙◌, subst, append_assoc, arith, bytes_eq, codes, decimal, nat_lt, slice_index_or}
-use Rattle.std.{specs.List.list_all, proofs.lemmas.Bool.{and_parts, and_from, eqb-true, eqb-false, false_from_ne_true, not-false, or_parts}}
-use Rattle.std.proofs.lemmas.{Fmt.decimal_injective, List.{append-nil, map_push, Elements.All-get_or}, Slice.Eq.bytes_eq-Decides}
+use Rattle.std.proofs.lemmas.{Bool.{and_parts, and_from, eqb-true, eqb-false, false_from_ne_true, not-false, or_parts}, Fmt.decimal_injective, List.{append-nil, map_push, Elements.All-get_or}, Slice.Eq.bytes_eq-Decides}
+use Rattle.std.specs.List.{list_all}
 use Rattle.text_lines.specs.{Text.{Row, Place, words_of}, Check.{first, line_part}, Repeated.begins}
-use Rattle.text_lines.proofs.{Checks.{refuse_ok, need_ok, ok_is}, Gives.{Gives, Between, line_gives}, Rows.{row_of, row_back, words_again}}
-use Rattle.text_lines.proofs.Words.{IsWord, AreWords, literal, tokens_from, none_empty, begins_is, decimal_word}
-use Rattle.topology_text.specs.declared.fault.TopologyCode.{TopologyCode, TheVariants.{BadLine, UnknownNode, BaseRange, NameOrder}}
-use Rattle.topology_text.specs.{Spelling.name_at, Reading.{has_empty, node_of, custom_line, holders_from, has_front, holders_line}}
+use Rattle.text_lines.proofs.{Checks.{refuse_ok, need_ok, ok_is}, Gives.{Gives, Between, line_gives}, Rows.{row_of, row_back, words_again}, Words.{IsWord, AreWords, literal, tokens_from, none_empty, begins_is, decimal_word}}
+use Rattle.topology_text.specs.{declared.fault.TopologyCode.{TopologyCode, TheVariants.{BadLine, UnknownNode, BaseRange, NameOrder}}, Spelling.name_at, Reading.{has_empty, node_of, custom_line, holders_from, has_front, holders_line}}
 use Rattle.topology_text.proofs.{Front.{Names, name_word}, Links.{node_is, node_again, small_take, small_again}, Held.{Ascends, ascends_push, ascends_next, ascends_above}}
 
 -- ---- the number of chunks

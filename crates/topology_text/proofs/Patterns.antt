@@ -1,13 +1,12 @@
 -- Patterns: what is read stands there, and what stands there is read.
-use Rattle.std.proofs.Common.{◌≡◌, ℕ, zero, suc, ◌+◌, ◌≤◌, Bool, true, false, List, [], ◌∷◌, ◌++◌, map, length, get_or, drop, Option, None, Some, Ok, refl, sym, ap, ◌∙◌, subst, arith, codes, IfSome}
-use Rattle.std.{specs.{Option.is_some, List.{AllByRecursion, flat_map, range_with_len}}, proofs.lemmas.List.length-map}
+use Rattle.std.proofs.{Common.{◌≡◌, ℕ, zero, suc, ◌+◌, ◌≤◌, Bool, true, false, List, [], ◌∷◌, ◌++◌, map, length, get_or, drop, Option, None, Some, Ok, refl, sym, ap, ◌∙◌, subst, arith, codes, IfSome}, lemmas.List.length-map}
+use Rattle.std.specs.{Option.is_some, List.{AllByRecursion, flat_map, range_with_len}}
 use Rattle.text_lines.specs.{Text.{Row, Place}, Check.line_part}
-use Rattle.text_lines.proofs.{Gives.{gives_done, gives_then, Between, here, then_on, Cut, cut_here, cut_on, Took, Stops, GivesPart}, ReadBack.{Reads, reads_here, reads_as, reads_then, line_again, Ends}}
-use Rattle.text_lines.proofs.{Repeated.place, Rows.{AreTokens, row_of}, Words.tokens_from}
+use Rattle.text_lines.proofs.{Gives.{gives_done, gives_then, Between, here, then_on, Cut, cut_here, cut_on, Took, Stops, GivesPart}, ReadBack.{Reads, reads_here, reads_as, reads_then, line_again, Ends}, Repeated.place}
+use Rattle.text_lines.proofs.{Rows.{AreTokens, row_of}, Words.tokens_from}
 use Rattle.schedule.specs.Placed.{PlacementValue, holds}
 use Rattle.collective_spec.specs.Patterns.{PatternValue, IsPattern}
-use Rattle.topology_text.specs.Spelling.{holder_words, custom_lines}
-use Rattle.topology_text.specs.Reading.{custom_line, Pairs, holders_at, pattern_of, pattern_at}
+use Rattle.topology_text.specs.{Spelling.{holder_words, custom_lines}, Reading.{custom_line, Pairs, holders_at, pattern_of, pattern_at}}
 use Rattle.topology_text.proofs.{Front.Names, PatternLines.{base_words, base_are_words, IsBase, custom_gives, custom_again, named_words}}
 use Rattle.topology_text.proofs.Held.{EachAscends, pairs_from, nodes_with, held_by, held_ascends, placement_from, rows_held, rows_placement, placement_rows}
 use Rattle.topology_text.proofs.HolderLines.{Holders, befores, afters, AreHeld, befores_ascend, afters_ascend, holder_lines, holder_lines_are_words, with_holders, no_pairs, nothing_held, nothing_valid, holders_give, holders_read}

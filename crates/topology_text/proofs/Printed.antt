@@ -1,15 +1,12 @@
 -- What the printer appends is the spelling.
-use Rattle.std.proofs.lemmas.Bool.Decides.{nat_tests}
-use Rattle.std.proofs.lemmas.Grind.{common_steps}
+use Rattle.std.proofs.lemmas.{Bool.Decides.nat_tests, Grind.{common_steps, flat_map-append}}
 use Rattle.std.proofs.Common.{◌≡◌, ℕ, ◌+◌, Bool, true, false, cond, List, [], ◌∷◌, ◌++◌, map, length, take, ◌≤◌, Option, None, Some, refl, sym, ap, ◌∙◌, append_assoc, arith, codes, decimal, Result, Ok, Err, OnErr}
-use Rattle.std.{specs.{Io.StartsWith, List.{filter, flat_map, range_with_len}}, proofs.lemmas.Grind.flat_map-append}
-use Rattle.std.proofs.{Math.Seq.take-append_seam, lemmas.List.{append-nil, length-take, map-append, map-id, take-take, take_all}}
-use Rattle.std.proofs.lemmas.List.FromFn.{filter_of_map_range_with_len_more, map-range_with_len_more}
+use Rattle.std.proofs.{Math.Seq.take-append_seam, lemmas.List.{append-nil, length-take, map-append, map-id, take-take, take_all, FromFn.{filter_of_map_range_with_len_more, map-range_with_len_more}}}
+use Rattle.std.specs.{Io.StartsWith, List.{filter, flat_map, range_with_len}}
 use Rattle.text_lines.{specs.Text.{line, text_of, fields}, proofs.Words.join_fields}
 use Rattle.schedule.specs.Links.{GroupValue}
 use Rattle.collective_spec.specs.Patterns.{PatternValue}
-use Rattle.topology_text.specs.Value.{NamedTopologyValue}
-use Rattle.topology_text.specs.Spelling.{name_at, link_word, header_words, nodes_words, group_words, holder_words, custom_lines, spelling}
+use Rattle.topology_text.specs.{Value.NamedTopologyValue, Spelling.{name_at, link_word, header_words, nodes_words, group_words, holder_words, custom_lines, spelling}}
 
 -- four pieces, appended one after another
 pub appended : (a b c d e x y z w all : List ℕ) → b ≡ a ++ x → c ≡ b ++ y → d ≡ c ++ z → e ≡ d ++ w → x ++ (y ++ (z ++ w)) ≡ all → e ≡ a ++ all

@@ -1,6 +1,5 @@
 -- A link's word, cut at its `>`.
-use Rattle.std.proofs.Common.{◌≡◌, ◌≢◌, ℕ, ◌+◌, ◌<◌, ◌≤◌, eqb, List, [], ◌∷◌, length, get_or, take, slice_range, refl, ap, ◌∙◌, subst, arith, Result, Ok, Err}
-use Rattle.std.{specs.List.slice_split, proofs.lemmas.List.{take_rest, Splits.length-slice_split}}
+use Rattle.std.{proofs.{Common.{◌≡◌, ◌≢◌, ℕ, ◌+◌, ◌<◌, ◌≤◌, eqb, List, [], ◌∷◌, length, get_or, take, slice_range, refl, ap, ◌∙◌, subst, arith, Result, Ok, Err}, lemmas.List.{take_rest, Splits.length-slice_split}}, specs.List.slice_split}
 use Rattle.text_lines.proofs.Rows.{parts_step, parts_end_at}
 use Rattle.topology_text.specs.{declared.fault.TopologyCode.{TopologyCode, TheVariants.BadLine}, Reading.both_sides}
 

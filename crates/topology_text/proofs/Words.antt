@@ -1,7 +1,6 @@
 -- Each kind of family has its word in the table.
-use Rattle.std.{proofs.Common.{◌≡◌, ◌≢◌, ℕ, List, Option, None, Some, is_some, map, refl, true, arith, All, IfNone}, proofs.lemmas.List.Elements.All-contains}
-use Rattle.topology_text.specs.declared.family_kind.FamilyKind.{FamilyKind, TheVariants.{Line, Ring, Complete, Cube, Shared, Torus, Mesh, Switch, Boxes}}
-use Rattle.topology_text.specs.{Family.kind_number, FamilyWords.{families, family_word}}
+use Rattle.std.proofs.{Common.{◌≡◌, ◌≢◌, ℕ, List, Option, None, Some, is_some, map, refl, true, arith, All, IfNone}, lemmas.List.Elements.All-contains}
+use Rattle.topology_text.specs.{declared.family_kind.FamilyKind.{FamilyKind, TheVariants.{Line, Ring, Complete, Cube, Shared, Torus, Mesh, Switch, Boxes}}, Family.kind_number, FamilyWords.{families, family_word}}
 
 abbrev rows : List (List ℕ × ℕ)
 rows = map (λ kind. (family_word kind, kind_number kind)) families

@@ -1,9 +1,7 @@
 -- Families of topologies that are often met: paths, cycles, complete graphs, hypercubes and tori, a bus that all links share, a switch with two ports for each node, boxes with cables between them, and the hybrid cube mesh of eight processors (NVIDIA, DGX-1 system architecture, 2017).
-use Rattle.std.specs.Prelude.{◌==◌, ◌&&◌, ◌||◌, not, if◌then◌else◌, ℕ, ◌+◌, ◌*◌, ◌/◌, ◌%◌, Bool, List, [], ◌∷◌, map, filter, nat_le, codes, decimal, ◌++◌, None, bit_xor}
-use Rattle.std.specs.List.{list_any, range_with_len}
+use Rattle.std.specs.{Prelude.{◌==◌, ◌&&◌, ◌||◌, not, if◌then◌else◌, ℕ, ◌+◌, ◌*◌, ◌/◌, ◌%◌, Bool, List, [], ◌∷◌, map, filter, nat_le, codes, decimal, ◌++◌, None, bit_xor}, List.{list_any, range_with_len}}
 use Rattle.schedule.specs.{Links.{GroupValue, turned}, Placed.same_pair}
-use Rattle.topology_text.specs.declared.family_kind.FamilyKind.{FamilyKind, TheVariants.{Line, Ring, Complete, Cube, Shared, Torus, Mesh, Switch, Boxes}}
-use Rattle.topology_text.specs.Value.{NamedTopologyValue, named_with}
+use Rattle.topology_text.specs.{declared.family_kind.FamilyKind.{FamilyKind, TheVariants.{Line, Ring, Complete, Cube, Shared, Torus, Mesh, Switch, Boxes}}, Value.{NamedTopologyValue, named_with}}
 
 -- the numbers of the kinds (this project's own)
 abbrev pub kind_number : FamilyKind → ℕ

@@ -1,6 +1,5 @@
 -- Names of nodes (this project's own).
-use Rattle.std.specs.Prelude.{◌≡◌, ◌≢◌, ◌==◌, ◌&&◌, ◌||◌, ℕ, ◌-◌, ◌<◌, ◌≤◌, Bool, true, if◌then◌else◌, List, ◌++◌, length, take, replicate, Option, Some, None, All, AllPairs, nat_lt, nat_le}
-use Rattle.std.specs.List.{list_all}
+use Rattle.std.specs.{Prelude.{◌≡◌, ◌≢◌, ◌==◌, ◌&&◌, ◌||◌, ℕ, ◌-◌, ◌<◌, ◌≤◌, Bool, true, if◌then◌else◌, List, ◌++◌, length, take, replicate, Option, Some, None, All, AllPairs, nat_lt, nat_le}, List.list_all}
 
 -- a to z, 0 to 9 and _
 abbrev pub is_name_byte : ℕ → Bool

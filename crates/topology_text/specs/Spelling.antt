@@ -1,6 +1,5 @@
 -- The one spelling of a topology (this project's own text).
-use Rattle.std.specs.Prelude.{ℕ, Bool, true, false, List, [], ◌∷◌, ◌++◌, map, filter, slice_index_or, codes, decimal, Option, None, Some}
-use Rattle.std.specs.List.{flat_map, range_with_len}
+use Rattle.std.specs.{Prelude.{ℕ, Bool, true, false, List, [], ◌∷◌, ◌++◌, map, filter, slice_index_or, codes, decimal, Option, None, Some}, List.{flat_map, range_with_len}}
 use Rattle.schedule.specs.{Placed.{PlacementValue, holds}, Links.GroupValue}
 use Rattle.collective_spec.specs.Patterns.{PatternValue}
 use Rattle.text_lines.specs.Text.{text_of}

@@ -1,7 +1,6 @@
 //! Names of nodes.
 
-ghost use Rattle.std.{specs.{Prelude.{◌≡◌, IsTrue, ◌==◌, bytes_eq}, Cmp.partial_equiv_from_equiv}, proofs.Common.ap};
-ghost use Rattle.std.specs.Cmp.Lexicographic.{bytes_decides, nat_list_eq_equiv};
+ghost use Rattle.std.{specs.{Prelude.{◌≡◌, IsTrue, ◌==◌, bytes_eq}, Cmp.{partial_equiv_from_equiv, Lexicographic.{bytes_decides, nat_list_eq_equiv}}}, proofs.Common.ap};
 ghost use Rattle.std.specs.Hash as fed;
 ghost use Rattle.topology_text.specs.Names.{is_name_byte, is_name, name_of};
 

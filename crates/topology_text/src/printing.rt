@@ -3,8 +3,7 @@
 ghost use Rattle.std.specs.{Prelude.{◌≡◌, ◌<◌, ◌≤◌, ◌++◌, ◌∷◌, [], Ok, Some, map, length, OnOk, OnErr, IfOk, All}, List.flat_map, Io.StartsWith};
 ghost use Rattle.text_lines.specs.Text.{line, text_of};
 ghost use Rattle.schedule.specs.Links.{IsBelow};
-ghost use Rattle.topology_text.specs.{Value.IsNamed, Spelling.{link_word, header_words, nodes_words, group_words, holder_words, custom_lines, spelling}};
-ghost use Rattle.topology_text.specs.Reading.{topology_of};
+ghost use Rattle.topology_text.specs.{Value.IsNamed, Spelling.{link_word, header_words, nodes_words, group_words, holder_words, custom_lines, spelling}, Reading.topology_of};
 
 use crate::name::Name;
 use crate::named_topology::NamedTopology;

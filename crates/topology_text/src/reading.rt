@@ -2,8 +2,7 @@
 
 ghost use Rattle.std.specs.Prelude.{◌≡◌, ◌≢◌, ◌+◌, ◌^◌, ◌<◌, ◌≤◌, Ok, OnOk, IfOk, IfErr};
 ghost use Rattle.text_lines.specs.Check.{Gives};
-ghost use Rattle.topology_text.specs.{declared.fault.TopologyCode.TopologyCode, Value.{NamedTopologyValue, IsNamed}, Spelling.spelling, Names.AreNames};
-ghost use Rattle.topology_text.specs.{Reading.{named_at, topology_at, topology_of}, First.FailsFirstAt, Answer.Answers};
+ghost use Rattle.topology_text.specs.{declared.fault.TopologyCode.TopologyCode, Value.{NamedTopologyValue, IsNamed}, Spelling.spelling, Names.AreNames, Reading.{named_at, topology_at, topology_of}, First.FailsFirstAt, Answer.Answers};
 
 use crate::fault::{TopologyCode, TopologyFault};
 use crate::name::Name;

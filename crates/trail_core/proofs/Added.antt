@@ -1,13 +1,11 @@
 -- What a core keeps, as a clause is added.
-use Rattle.std.proofs.lemmas.Grind.{common_steps}
-use Rattle.std.proofs.Common.{◌≡◌, ◌≢◌, ◌==◌, ℕ, ◌+◌, ◌<◌, ◌≤◌, List, [], ◌∷◌, ◌++◌, length, get_or, set, take, Some, leb, cond, count_by, refl, sym, ap, ◌∙◌, subst, inl, inr, ⊎_elim, arith, ◌⊎◌, Contains, All}
+use Rattle.std.proofs.{lemmas.Grind.common_steps, Common.{◌≡◌, ◌≢◌, ◌==◌, ℕ, ◌+◌, ◌<◌, ◌≤◌, List, [], ◌∷◌, ◌++◌, length, get_or, set, take, Some, leb, cond, count_by, refl, sym, ap, ◌∙◌, subst, inl, inr, ⊎_elim, arith, ◌⊎◌, Contains, All}}
 use Rattle.std.proofs.lemmas.{Bool.{cases_lt, cases_eq, le-leb, lt-leb, Decides.nat_tests}, List.Sums.{sum_by_push, sum_by-set, count_by-le-length}}
 use Rattle.std.proofs.lemmas.List.{get_or_past, get_or_append_left, get_or_push, get_or-take, get_or_default, length_push, map_push, length-take-le, get_or-set_same, get_or-set_other, length-set, length-map, take-append-le, take-take}
 use Rattle.std.proofs.lemmas.List.Elements.{All-push, Contains-push, Contains-append_left}
 use Rattle.cnf_formula.{specs.Literals.{LitValue, negation, code_of}, proofs.Codes.same_code}
 use Rattle.trail_core.specs.{Assigned.{IsFalse, level_at}, Trails.{StepValue, TrailValue, lits_of}, Search.{IsSatisfied, IsUnit, clauses_of, CanScan}}
-use Rattle.trail_core.specs.Watching.{RowValue, ListsValue, no_row, watch_count, occurrences, row_at, list_at, IsWatched, IsRow, AreRows, AreLists, HasRoom, AreBlocked}
-use Rattle.trail_core.specs.Kept.{Excused, IsDue, IsGrounded, IsShort, IsKept, IsRecent}
+use Rattle.trail_core.specs.{Watching.{RowValue, ListsValue, no_row, watch_count, occurrences, row_at, list_at, IsWatched, IsRow, AreRows, AreLists, HasRoom, AreBlocked}, Kept.{Excused, IsDue, IsGrounded, IsShort, IsKept, IsRecent}}
 use Rattle.trail_core.proofs.{Watching.{count_long, count_short, watch_which, occurs}, Keeping.{lits_length, in_front}, Levels.kept_assert}
 use Rattle.list_laws.proofs.Places.{by_place_push}
 

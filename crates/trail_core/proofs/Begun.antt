@@ -1,10 +1,8 @@
 -- The clauses that a core begins with, each of which watches its first two literals.
 use Rattle.std.proofs.Common.{◌≡◌, ◌==◌, ℕ, ◌+◌, ◌<◌, ◌≤◌, List, [], ◌∷◌, ◌++◌, map, length, get_or, take, drop, cond, count_by, sum_by, refl, sym, ap, ◌∙◌, subst, arith, ◌≢◌, Contains, All, AllPairs}
-use Rattle.std.proofs.lemmas.List.{get_or-map, length-map, length_push, map_push, take_more, take-append-drop, Concat.flat_map-append, Elements.Contains-get_or}
-use Rattle.std.proofs.lemmas.List.Sums.{sum_by_push, sum_by-append}
+use Rattle.std.proofs.lemmas.List.{get_or-map, length-map, length_push, map_push, take_more, take-append-drop, Concat.flat_map-append, Elements.Contains-get_or, Sums.{sum_by_push, sum_by-append}}
 use Rattle.cnf_formula.specs.{Literals.{LitValue, code_of, yes}, Formulas.IsClause}
-use Rattle.trail_core.specs.Watching.{RowValue, ListsValue, no_row, watch_count, occurrences, IsRow, AreRows, AreLists, AreBlocked}
-use Rattle.trail_core.specs.{Search.clauses_of, Kept.{IsShort, IsKept}, inner.Begun.{front_row, IsBegun}}
+use Rattle.trail_core.specs.{Watching.{RowValue, ListsValue, no_row, watch_count, occurrences, IsRow, AreRows, AreLists, AreBlocked}, Search.clauses_of, Kept.{IsShort, IsKept}, inner.Begun.{front_row, IsBegun}}
 use Rattle.trail_core.proofs.{Storing.{joined, joined_more, occurrences_joined}, Added.{Put, exact_add, known_add, own_count}}
 
 -- a clause watches its first two literals

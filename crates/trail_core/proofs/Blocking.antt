@@ -1,12 +1,10 @@
 -- Entries of watch lists and their blocking literals, as entries and clauses come.
-use Rattle.std.proofs.lemmas.Bool.Decides.{nat_tests}
-use Rattle.std.proofs.lemmas.Grind.{common_steps}
+use Rattle.std.proofs.lemmas.{Bool.Decides.nat_tests, Grind.common_steps}
 use Rattle.std.proofs.Common.{◌≡◌, ◌≢◌, ◌==◌, ℕ, ◌-◌, ◌<◌, true, false, List, [], ◌∷◌, ◌++◌, map, length, get_or, set, refl, sym, ◌∙◌, subst, inl, inr, ⊎_elim, arith, ◌⊎◌, Contains, swap_remove}
 use Rattle.std.proofs.lemmas.{Bool.{eqb-true, cases_lt, false≢true}, List.Elements.{All-contains, Contains-push_cases}}
 use Rattle.std.proofs.lemmas.List.{get_or-set_same, get_or-set_other, get_or_append_left, get_or_default, get_or_past, get_or_push, length-set, length-take-le, get_or-take, length-map, get_or-map, map-set, map_push, take-map}
 use Rattle.cnf_formula.{specs.{Literals.{LitValue, code_of}, Formulas.IsAbout}, proofs.Codes.same_code}
-use Rattle.trail_core.specs.{Trails.TrailValue, Search.{clauses_of, CanScan}}
-use Rattle.trail_core.specs.Watching.{RowValue, WatchValue, ListsValue, watch_count, row_at, list_at, watches_at, IsWatched, IsBlocked, AreBlocked, IsOnlyNew}
+use Rattle.trail_core.specs.{Trails.TrailValue, Search.{clauses_of, CanScan}, Watching.{RowValue, WatchValue, ListsValue, watch_count, row_at, list_at, watches_at, IsWatched, IsBlocked, AreBlocked, IsOnlyNew}}
 use Rattle.trail_core.proofs.{Places.at_set, Watching.{entry_watches, watch_within, watch_long, watch_which}, Visits.lits_at}
 
 -- ---- elements of lists that change

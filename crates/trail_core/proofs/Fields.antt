@@ -1,9 +1,7 @@
 -- A trail as its fields hold it, and as a literal comes to it.
-use Rattle.std.proofs.Common.{◌≡◌, ◌≢◌, ℕ, ◌<◌, ◌≤◌, List, [], ◌∷◌, ◌++◌, Option, map, length, get_or, set, subst, arith, Contains}
-use Rattle.std.proofs.lemmas.List.{length-map}
+use Rattle.std.proofs.{Common.{◌≡◌, ◌≢◌, ℕ, ◌<◌, ◌≤◌, List, [], ◌∷◌, ◌++◌, Option, map, length, get_or, set, subst, arith, Contains}, lemmas.List.length-map}
 use Rattle.cnf_formula.specs.Literals.{LitValue, negation, code_of}
-use Rattle.trail_core.specs.{Assigned.IsOpen, Trails.{StepValue, TrailValue, lits_of, step_of, IsAssigned, IsLeveled}, inner.Packed.{reason_of, reasons_of}}
-use Rattle.trail_core.specs.declared.trail.Assignment.{Assignment}
+use Rattle.trail_core.specs.{Assigned.IsOpen, Trails.{StepValue, TrailValue, lits_of, step_of, IsAssigned, IsLeveled}, inner.Packed.{reason_of, reasons_of}, declared.trail.Assignment.Assignment}
 use Rattle.trail_core.proofs.{Trails.{lits-steps, few_limits, steps_push}, Packed.reasons_set, Valued.{code_of_within, var_new, room_for}}
 
 abbrev pub trail_of : ℕ → List Assignment → List LitValue → List ℕ → TrailValue

@@ -1,12 +1,9 @@
 -- What a core keeps, as it propagates.
-use Rattle.std.proofs.Common.{◌≡◌, ℕ, ◌+◌, ◌<◌, ◌≤◌, List, [], ◌∷◌, ◌++◌, length, get_or, take, refl, sym, ap, ◌∙◌, subst, inl, inr, ⊎_elim, arith, ◌⊎◌, Contains, All}
-use Rattle.std.proofs.{lemmas.{Grind.common_steps, Bool.cases_lt, List.Elements.{Contains-get_or, All-contains}}, Math.Bool.not-not}
-use Rattle.std.proofs.lemmas.List.{map-append, take-append-le, take_at, take_all, get_or-take, get_or-map, get_or_append_left, length-append, length-map, length-take-le}
+use Rattle.std.proofs.{Common.{◌≡◌, ℕ, ◌+◌, ◌<◌, ◌≤◌, List, [], ◌∷◌, ◌++◌, length, get_or, take, refl, sym, ap, ◌∙◌, subst, inl, inr, ⊎_elim, arith, ◌⊎◌, Contains, All}, lemmas.{Grind.common_steps, Bool.cases_lt}}
+use Rattle.std.proofs.{lemmas.List.{Elements.{Contains-get_or, All-contains}, map-append, take-append-le, take_at, take_all, get_or-take, get_or-map, get_or_append_left, length-append, length-map, length-take-le}, Math.Bool.not-not}
 use Rattle.cnf_formula.specs.Literals.{LitValue, negation, code_of}
-use Rattle.trail_core.specs.{Assigned.{IsFalse, IsConsistent}, Trails.{StepValue, TrailValue, lits_of}, Search.Implied.{none, more}, Meaning.IsClosed}
-use Rattle.trail_core.specs.Watching.{RowValue, ListsValue, watch_count, row_at, AreRows, AreLists}
-use Rattle.trail_core.specs.Search.{IsSatisfied, IsFalsified, IsUnit, Implied, HasLit, clauses_of, CanScan}
-use Rattle.trail_core.specs.Kept.{Excused, ShortTrue, IsDue, IsGrounded, IsKept, IsDone}
+use Rattle.trail_core.specs.{Assigned.{IsFalse, IsConsistent}, Trails.{StepValue, TrailValue, lits_of}, Search.Implied.{none, more}, Meaning.IsClosed, Watching.{RowValue, ListsValue, watch_count, row_at, AreRows, AreLists}}
+use Rattle.trail_core.specs.{Search.{IsSatisfied, IsFalsified, IsUnit, Implied, HasLit, clauses_of, CanScan}, Kept.{Excused, ShortTrue, IsDue, IsGrounded, IsKept, IsDone}}
 use Rattle.trail_core.proofs.{Trails.all_counted, Watching.{hit_yes, count_long}, Scans.{implied_front, implied_grows, implied_weaker, lits_same}}
 use Rattle.list_laws.proofs.Places.{by_place_push}
 

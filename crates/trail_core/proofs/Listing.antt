@@ -1,9 +1,8 @@
 -- The lists of a pool, and what a call for the list of one literal does to them.
-use Rattle.std.proofs.Common.{◌≡◌, ℕ, ◌+◌, ◌-◌, ◌<◌, ◌≤◌, false, List, [], ◌∷◌, ◌++◌, map, length, get_or, set, refl, sym, ap, ◌∙◌, subst, arith, Contains, swap_remove}
-use Rattle.std.proofs.{Math.Seq.map-set_same, lemmas.List.{get_or_read, get_or-map, length-map, length-set, map-set, map_push, set-get_or}}
+use Rattle.std.proofs.{Common.{◌≡◌, ℕ, ◌+◌, ◌-◌, ◌<◌, ◌≤◌, false, List, [], ◌∷◌, ◌++◌, map, length, get_or, set, refl, sym, ap, ◌∙◌, subst, arith, Contains, swap_remove}, Math.Seq.map-set_same}
+use Rattle.std.proofs.lemmas.List.{get_or_read, get_or-map, length-map, length-set, map-set, map_push, set-get_or}
 use Rattle.list_laws.proofs.Fronts.{at_map, same_map}
-use Rattle.trail_core.specs.{Watching.{WatchValue, ListsValue, no_lit, list_at, watches_at, IsOnlyNew}, declared.span.Span.Span}
-use Rattle.trail_core.specs.inner.Pooled.{entries_of, numbers_of, IsInside, ArePooled}
+use Rattle.trail_core.specs.{Watching.{WatchValue, ListsValue, no_lit, list_at, watches_at, IsOnlyNew}, declared.span.Span.Span, inner.Pooled.{entries_of, numbers_of, IsInside, ArePooled}}
 use Rattle.trail_core.proofs.{Rooms.{no_less, at_written}, Blocking.{in_removed, map_removed, only_new, only_less, in_set, push_entry}}
 use Rattle.trail_core.proofs.Pooling.{part_at, views_set, others_stay, part_set, push_entries, removed_entries, longer_entries, pooled_same, viewed, listed, entries_len, numbers_len, spans_many, no_watch}
 

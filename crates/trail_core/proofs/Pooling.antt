@@ -1,12 +1,9 @@
 -- Lists that lie in one pool, as entries of one of them change or it is moved.
-use Rattle.std.proofs.lemmas.Bool.Decides.{nat_tests}
-use Rattle.std.proofs.lemmas.Grind.{common_steps}
-use Rattle.std.proofs.Common.{◌≡◌, ◌≢◌, ℕ, ◌+◌, ◌-◌, ◌<◌, ◌≤◌, false, List, [], ◌∷◌, ◌++◌, map, length, get_or, set, drop, sym, ◌∙◌, arith, rules, ◌⊎◌, swap_remove}
+use Rattle.std.proofs.{lemmas.{Bool.Decides.nat_tests, Grind.common_steps}, Common.{◌≡◌, ◌≢◌, ℕ, ◌+◌, ◌-◌, ◌<◌, ◌≤◌, false, List, [], ◌∷◌, ◌++◌, map, length, get_or, set, drop, sym, ◌∙◌, arith, rules, ◌⊎◌, swap_remove}}
 use Rattle.std.proofs.lemmas.Bool.{cases_lt, cases_eq}
 use Rattle.std.proofs.lemmas.List.{places, same_lists, ext_get_or, get_or-take, get_or-drop, get_or-set_same, get_or-set_other, get_or_read, get_or_append_left, get_or_push, get_or_past, length-set, length-map, length-drop, length-take-le, length_push, map-set, get_or-map}
 use Rattle.list_laws.proofs.Fronts.{at_map}
-use Rattle.trail_core.proofs.Places.{at_set}
-use Rattle.trail_core.specs.{Watching.{WatchValue, no_lit}, inner.Pooled.{part, entries_of, numbers_of, IsInside, AreApart, ArePooled}, declared.span.Span.Span}
+use Rattle.trail_core.{proofs.Places.at_set, specs.{Watching.{WatchValue, no_lit}, inner.Pooled.{part, entries_of, numbers_of, IsInside, AreApart, ArePooled}, declared.span.Span.Span}}
 
 pub no_watch : WatchValue
 no_watch = record { clause = 0; pair = false; blocker = no_lit }

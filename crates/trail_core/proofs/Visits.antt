@@ -1,13 +1,11 @@
 -- One visit of a clause that watches a literal which is false.
 use Rattle.std.proofs.Common.{◌≡◌, ◌≢◌, ℕ, ◌+◌, ◌<◌, true, false, List, [], ◌∷◌, ◌++◌, Some, length, get_or, set, eqb, refl, sym, ap, ◌∙◌, subst, inl, inr, ⊎_elim, arith, ◌⊎◌, Contains, swap_remove}
-use Rattle.std.proofs.lemmas.Bool.{eqb-true, eqb-false, cases_eq}
-use Rattle.std.proofs.lemmas.List.{get_or-set_same, get_or-set_other, get_or-take, get_or_default, length-set, length-map, get_or-map, get_or_past, map_push}
+use Rattle.std.proofs.lemmas.{Bool.{eqb-true, eqb-false, cases_eq}, List.{get_or-set_same, get_or-set_other, get_or-take, get_or_default, length-set, length-map, get_or-map, get_or_past, map_push}}
 use Rattle.list_laws.proofs.Fronts.{same_map}
 use Rattle.cnf_formula.{specs.Literals.{LitValue, code_of}, proofs.Codes.same_code}
 use Rattle.trail_core.specs.{Assigned.{IsFalse, IsOpen}, Trails.{StepValue, TrailValue, lits_of}, Search.{IsUnit, Implied, HasLit, clauses_of, Scanned}}
 use Rattle.trail_core.specs.{Watching.{RowValue, ListsValue, no_row, watch_count, row_at, list_at, IsWatched, IsRow, AreRows}, Search.Implied.{none, more}}
-use Rattle.trail_core.proofs.Places.{at_set}
-use Rattle.trail_core.proofs.Watching.{hit, hit_yes, hit_no, count_long, watch_long, watch_which, watch_within, entry_watches, occurs, room_in_list, shifted, moved}
+use Rattle.trail_core.proofs.{Places.at_set, Watching.{hit, hit_yes, hit_no, count_long, watch_long, watch_which, watch_within, entry_watches, occurs, room_in_list, shifted, moved}}
 
 -- the clause and the two literals that it watches, of which one is false
 pub record Pair (rows : List RowValue) (id : ℕ) (falsified other : LitValue) : Type 0 where

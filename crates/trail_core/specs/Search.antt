@@ -1,8 +1,7 @@
 -- What a scan of the clauses that watch a literal does to rows and trail (unit propagation).
 use Rattle.std.specs.Prelude.{◌≡◌, ◌⊎◌, ℕ, ◌<◌, List, [], ◌∷◌, ◌++◌, Some, Contains, length, get_or, map}
 use Rattle.cnf_formula.specs.Literals.{LitValue, code_of}
-use Rattle.trail_core.specs.{Assigned.{IsFalse, IsOpen}, Trails.{StepValue, TrailValue, lits_of}}
-use Rattle.trail_core.specs.Watching.{RowValue, ListsValue, watch_count, row_at, IsWatched, AreRows, AreLists, AreBlocked}
+use Rattle.trail_core.specs.{Assigned.{IsFalse, IsOpen}, Trails.{StepValue, TrailValue, lits_of}, Watching.{RowValue, ListsValue, watch_count, row_at, IsWatched, AreRows, AreLists, AreBlocked}}
 
 -- some literal of the clause is true
 abbrev pub IsSatisfied : List LitValue → List LitValue → Type 0

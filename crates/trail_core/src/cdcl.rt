@@ -2,9 +2,8 @@
 //! watched literals.
 
 ghost use Rattle.std.specs.Prelude.{◌≡◌, ◌≢◌, ℕ, ◌+◌, ◌<◌, ◌≤◌, List, [], ◌∷◌, ◌++◌, Option, Some, None, MatchOption, length, get_or, map, slice_index, Contains, All, AllPairs, IfOk, OnErr, take};
-ghost use Rattle.cnf_formula.specs.{Literals.{LitValue}, Formulas.{IsAbout, IsClause}};
-ghost use Rattle.trail_core.specs.{Assigned.{IsOpen, IsValue, level_at}, Search.{IsFalsified, IsUnit, Implied}, Kept.{IsDue, AreGrounded, CanAdd}};
-ghost use Rattle.trail_core.specs.{Meaning.{CoreValue, trues, IsClosed, IsClosedBelow}, Formed.IsTrail};
+ghost use Rattle.cnf_formula.specs.{Literals.LitValue, Formulas.{IsAbout, IsClause}};
+ghost use Rattle.trail_core.specs.{Assigned.{IsOpen, IsValue, level_at}, Search.{IsFalsified, IsUnit, Implied}, Kept.{IsDue, AreGrounded, CanAdd}, Meaning.{CoreValue, trues, IsClosed, IsClosedBelow}, Formed.IsTrail};
 
 use crate::adding::hold;
 use crate::lists::WatchLists;

@@ -3,8 +3,7 @@
 
 ghost use Rattle.std.specs.Prelude.{false, ◌≡◌, ◌≢◌, ◌⊎◌, ℕ, ◌+◌, ◌*◌, ◌<◌, ◌≤◌, IsTrue, [], Option, Some, None, MatchOption, length, slice_index, Contains, All};
 ghost use Rattle.cnf_formula.specs.{Literals.{LitValue, code_of}, Formulas.IsAbout};
-ghost use Rattle.trail_core.specs.{Assigned.IsFalse, Trails.lits_of, Watching.{AreRows, watch_count, row_at, list_at}, Kept.{IsShort, IsDue, IsKept, IsDone}};
-ghost use Rattle.trail_core.specs.Search.{CanScan, Scanned, IsSatisfied, IsFalsified, Implied, clauses_of};
+ghost use Rattle.trail_core.specs.{Assigned.IsFalse, Trails.lits_of, Watching.{AreRows, watch_count, row_at, list_at}, Kept.{IsShort, IsDue, IsKept, IsDone}, Search.{CanScan, Scanned, IsSatisfied, IsFalsified, Implied, clauses_of}};
 
 use crate::lists::WatchLists;
 use crate::store::ClauseStore;

@@ -1,6 +1,5 @@
 -- Two right reports of one search that leave nothing unknown count as many points and as many refuted candidates.
-use Rattle.std.proofs.{Common.{◌≡◌, ℕ, ◌+◌, List, [], ◌∷◌, map, length, refl, sym, ap, ◌∙◌, subst, arith, sum_by, All}, lemmas.List.Sums.sum_by-cons}
-use Rattle.std.proofs.lemmas.List.{length-map, nil_from_length, Elements.{All-nil, All-cons, All-head, All-tail}}
+use Rattle.std.proofs.{Common.{◌≡◌, ℕ, ◌+◌, List, [], ◌∷◌, map, length, refl, sym, ap, ◌∙◌, subst, arith, sum_by, All}, lemmas.List.{Sums.sum_by-cons, length-map, nil_from_length, Elements.{All-nil, All-cons, All-head, All-tail}}}
 use Rattle.outer_ports.specs.declared.part.Part.{Part}
 use Rattle.candidate_order.{specs.Frontiers.{FrontierValue, PointValue, RightFrontier, Searched, solved}, proofs.Settled.{same_points, same_refuted}}
 use Rattle.topology_text.specs.Value.{NamedTopologyValue}

@@ -1,14 +1,12 @@
 -- Each trial is a search that can be done.
-use Rattle.std.{proofs.Common.{◌≡◌, arith, ℕ, ◌/◌, ◌%◌, ◌≤◌, not, true, [], ◌∷◌, length, map, None, refl, sym, subst}, specs.List.{list_all, range_with_len}}
-use Rattle.std.proofs.lemmas.List.{FromFn.{get_or-range_with_len, length-map-range_with_len}, Sums.AllPass-from_list_all}
+use Rattle.std.proofs.{Common.{◌≡◌, arith, ℕ, ◌/◌, ◌%◌, ◌≤◌, not, true, [], ◌∷◌, length, map, None, refl, sym, subst}, lemmas.List.{FromFn.{get_or-range_with_len, length-map-range_with_len}, Sums.AllPass-from_list_all}}
+use Rattle.std.specs.List.{list_all, range_with_len}
 use Rattle.outer_ports.specs.declared.part.Part.TheVariants.{Whole}
 use Rattle.collective_spec.specs.{declared.kind.Kind.Kind, Kinds.is_custom}
 use Rattle.collective_spec.specs.declared.kind.Kind.TheVariants as kind
 use Rattle.candidate_formula.specs.Sizes.{size_of}
 use Rattle.round_encoding.specs.Candidates.{size_limit}
-use Rattle.topology_text.specs.{declared.family_kind.FamilyKind.{FamilyKind, TheVariants.{Line, Ring, Complete, Shared}}, Value.IsNamed}
-use Rattle.topology_text.specs.Family.{family_groups, family_of, is_allowed, numbered_name}
-use Rattle.topology_text.proofs.FamilyLaws.{family_named}
+use Rattle.topology_text.{specs.{declared.family_kind.FamilyKind.{FamilyKind, TheVariants.{Line, Ring, Complete, Shared}}, Value.IsNamed, Family.{family_groups, family_of, is_allowed, numbered_name}}, proofs.FamilyLaws.family_named}
 use Rattle.report_form.specs.Reports.{IsWords, question_of}
 use Rattle.frontier_audit.specs.Searches.{IsAsked}
 use Rattle.run_rules.specs.Trials.{trial_chunks, trial_family, trial_kind, trial_size, trial_words}

@@ -1,16 +1,13 @@
 -- How large a trial's search is at most.
-use Rattle.std.proofs.{Common.{◌≡◌, arith, ℕ, ◌+◌, ◌*◌, ◌%◌, ◌≤◌, List, [], ◌∷◌, length, map, get_or, All, sum_by}, lemmas.{Nat.mul-le, List.length-map}}
-use Rattle.std.proofs.lemmas.List.{Elements.{All-nil, All-cons, All-get_or, All-map}, Sums.{length-filter, count_by-le-length, sum_by-le}}
-use Rattle.std.proofs.lemmas.List.FromFn.{length-map-range_with_len}
+use Rattle.std.proofs.{Common.{◌≡◌, arith, ℕ, ◌+◌, ◌*◌, ◌%◌, ◌≤◌, List, [], ◌∷◌, length, map, get_or, All, sum_by}, lemmas.{Nat.mul-le, List.{length-map, Elements.{All-nil, All-cons, All-get_or, All-map}}}}
+use Rattle.std.proofs.lemmas.List.{Sums.{length-filter, count_by-le-length, sum_by-le}, FromFn.length-map-range_with_len}
 use Rattle.outer_ports.specs.declared.part.Part.TheVariants.{Whole}
 use Rattle.schedule.specs.Links.{GroupValue, IsTopology, usable_links}
 use Rattle.collective_spec.specs.{declared.kind.Kind.Kind, Collectives.chunks_of}
 use Rattle.collective_spec.specs.declared.kind.Kind.TheVariants as kind
 use Rattle.candidate_formula.{specs.Sizes.size_of, proofs.Links.few_usable}
 use Rattle.round_encoding.specs.Candidates.{group_size}
-use Rattle.topology_text.proofs.FamilyLinks.{length-pairs}
-use Rattle.topology_text.specs.declared.family_kind.FamilyKind.{FamilyKind}
-use Rattle.topology_text.specs.Family.{family_groups, family_links, family_of, is_family_link, numbered_name, one_wide, pairs, single}
+use Rattle.topology_text.{proofs.FamilyLinks.length-pairs, specs.{declared.family_kind.FamilyKind.FamilyKind, Family.{family_groups, family_links, family_of, is_family_link, numbered_name, one_wide, pairs, single}}}
 use Rattle.topology_text.specs.declared.family_kind.FamilyKind.TheVariants as family
 use Rattle.report_form.specs.Reports.{WordsValue, question_of}
 use Rattle.run_rules.specs.Trials.{trial_family}

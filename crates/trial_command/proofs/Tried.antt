@@ -4,8 +4,7 @@ use Rattle.outer_ports.specs.{declared.part.Part.TheVariants.Whole, Files.Files}
 use Rattle.candidate_formula.specs.Sizes.{size_of}
 use Rattle.round_encoding.specs.Candidates.{size_limit}
 use Rattle.topology_text.specs.Value.{NamedTopologyValue}
-use Rattle.report_form.specs.{declared.fault.{ReportCode.TheVariants.OutOfMemory, ReportFault.ReportFault}, Answer.Answers}
-use Rattle.report_form.specs.Reports.{ReportValue, WordsValue, question_of}
+use Rattle.report_form.specs.{declared.fault.{ReportCode.TheVariants.OutOfMemory, ReportFault.ReportFault}, Answer.Answers, Reports.{ReportValue, WordsValue, question_of}}
 use Rattle.frontier_audit.specs.{Rights.{IsRight, IsSearched}, Shelves.ShelfRight}
 use Rattle.run_rules.specs.{Trials.{trial_text, trial_words}, Tries.Tries}
 use Rattle.trial_command.{specs.Counts.trial_topology, proofs.{Searchable.trial_small, Verified.verified_by}}

@@ -4,9 +4,7 @@ use Rattle.outer_ports.specs.{Files.Files, declared.part.Part.{Part, TheVariants
 use Rattle.allreduce_join.specs.Joins.{Joins}
 use Rattle.candidate_order.specs.Frontiers.{FrontierValue, PointValue}
 use Rattle.report_form.specs.Reports.{ReportValue, parts_of}
-use Rattle.frontier_audit.specs.{declared.verdict.AuditVerdict.TheVariants.Verified, Auditing.audit_of, Rights.{AreJoined, IsRight}, Shelves.ShelfRight}
-use Rattle.frontier_audit.specs.Parts.{IsRightPart, is_gather, is_reduce, points_of}
-use Rattle.frontier_audit.proofs.Right.{right_verified}
+use Rattle.frontier_audit.{specs.{declared.verdict.AuditVerdict.TheVariants.Verified, Auditing.audit_of, Rights.{AreJoined, IsRight}, Shelves.ShelfRight, Parts.{IsRightPart, is_gather, is_reduce, points_of}}, proofs.Right.right_verified}
 use Rattle.run_rules.{specs.Claims.IsVerdict, proofs.OneVerdict.verdict_exactly}
 
 -- the joins of the two parts are those of the points that the audit picks

@@ -1,21 +1,18 @@
 -- The checks of an audit as its steps do them.
-use Rattle.std.specs.Prelude.{◌≡◌, ◌==◌, ◌&&◌, ◌||◌, ◌+◌, ◌++◌, not, if◌then◌else◌, ℕ, Bool, List, Option, None, Some, drop, filter, map, Ok, Err}
-use Rattle.std.specs.List.{list_any, flat_map, range_with_len}
+use Rattle.std.specs.{Prelude.{◌≡◌, ◌==◌, ◌&&◌, ◌||◌, ◌+◌, ◌++◌, not, if◌then◌else◌, ℕ, Bool, List, Option, None, Some, drop, filter, map, Ok, Err}, List.{list_any, flat_map, range_with_len}}
 use Rattle.text_lines.specs.Check.{◌>>=◌, refuse}
 use Rattle.outer_ports.specs.{declared.part.Part.Part, Files.Files}
 use Rattle.schedule.specs.{declared.hop.Hop.Hop, Links.TopologyValue}
 use Rattle.inversion.specs.Saying.{says_sums}
 use Rattle.collective_spec.specs.{declared.kind.Kind.{Kind, TheVariants.Allreduce}, Collectives.chunks_of}
-use Rattle.candidate_order.specs.{declared.{candidate.Candidate.Candidate, mark.Mark.Mark}, Listed.candidate_at}
-use Rattle.candidate_order.specs.Frontiers.{QuestionValue, PointValue, UnknownValue, FrontierValue, given_up}
+use Rattle.candidate_order.specs.{declared.{candidate.Candidate.Candidate, mark.Mark.Mark}, Listed.candidate_at, Frontiers.{QuestionValue, PointValue, UnknownValue, FrontierValue, given_up}}
 use Rattle.candidate_order.specs.declared.mark.Mark.TheVariants as mark
 use Rattle.allreduce_join.specs.{Joins.{join_of, pairs_of}, Judging.joined_verdict_of}
 use Rattle.candidate_formula.specs.{Counts.chunk_counts, Pruned.is_cut_away}
 use Rattle.report_form.specs.{Tests.{is_better, is_no_worse}, Reports.{ReportValue, question_of}}
 use Rattle.proof_audit.specs.declared.verdict.FileVerdict.{FileVerdict, TheVariants.{Missing, Refused, Stands}}
-use Rattle.frontier_audit.specs.declared.verdict.Reason.{Reason, TheVariants.{CandidateMissing, JoinWrong, MarkWrong, ProofMissing, ScheduleWrong}}
-use Rattle.frontier_audit.specs.{Denials.{Denial, Checked, each, in_part}, Candidates.{candidates_within, is_listed, same_candidate}, Beside.denial_of}
-use Rattle.frontier_audit.specs.{Solutions.{is_optimal, is_solution}, Joining.{joined_checked, joins_checked, same_mark, same_point}}
+use Rattle.frontier_audit.specs.{declared.verdict.Reason.{Reason, TheVariants.{CandidateMissing, JoinWrong, MarkWrong, ProofMissing, ScheduleWrong}}, Denials.{Denial, Checked, each, in_part}}
+use Rattle.frontier_audit.specs.{Candidates.{candidates_within, is_listed, same_candidate}, Beside.denial_of, Solutions.{is_optimal, is_solution}, Joining.{joined_checked, joins_checked, same_mark, same_point}}
 use Rattle.frontier_audit.specs.{Parts.{is_gather, is_reduce, points_of}, Auditing.{frontier_checked, refutation_checked}}
 
 -- ---- the checks of each part by name

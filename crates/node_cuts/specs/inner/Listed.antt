@@ -1,7 +1,6 @@
 -- The listed sets as the code has them, and a set as it is given.
 use Rattle.std.specs.{Prelude.{ℕ, ◌==◌, ◌||◌, ◌+◌, ◌-◌, not, List, ◌++◌, map}, List.{flat_map, range_with_len}}
-use Rattle.node_cuts.specs.{declared.{members.Members.{Members, TheVariants.{Sided, Bits}}, side.Side.Side}, Sides.{NodeSet, has_bit}}
-use Rattle.node_cuts.specs.declared.side.Side.TheVariants.{One, Two, AllButOne, AllButTwo}
+use Rattle.node_cuts.specs.{declared.{members.Members.{Members, TheVariants.{Sided, Bits}}, side.Side.{Side, TheVariants.{One, Two, AllButOne, AllButTwo}}}, Sides.{NodeSet, has_bit}}
 
 abbrev pub set_of : Side → NodeSet
 set_of (One a) n = n == a

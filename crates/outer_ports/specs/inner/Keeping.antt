@@ -1,7 +1,6 @@
 -- What calls of a file system leave as it was. This project's own.
 use Rattle.std.specs.Prelude.{◌≡◌, ◌≢◌, ℕ, List, Option, Some, IsTrue}
-use Rattle.outer_ports.specs.{declared.{proof_name.ProofName.ProofName, open_files.OpenFiles.OpenFiles}, Disks.{Disk, bytes_at}, Folders.{in_range, path_in}}
-use Rattle.outer_ports.specs.inner.OpenFiles.{Holds}
+use Rattle.outer_ports.specs.{declared.{proof_name.ProofName.ProofName, open_files.OpenFiles.OpenFiles}, Disks.{Disk, bytes_at}, Folders.{in_range, path_in}, inner.OpenFiles.Holds}
 
 -- the file of the path has this number, and has no other path
 pub record IsOwn (disk : Disk) (path : List ℕ) (n : ℕ) : Type 0 where

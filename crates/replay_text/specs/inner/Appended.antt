@@ -1,10 +1,9 @@
 -- What the printers of a replay append, of the values that the code keeps.
-use Rattle.std.specs.Prelude.{ℕ, ◌+◌, List, [], ◌∷◌, ◌++◌, if◌then◌else◌, filter, map, None, unwrap_or, codes, decimal}
-use Rattle.std.specs.List.{range_with_len, last_or}
+use Rattle.std.specs.{Prelude.{ℕ, ◌+◌, List, [], ◌∷◌, ◌++◌, if◌then◌else◌, filter, map, None, unwrap_or, codes, decimal}, List.{range_with_len, last_or}}
 use Rattle.schedule.specs.{Placed.{PlacementValue, holds}, Bags.{Bag, Bags, contributions, held_at_2, of_placement}}
 use Rattle.bag_runs.specs.Stores.{StoreValue, bag_in}
 use Rattle.topology_text.specs.Spelling.{name_at}
-use Rattle.replay_text.specs.{Showing.{Shown, chunks_at, instance_at, is_copied, nodes_of}}
+use Rattle.replay_text.specs.Showing.{Shown, chunks_at, instance_at, is_copied, nodes_of}
 
 -- ---- parts of the lines of a step
 

@@ -2,8 +2,7 @@
 use Rattle.ledger_rules.specs.declared.ledger.Ledger as own
 use Rattle.ledger_rules.specs.declared.ledger.LedgerView as view
 use Rattle.trail_core.specs.Meaning.{CoreValue}
-use Rattle.sat_core.specs.{declared.{guide.Guide.Guide, searching.End.{End, TheVariants.{Total, Refuted, Spent}}}, inner.Totals.IsTotal}
-use Rattle.sat_core.specs.inner.Going.{CanSearch, HasRefuted, HasSpent}
+use Rattle.sat_core.specs.{declared.{guide.Guide.Guide, searching.End.{End, TheVariants.{Total, Refuted, Spent}}}, inner.{Totals.IsTotal, Going.{CanSearch, HasRefuted, HasSpent}}}
 
 -- what holds at each end
 abbrev pub IsEnded : {L T : Type 0} → view.Ghosts L → own.Ghosts L T → L → T → CoreValue → Guide → End → Type 0

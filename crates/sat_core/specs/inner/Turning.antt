@@ -6,8 +6,7 @@ use Rattle.ledger_rules.specs.declared.ledger.LedgerView as view
 use Rattle.trail_core.specs.Meaning.{CoreValue}
 use Rattle.conflict_analysis.specs.{Conflicts.IsConflict, Learned.IsLearned}
 use Rattle.sleeping_clauses.specs.{Naming.IsNamed, Sleeping.{SleepersValue, sleeping}, declared.awake.Awake.Awake}
-use Rattle.sat_core.specs.{declared.{guide.Guide.Guide, turn.Turn.{Turn, TheVariants.{Goes, Refuted, Spent}}}, inner.Going.{CanSearch, HasRefuted, HasSpent}}
-use Rattle.sat_core.specs.{inner.Measure.IsLess, Ready.IsReady}
+use Rattle.sat_core.specs.{declared.{guide.Guide.Guide, turn.Turn.{Turn, TheVariants.{Goes, Refuted, Spent}}}, inner.{Going.{CanSearch, HasRefuted, HasSpent}, Measure.IsLess}, Ready.IsReady}
 
 -- a search is ready and at a conflict, and has what is learned from it as a line by the ledger's numbers
 pub record IsTurn (base : FormulaValue) (lines : List ProofLineValue) (core : CoreValue) (awake : Awake) (s : SleepersValue) (conflict : ℕ) (line : ProofLineValue) : Type 0 where

@@ -1,8 +1,7 @@
 use Rattle.std.proofs.Common.{ℕ, List, get_or, sym, ap, ◌∙◌, arith}
 use Rattle.schedule.{specs.{declared.hop.Hop.Hop, Placed.PlacementValue}, proofs.Joining.{IsHopBelow, step_below}}
-use Rattle.allreduce_join.proofs.Meeting.{again, first_time, met_all, met_none}
+use Rattle.allreduce_join.proofs.{Meeting.{again, first_time, met_all, met_none}, clash.met_twice.Goals.{then-holds, else-holds}}
 use Rattle.allreduce_join.proofs.clash.met_twice.Goals as goal
-use Rattle.allreduce_join.proofs.clash.met_twice.Goals.{then-holds, else-holds}
 
 abbrev no_hop : Hop
 no_hop = record { chunk = 0; from = 0; to = 0; step = 0 }

@@ -1,8 +1,7 @@
 use Rattle.std.proofs.Common.{◌≡◌, ℕ, List, ◌++◌, length, map, arith}
 use Rattle.schedule.specs.{declared.hop.Hop.Hop, Sends.ScheduleValue}
-use Rattle.allreduce_join.{specs.Joins.one_after, proofs.Sequence.valid_sequence}
+use Rattle.allreduce_join.{specs.Joins.one_after, proofs.{Sequence.valid_sequence, Later.later}}
 use Rattle.allreduce_join.proofs.join.one_after.Goals as goal
-use Rattle.allreduce_join.proofs.Later.{later}
 
 -- the rounds and the sends are those of the one and then of the other
 joined : (p q : ScheduleValue) (rounds had more first : List ℕ) (sends before : List Hop) → rounds ≡ had ++ more → had ≡ p.rounds → more ≡ q.rounds → first ≡ p.rounds → sends ≡ before ++ map (later (length first)) q.sends → before ≡ p.sends → record { rounds = rounds; sends = sends } ≡ one_after (length p.rounds) p q

@@ -1,6 +1,5 @@
 use Rattle.std.proofs.Common.{arith}
-use Rattle.candidate_formula.proofs.{Copying.{same_allowed, copied_stays}, CopyingQuestions.{small_by_copying, within_by, reduced_formula, copied_suits}}
-use Rattle.candidate_formula.proofs.TurnedSize.{copied_size}
+use Rattle.candidate_formula.proofs.{Copying.{same_allowed, copied_stays}, CopyingQuestions.{small_by_copying, within_by, reduced_formula, copied_suits}, TurnedSize.copied_size}
 use Rattle.candidate_formula.proofs.laws.reductions_are_sought_by_copying.Goals as goal
 
 pub returns-clause-small : goal.returns-clause-small

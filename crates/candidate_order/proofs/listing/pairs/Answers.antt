@@ -1,6 +1,5 @@
-use Rattle.std.{proofs.Common.{rules, ◌≡◌, ◌+◌, sym, ap, ◌∙◌, map, map-id, refl, arith}, specs.{List.range_with_len, Slice.Iter.iter_rest}}
-use Rattle.std.{specs.Iterator.Adapters.copied_source, proofs.lemmas.{Result.IfOk-weaker, Iterator.{YieldsList-from_slice, YieldsList-from_range}}}
-use Rattle.std.proofs.lemmas.Iterator.Consumers.{YieldsList-from_copied}
+use Rattle.std.proofs.{Common.{rules, ◌≡◌, ◌+◌, sym, ap, ◌∙◌, map, map-id, refl, arith}, lemmas.{Result.IfOk-weaker, Iterator.{YieldsList-from_slice, YieldsList-from_range, Consumers.YieldsList-from_copied}}}
+use Rattle.std.specs.{List.range_with_len, Slice.Iter.iter_rest, Iterator.Adapters.copied_source}
 use Rattle.itertools.proofs.AdaptorLemmas.{items_from_whole_run}
 use Rattle.candidate_order.specs.Listed.{candidate_at}
 use Rattle.candidate_order.proofs.listing.pairs.Goals as goal

@@ -2,8 +2,7 @@ use Rattle.std.proofs.Common.{sym, subst, ◌∙◌}
 use Rattle.cnf_formula.specs.Formulas.{Satisfies}
 use Rattle.candidate_order.specs.Frontiers.{QuestionValue, instance_for}
 use Rattle.candidate_formula.proofs.BegunFiles.{begun_trans}
-use Rattle.candidate_solver.specs.{Questions.asked, Trying.{BeginsOwn, IsSearch, Says}}
-use Rattle.candidate_solver.proofs.{Tried.{has_files, outcome_by}, SmallFormulas.formula_small}
+use Rattle.candidate_solver.{specs.{Questions.asked, Trying.{BeginsOwn, IsSearch, Says}}, proofs.{Tried.{has_files, outcome_by}, SmallFormulas.formula_small}}
 use Rattle.candidate_solver.proofs.trying.try_candidate.Goals as goal
 
 pub returns-in_err-answer-clause-begins : goal.returns-in_err-answer-clause-begins

@@ -1,5 +1,4 @@
-use Rattle.std.proofs.Common.{◌≡◌, ◌+◌, [], length, map, drop}
-use Rattle.std.specs.List.{IsDistinct}
+use Rattle.std.{proofs.Common.{◌≡◌, ◌+◌, [], length, map, drop}, specs.List.IsDistinct}
 use Rattle.command_words.specs.{Tables.same_key, Words.{given_from, texts}, inner.Seen.{AreRight, from_place, seen_all}}
 use Rattle.command_words.proofs.reading.command_given.Given as goal
 

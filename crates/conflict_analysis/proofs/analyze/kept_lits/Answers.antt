@@ -1,5 +1,4 @@
-use Rattle.std.proofs.lemmas.Grind.{common_steps}
-use Rattle.std.proofs.{Common.{◌≡◌, ◌<◌, List, length, get_or, sym, ap, ◌∙◌, arith}, lemmas.List.get_or_default}
+use Rattle.std.proofs.{lemmas.{Grind.common_steps, List.get_or_default}, Common.{◌≡◌, ◌<◌, List, length, get_or, sym, ap, ◌∙◌, arith}}
 use Rattle.cnf_formula.specs.Literals.{LitValue}
 use Rattle.conflict_analysis.proofs.{Left.left_more, Marked.read_stands}
 use Rattle.conflict_analysis.proofs.analyze.kept_lits.Goals as goal

@@ -1,11 +1,9 @@
-use Rattle.std.proofs.Common.{of_z, to_z, rules, w64, Option, ◌≡◌, ◌+◌, [], ◌∷◌, ◌++◌, sym, ap, ◌∙◌, arith, pos, reverse}
-use Rattle.std.proofs.lemmas.{Int.to_z-of_z, List.append-nil}
+use Rattle.std.proofs.{Common.{of_z, to_z, rules, w64, Option, ◌≡◌, ◌+◌, [], ◌∷◌, ◌++◌, sym, ap, ◌∙◌, arith, pos, reverse}, lemmas.{Int.to_z-of_z, List.append-nil}}
 use Rattle.cnf_formula.specs.Literals.{LitValue}
 use Rattle.conflict_analysis.specs.Met.{value_of, WalkValue}
-use Rattle.conflict_analysis.proofs.{Pointed.{IsBegun, begun_sorted, conflict_within, met_passed, met_open_some}, Learned.{IsEnded, point_lits, learned_by}}
-use Rattle.conflict_analysis.proofs.Left.{left_kept, left_in, left_sorted, left_passed, left_point, kept_room}
-use Rattle.conflict_analysis.proofs.analyze.line_at.Goals as goal
+use Rattle.conflict_analysis.proofs.{Pointed.{IsBegun, begun_sorted, conflict_within, met_passed, met_open_some}, Learned.{IsEnded, point_lits, learned_by}, Left.{left_kept, left_in, left_sorted, left_passed, left_point, kept_room}}
 use Rattle.conflict_analysis.proofs.analyze.line_at.Goals.{After-begin, in-Some+in_ok-push, in_default}
+use Rattle.conflict_analysis.proofs.analyze.line_at.Goals as goal
 
 -- nothing is met yet
 begun : (c : After-begin) → IsBegun c.args.core.now (value_of c.begin.new.self)

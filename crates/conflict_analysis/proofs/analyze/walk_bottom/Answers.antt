@@ -1,6 +1,5 @@
 use Rattle.std.proofs.Common.{◌-◌, arith}
-use Rattle.conflict_analysis.specs.Met.{value_of}
-use Rattle.conflict_analysis.proofs.{Resolved.{walked_on, open_on, above_on}, Waiting.{walked_none, walked_all, same_open, same_above, bottom_step}}
+use Rattle.conflict_analysis.{specs.Met.value_of, proofs.{Resolved.{walked_on, open_on, above_on}, Waiting.{walked_none, walked_all, same_open, same_above, bottom_step}}}
 use Rattle.conflict_analysis.proofs.analyze.walk_bottom.Goals as goal
 
 pub loop-walk-init : goal.loop-walk-init

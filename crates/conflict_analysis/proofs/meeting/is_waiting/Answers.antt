@@ -1,6 +1,4 @@
-use Rattle.std.proofs.lemmas.Bool.Decides.{nat_tests}
-use Rattle.std.proofs.lemmas.Grind.{common_steps}
-use Rattle.std.proofs.{Common.{arith, eq-eqb}, lemmas.Bool.eqb-true}
+use Rattle.std.proofs.{lemmas.{Bool.{Decides.nat_tests, eqb-true}, Grind.common_steps}, Common.{arith, eq-eqb}}
 use Rattle.conflict_analysis.proofs.{Resolved.place_read, Marked.lit_about, Waiting.mark_read}
 use Rattle.conflict_analysis.proofs.meeting.is_waiting.Goals as goal
 

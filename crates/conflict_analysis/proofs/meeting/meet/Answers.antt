@@ -1,11 +1,8 @@
-use Rattle.std.proofs.lemmas.Bool.Decides.{nat_tests}
-use Rattle.std.proofs.lemmas.Grind.{common_steps}
-use Rattle.std.proofs.Common.{◌≡◌, ◌+◌, [], ◌∷◌, ◌++◌, set, sym, subst, arith, Contains}
+use Rattle.std.proofs.{lemmas.{Bool.Decides.nat_tests, Grind.common_steps}, Common.{◌≡◌, ◌+◌, [], ◌∷◌, ◌++◌, set, sym, subst, arith, Contains}}
 use Rattle.trail_core.specs.{Assigned.level_at, Meaning.trues}
 use Rattle.conflict_analysis.specs.Met.{value_of, WalkValue, HasMet}
-use Rattle.conflict_analysis.proofs.Marked.{IsUnmet, met_bottom, met_open, met_kept, unmet_by, unmet_at, level_read, level_within, at_false}
+use Rattle.conflict_analysis.proofs.{Marked.{IsUnmet, met_bottom, met_open, met_kept, unmet_by, unmet_at, level_read, level_within, at_false}, meeting.meet.Goals.{After-negated-this, After-level-level}}
 use Rattle.conflict_analysis.proofs.meeting.meet.Goals as goal
-use Rattle.conflict_analysis.proofs.meeting.meet.Goals.{After-negated-this, After-level-level}
 
 -- the literal's negation stands on the trail
 stands : (c : After-negated-this) → Contains (trues c.args.core.now) c.negated-this.result

@@ -1,12 +1,8 @@
-use Rattle.std.proofs.lemmas.Bool.Decides.{nat_tests}
-use Rattle.std.proofs.lemmas.Grind.{common_steps}
-use Rattle.std.proofs.{Common.{arith, of_z, to_z, rules, w64, ◌≡◌, ◌+◌, ◌<◌, [], length, get_or, set, sym, ◌∙◌, subst, ◌⊎◌, Contains, pos}, lemmas.Int.to_z-of_z}
-use Rattle.std.proofs.lemmas.Result.{on_ok_weaker}
+use Rattle.std.proofs.{lemmas.{Bool.Decides.nat_tests, Grind.common_steps, Int.to_z-of_z, Result.on_ok_weaker}, Common.{arith, of_z, to_z, rules, w64, ◌≡◌, ◌+◌, ◌<◌, [], length, get_or, set, sym, ◌∙◌, subst, ◌⊎◌, Contains, pos}}
 use Rattle.trail_core.specs.{Assigned.IsFalse, Meaning.trues}
 use Rattle.conflict_analysis.specs.{Met.{value_of, WalkValue, lit_at, IsSorted, IsSeen, HasMet}, inner.Walks.without}
-use Rattle.conflict_analysis.proofs.{Marked.lit_stands, Resolved.{step_read, place_read, reason_some, without_is, without_sorted, others_met, others_within}}
+use Rattle.conflict_analysis.proofs.{Marked.lit_stands, Resolved.{step_read, place_read, reason_some, without_is, without_sorted, others_met, others_within}, meeting.resolve.Goals.After-var}
 use Rattle.conflict_analysis.proofs.meeting.resolve.Goals as goal
-use Rattle.conflict_analysis.proofs.meeting.resolve.Goals.{After-var}
 
 pub reason-requires : goal.reason-requires
 reason-requires c = grind (arith, nat_tests, common_steps, place_read, lit_stands)

@@ -1,11 +1,7 @@
-use Rattle.std.proofs.lemmas.Bool.Decides.{nat_tests}
-use Rattle.std.proofs.lemmas.Grind.{common_steps}
-use Rattle.std.proofs.Common.{arith, ◌≡◌}
+use Rattle.std.proofs.{lemmas.{Bool.Decides.nat_tests, Grind.common_steps}, Common.{arith, ◌≡◌}}
 use Rattle.cnf_formula.specs.Literals.{LitValue}
-use Rattle.conflict_analysis.specs.{Met.{value_of, lit_at}, inner.Walks.IsStep}
-use Rattle.conflict_analysis.proofs.{Marked.lit_stands, Resolved.{place_read, reason_implied}, Waiting.kept_step}
+use Rattle.conflict_analysis.{specs.{Met.{value_of, lit_at}, inner.Walks.IsStep}, proofs.{Marked.lit_stands, Resolved.{place_read, reason_implied}, Waiting.kept_step, shrinking.is_spare.Goals.In-Some}}
 use Rattle.conflict_analysis.proofs.shrinking.is_spare.Goals as goal
-use Rattle.conflict_analysis.proofs.shrinking.is_spare.Goals.{In-Some}
 
 pub is_waiting-requires-clause-len : goal.is_waiting-requires-clause-len
 is_waiting-requires-clause-len c = c.requires.sorted.marked.len

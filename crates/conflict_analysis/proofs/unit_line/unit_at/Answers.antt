@@ -2,10 +2,8 @@ use Rattle.std.proofs.Common.{◌≡◌, [], ◌∷◌, ◌++◌, sym, ap, ◌�
 use Rattle.cnf_formula.specs.Literals.{negation}
 use Rattle.trail_core.{specs.{Meaning.trues, Assigned.IsFalse}, proofs.Keeping.negated_twice}
 use Rattle.conflict_analysis.specs.Met.{value_of, WalkValue, lit_at}
-use Rattle.conflict_analysis.proofs.{Marked.{lit_stands, lit_about}, Pointed.{IsBegun, begun_sorted}, Resolved.place_read}
-use Rattle.conflict_analysis.proofs.Denied.{met_from, walked_by, unit_line_by}
+use Rattle.conflict_analysis.proofs.{Marked.{lit_stands, lit_about}, Pointed.{IsBegun, begun_sorted}, Resolved.place_read, Denied.{met_from, walked_by, unit_line_by}, unit_line.unit_at.Goals.After-begin}
 use Rattle.conflict_analysis.proofs.unit_line.unit_at.Goals as goal
-use Rattle.conflict_analysis.proofs.unit_line.unit_at.Goals.{After-begin}
 
 -- nothing is met yet
 begun : (c : After-begin) → IsBegun c.args.core.now (value_of c.begin.new.self)

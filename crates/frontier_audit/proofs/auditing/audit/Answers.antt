@@ -1,8 +1,5 @@
-use Rattle.std.proofs.lemmas.Bool.Decides.{nat_tests}
-use Rattle.std.proofs.lemmas.Grind.{common_steps}
-use Rattle.std.proofs.Common.{arith, None, sym, ◌∙◌, refl, rules}
-use Rattle.frontier_audit.specs.declared.verdict.AuditVerdict.TheVariants.{Verified}
-use Rattle.frontier_audit.proofs.Verified.{judged_by_joins, judged_by_parts, report_logs, report_right}
+use Rattle.std.proofs.{lemmas.{Bool.Decides.nat_tests, Grind.common_steps}, Common.{arith, None, sym, ◌∙◌, refl, rules}}
+use Rattle.frontier_audit.{specs.declared.verdict.AuditVerdict.TheVariants.Verified, proofs.Verified.{judged_by_joins, judged_by_parts, report_logs, report_right}}
 use Rattle.frontier_audit.proofs.auditing.audit.Goals as goal
 
 pub returns-in-Some : goal.returns-in-Some

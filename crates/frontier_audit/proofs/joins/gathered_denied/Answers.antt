@@ -1,6 +1,4 @@
-use Rattle.std.proofs.lemmas.Bool.Decides.{nat_tests}
-use Rattle.std.proofs.lemmas.Grind.{common_steps}
-use Rattle.std.proofs.Common.{arith, [], ◌∷◌, sym, subst}
+use Rattle.std.proofs.{lemmas.{Bool.Decides.nat_tests, Grind.common_steps}, Common.{arith, [], ◌∷◌, sym, subst}}
 use Rattle.allreduce_join.specs.Joins.{IsJoinable}
 use Rattle.frontier_audit.{specs.inner.Steps.{JoinsSay, pairs_with}, proofs.Pairing.{none_say, walk_ends, walk_goes, walk_stops, with_append}}
 use Rattle.frontier_audit.proofs.joins.gathered_denied.Goals as goal

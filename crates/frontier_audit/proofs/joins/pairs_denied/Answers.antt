@@ -1,9 +1,6 @@
-use Rattle.std.proofs.lemmas.Bool.Decides.{nat_tests}
-use Rattle.std.proofs.lemmas.Grind.{common_steps}
-use Rattle.std.proofs.{Common.{arith, [], ◌∷◌, sym, subst}, lemmas.Option.slice_get_past}
+use Rattle.std.proofs.{lemmas.{Bool.Decides.nat_tests, Grind.common_steps, Option.slice_get_past}, Common.{arith, [], ◌∷◌, sym, subst}}
 use Rattle.allreduce_join.specs.Joins.{IsJoinable, pairs_of}
-use Rattle.frontier_audit.specs.inner.Steps.{JoinsSay}
-use Rattle.frontier_audit.proofs.Pairing.{got_at, none_say, no_surplus, pairs_add, pairs_one, stopped, surplus, walk_ends, walk_goes, walk_stops}
+use Rattle.frontier_audit.{specs.inner.Steps.JoinsSay, proofs.Pairing.{got_at, none_say, no_surplus, pairs_add, pairs_one, stopped, surplus, walk_ends, walk_goes, walk_stops}}
 use Rattle.frontier_audit.proofs.joins.pairs_denied.Goals as goal
 
 pub loop-first-init : goal.loop-first-init

@@ -1,7 +1,6 @@
 use Rattle.std.proofs.Common.{arith, sym, subst, ap, ◌∙◌, AllPairs}
 use Rattle.candidate_order.specs.{Costs.Before, Frontiers.UnknownValue}
-use Rattle.frontier_audit.specs.{Denials.each, inner.Steps.point_checked, Beside.denial_of}
-use Rattle.frontier_audit.proofs.Parting.{answers_decide, points_decide, refuted_decide, unknown_decide, unnamed_pairs}
+use Rattle.frontier_audit.{specs.{Denials.each, inner.Steps.point_checked, Beside.denial_of}, proofs.Parting.{answers_decide, points_decide, refuted_decide, unknown_decide, unnamed_pairs}}
 use Rattle.frontier_audit.proofs.parts.part_denied.Goals as goal
 
 pub unknown_denied-requires-clause-ascending : goal.unknown_denied-requires-clause-ascending

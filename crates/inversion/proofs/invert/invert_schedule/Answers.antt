@@ -1,6 +1,5 @@
 use Rattle.std.proofs.{Common.{◌≡◌, ◌∙◌, length, map, sym, ap, subst, rules, reverse, IsPermutation}, lemmas.List.Sorted.answers_always}
-use Rattle.schedule.specs.{Sends.{ScheduleValue, IsSchedule, hop_before}, Summing.Sums, Inverse.{inverse_hop, inverse_of}}
-use Rattle.schedule.proofs.{Inverted.inverse_sums, Inverting.valid_inverse}
+use Rattle.schedule.{specs.{Sends.{ScheduleValue, IsSchedule, hop_before}, Summing.Sums, Inverse.{inverse_hop, inverse_of}}, proofs.{Inverted.inverse_sums, Inverting.valid_inverse}}
 use Rattle.inversion.proofs.Sorting.{before_is_order, inverse_made}
 use Rattle.inversion.proofs.invert.invert_schedule.Goals as goal
 

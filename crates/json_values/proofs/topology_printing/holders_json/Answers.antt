@@ -2,9 +2,8 @@ use Rattle.std.{proofs.Common.{◌≡◌, ℕ, Bool, true, false, [], ◌∷◌,
 use Rattle.schedule.specs.Placed.{holds}
 use Rattle.serde_json.specs.{Data.{Data, string}, View.view}
 use Rattle.topology_text.{specs.Spelling.name_at, proofs.Printed.name_skipped}
-use Rattle.json_values.proofs.Printing.{pushed, passed_more}
+use Rattle.json_values.proofs.{Printing.{pushed, passed_more}, topology_printing.holders_json.Goals.{then-holds+in_ok-try_from_str+in_ok-push, else-holds}}
 use Rattle.json_values.proofs.topology_printing.holders_json.Goals as goal
-use Rattle.json_values.proofs.topology_printing.holders_json.Goals.{then-holds+in_ok-try_from_str+in_ok-push, else-holds}
 
 pub loop-node-preserved : goal.loop-node-preserved
 loop-node-preserved c =

@@ -1,5 +1,4 @@
-use Rattle.std.proofs.Common.{arith}
-use Rattle.std.proofs.lemmas.List.Folds.{Any-from_list_any, list_any-from_Any}
+use Rattle.std.proofs.{Common.arith, lemmas.List.Folds.{Any-from_list_any, list_any-from_Any}}
 use Rattle.link_faults.proofs.Recorded.{carrier_is, carrier_from}
 use Rattle.link_faults.proofs.laws.carriers_are_told_exactly.Goals as goal
 

@@ -1,8 +1,7 @@
 use Rattle.std.proofs.{Common.{◌≡◌, ◌+◌, ◌-◌, ◌<◌, ◌∷◌, true, drop, length, sym, ap, ◌∙◌, inl, inr, arith, not}, lemmas.List.drop_more}
 use Rattle.cnf_formula.specs.Literals.{has_literal, negation}
 use Rattle.proof_rules.specs.Judging.{has_variable_twice}
-use Rattle.lrat_checker.proofs.Assumed.{twice_here, once_here}
-use Rattle.lrat_checker.proofs.judging.assume.Goals.{then-is_false-via-then-is_false, then-is_false-via-else-is_false+then-is_true}
+use Rattle.lrat_checker.proofs.{Assumed.{twice_here, once_here}, judging.assume.Goals.{then-is_false-via-then-is_false, then-is_false-via-else-is_false+then-is_true}}
 use Rattle.lrat_checker.proofs.judging.assume.Goals as goal
 
 pub returns-then-is_false-clause-once : goal.returns-then-is_false-clause-once

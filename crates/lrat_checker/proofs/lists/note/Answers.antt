@@ -1,5 +1,4 @@
-use Rattle.std.proofs.Common.{◌≡◌, ◌<◌, [], ◌∷◌, ◌++◌, length, map, set, sym, ap, ◌∙◌, subst, arith, Contains}
-use Rattle.std.proofs.lemmas.List.{get_or-set_same, length-map, map-set, set-get_or, Elements.Contains-append_left}
+use Rattle.std.proofs.{Common.{◌≡◌, ◌<◌, [], ◌∷◌, ◌++◌, length, map, set, sym, ap, ◌∙◌, subst, arith, Contains}, lemmas.List.{get_or-set_same, length-map, map-set, set-get_or, Elements.Contains-append_left}}
 use Rattle.list_laws.proofs.Fronts.{at_map}
 use Rattle.lrat_checker.{specs.Stored.list_at, proofs.Noted.grown}
 use Rattle.lrat_checker.proofs.lists.note.Goals as goal

@@ -1,7 +1,6 @@
 use Rattle.std.proofs.Common.{◌≡◌, false, get_or, refl, sym, ap, ◌∙◌}
-use Rattle.lrat_checker.{specs.Stored.is_live, proofs.Removed.{kept_none, live_at, live_not, one_goes, one_stays}}
+use Rattle.lrat_checker.{specs.Stored.is_live, proofs.{Removed.{kept_none, live_at, live_not, one_goes, one_stays}, table.let_go.Goals.{in_default-via-in-Some+else-live-place, in_default-via-in_default}}}
 use Rattle.lrat_checker.proofs.table.let_go.Goals as goal
-use Rattle.lrat_checker.proofs.table.let_go.Goals.{in_default-via-in-Some+else-live-place, in_default-via-in_default}
 
 pub loop-taken-init : goal.loop-taken-init
 loop-taken-init c = record { lives = sym (kept_none c.args.ids.now c.args.live.now c.requires.lives); held = refl; once = refl }

@@ -1,6 +1,5 @@
 use Rattle.std.proofs.Common.{◌≤◌, length, arith}
-use Rattle.lrat_text.proofs.Passing.{whole_line, last_line, no_line, nothing_left}
-use Rattle.lrat_text.proofs.holding.first_from.Goals.{else-from-end-via-then-from-end+else-finished, else-from-end-via-else-from-end}
+use Rattle.lrat_text.proofs.{Passing.{whole_line, last_line, no_line, nothing_left}, holding.first_from.Goals.{else-from-end-via-then-from-end+else-finished, else-from-end-via-else-from-end}}
 use Rattle.lrat_text.proofs.holding.first_from.Goals as goal
 
 pub returns-then-end-bytes-clause-some : goal.returns-then-end-bytes-clause-some

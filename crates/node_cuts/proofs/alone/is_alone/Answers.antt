@@ -1,7 +1,6 @@
-use Rattle.std.proofs.Common.{◌&&◌, ◌||◌, ℕ, Bool, false, [], ◌∷◌, length, sym, ap, ◌∙◌, arith, ◌==◌, not}
-use Rattle.std.{specs.List.{list_any, range_with_len}, proofs.lemmas.List.Folds.list_any-append}
+use Rattle.std.{proofs.{Common.{◌&&◌, ◌||◌, ℕ, Bool, false, [], ◌∷◌, length, sym, ap, ◌∙◌, arith, ◌==◌, not}, lemmas.List.Folds.list_any-append}, specs.List.{list_any, range_with_len}}
 use Rattle.list_laws.proofs.Ranges.{any_at}
-use Rattle.schedule.specs.{Links.{has_link}, Judging.group_at}
+use Rattle.schedule.specs.{Links.has_link, Judging.group_at}
 use Rattle.node_cuts.proofs.Masks.{range_more}
 use Rattle.node_cuts.proofs.alone.is_alone.Goals as goal
 

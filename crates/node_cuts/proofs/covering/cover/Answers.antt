@@ -1,6 +1,5 @@
-use Rattle.std.proofs.Common.{arith}
-use Rattle.std.proofs.{Common.{◌<◌, ◌∙◌, length}, lemmas.{List.Elements.All-same}}
-use Rattle.node_cuts.{specs.Cuts.{all_groups}, proofs.Within.all_within}
+use Rattle.std.proofs.{Common.{arith, ◌<◌, ◌∙◌, length}, lemmas.List.Elements.All-same}
+use Rattle.node_cuts.{specs.Cuts.all_groups, proofs.Within.all_within}
 use Rattle.node_cuts.proofs.covering.cover.Goals as goal
 
 pub taken_along-requires : goal.taken_along-requires

@@ -1,5 +1,4 @@
-use Rattle.std.proofs.Common.{◌≡◌, ◌+◌, ◌<◌, ℕ, suc, List, ◌∷◌, drop, drop-cons, get_or, length, sym, ap, ◌∙◌, ⊎_elim, subst, arith, Option, Some}
-use Rattle.std.specs.Option.{unwrap_or}
+use Rattle.std.{proofs.Common.{◌≡◌, ◌+◌, ◌<◌, ℕ, suc, List, ◌∷◌, drop, drop-cons, get_or, length, sym, ap, ◌∙◌, ⊎_elim, subst, arith, Option, Some}, specs.Option.unwrap_or}
 use Rattle.node_cuts.specs.{declared.greedy.Choice.Choice, Cuts.{best_of, better}}
 use Rattle.node_cuts.proofs.greedy.best_of.Goals as goal
 

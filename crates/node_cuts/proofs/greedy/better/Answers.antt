@@ -1,8 +1,6 @@
-use Rattle.std.{proofs.Common.{◌≡◌, ◌&&◌, ℕ, true, false, cond, sym, ap, ◌∙◌, Option, None, Some, nat_lt, not}, specs.Option.option_map}
-use Rattle.std.proofs.lemmas.Bool.{lt-ltb, le-ltb}
+use Rattle.std.{proofs.{Common.{◌≡◌, ◌&&◌, ℕ, true, false, cond, sym, ap, ◌∙◌, Option, None, Some, nat_lt, not}, lemmas.Bool.{lt-ltb, le-ltb}}, specs.Option.option_map}
 use Rattle.schedule.specs.Judging.{group_at}
-use Rattle.node_cuts.specs.{declared.greedy.Choice.Choice, Cuts.{better, enters, is_among, opens}, Opened.choice_of}
-use Rattle.node_cuts.proofs.Choosing.{any_counts, none_mapped}
+use Rattle.node_cuts.{specs.{declared.greedy.Choice.Choice, Cuts.{better, enters, is_among, opens}, Opened.choice_of}, proofs.Choosing.{any_counts, none_mapped}}
 use Rattle.node_cuts.proofs.greedy.better.Goals as goal
 
 pub returns-then-next-gt0-clause-better : goal.returns-then-next-gt0-clause-better

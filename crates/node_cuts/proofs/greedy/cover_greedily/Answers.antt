@@ -1,10 +1,8 @@
 use Rattle.std.proofs.Common.{◌≡◌, ◌+◌, ◌-◌, ◌<◌, ◌&&◌, ℕ, suc, Bool, true, List, [], ◌∷◌, ◌++◌, length, sym, ap, ◌∙◌, subst, arith, None, Some, filter, not}
-use Rattle.std.{specs.{List.list_any, Option.option_map_or}, proofs.lemmas.List.Elements.{All-append, All-cons, All-filter, All-nil, All-same, filter_agree}}
-use Rattle.std.proofs.lemmas.Result.{IfOk-weaker}
+use Rattle.std.{proofs.lemmas.{List.Elements.{All-append, All-cons, All-filter, All-nil, All-same, filter_agree}, Result.IfOk-weaker}, specs.{List.list_any, Option.option_map_or}}
 use Rattle.schedule.specs.{Links.{GroupValue, has_link}, Placed.same_pair, Tables.{Marks, marked_at}, Judging.group_at}
 use Rattle.node_cuts.specs.{Cuts.{all_groups, ascending, best_of, best_taken, opens}, Opened.{MarksOpen, RemovesGroups, is_alone, is_open}}
-use Rattle.node_cuts.proofs.{Apart.{alone_first, first_ones}, Choosing.{best_left, filter_both, left_after}, Within.all_within}
-use Rattle.node_cuts.proofs.Opening.{open_after, open_first, taken_next, told}
+use Rattle.node_cuts.proofs.{Apart.{alone_first, first_ones}, Choosing.{best_left, filter_both, left_after}, Within.all_within, Opening.{open_after, open_first, taken_next, told}}
 use Rattle.node_cuts.proofs.greedy.cover_greedily.Goals as goal
 
 pub still_open-requires : goal.still_open-requires

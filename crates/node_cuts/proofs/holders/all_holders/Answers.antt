@@ -1,5 +1,4 @@
-use Rattle.std.{proofs.{Common.{◌≡◌, ℕ, [], ◌∷◌, ◌++◌, count_by, length, map, sym, ap, ◌∙◌, arith}, lemmas.List.length-map}, specs.List.range_with_len}
-use Rattle.std.proofs.lemmas.List.FromFn.{length-range_with_len, map-range_with_len_more}
+use Rattle.std.{proofs.{Common.{◌≡◌, ℕ, [], ◌∷◌, ◌++◌, count_by, length, map, sym, ap, ◌∙◌, arith}, lemmas.List.{length-map, FromFn.{length-range_with_len, map-range_with_len_more}}}, specs.List.range_with_len}
 use Rattle.schedule.specs.Placed.{PlacementValue}
 use Rattle.node_cuts.{specs.Holders.{HoldersValue, is_lacking, nodes_with}, proofs.Holding.{all_holders, need_by_holders}}
 use Rattle.node_cuts.proofs.holders.all_holders.Goals as goal

@@ -1,6 +1,5 @@
 use Rattle.std.{proofs.{Common.{◌-◌, ◌^◌, map, sym, ap, ◌∙◌}, lemmas.{Result.IfOk-weaker, Simd.map-map}}, specs.List.range_with_len}
-use Rattle.node_cuts.specs.{declared.members.Members.TheVariants.{Sided, Bits}, Sides.node_sets, inner.Listed.{listed_sides, members}}
-use Rattle.node_cuts.proofs.Listing.{listed_are}
+use Rattle.node_cuts.{specs.{declared.members.Members.TheVariants.{Sided, Bits}, Sides.node_sets, inner.Listed.{listed_sides, members}}, proofs.Listing.listed_are}
 use Rattle.node_cuts.proofs.members.node_sets.Goals as goal
 
 pub returns-in-Listed : goal.returns-in-Listed

@@ -1,13 +1,8 @@
-use Rattle.std.{proofs.Common.{◌≡◌, ◌*◌, ◌<◌, ℕ, false, List, Some, below_more, get_or, length, map, sym, ap, ◌∙◌, arith, nat_lt}, specs.Option.option_map}
-use Rattle.std.proofs.{Math.Nat.mul-one, lemmas.List.{get_or_default, length-map}}
+use Rattle.std.{proofs.{Common.{◌≡◌, ◌*◌, ◌<◌, ℕ, false, List, Some, below_more, get_or, length, map, sym, ap, ◌∙◌, arith, nat_lt}, Math.Nat.mul-one, lemmas.List.{get_or_default, length-map}}, specs.Option.option_map}
 use Rattle.list_laws.proofs.Fronts.{at_map}
-use Rattle.node_cuts.specs.{declared.{members.Members.{Members, TheVariants.Sided}, side.Side.TheVariants.One, sets.Sets.TheVariants.Listed}, Tables.measure_of}
-use Rattle.node_cuts.specs.{Sides.{NodeSet, mask_of, node_sets}, inner.Listed.members}
-use Rattle.node_cuts.specs.{Cuts.{cut_of, need_of, width_by}, inner.Refuting.cut_refutes}
-use Rattle.node_cuts.proofs.Crossing.{first_by_set}
-use Rattle.node_cuts.proofs.Tabled.{found_at, is_over, measure_told, nobody, none_found_in}
+use Rattle.node_cuts.specs.{declared.{members.Members.{Members, TheVariants.Sided}, side.Side.TheVariants.One, sets.Sets.TheVariants.Listed}, Tables.measure_of, Sides.{NodeSet, mask_of, node_sets}, inner.Listed.members}
+use Rattle.node_cuts.{specs.{Cuts.{cut_of, need_of, width_by}, inner.Refuting.cut_refutes}, proofs.{Crossing.first_by_set, Tabled.{found_at, is_over, measure_told, nobody, none_found_in}, refuting.first_cut.Goals.After-refutes}}
 use Rattle.node_cuts.proofs.refuting.first_cut.Goals as goal
-use Rattle.node_cuts.proofs.refuting.first_cut.Goals.{After-refutes}
 
 -- the element of a list at a place is the one of what is mapped
 at_place : (items : List Members) (us : List NodeSet) (k : ℕ) (d : Members) → map members items ≡ us → k < length items → members (get_or items k d) ≡ get_or us k nobody

@@ -1,8 +1,7 @@
 use Rattle.std.proofs.Common.{◌≡◌, ℕ, List, ap, sym, ◌∙◌, ⊎_elim, subst, arith}
 use Rattle.schedule.specs.Links.{TopologyValue}
 use Rattle.node_cuts.specs.declared.sets.Sets.TheVariants as sets
-use Rattle.node_cuts.specs.{Sides.NodeSet, inner.Listed.members, Cuts.{cover, cover_back, cover_by, cover_greedily, narrower}}
-use Rattle.node_cuts.proofs.Within.{IsWithin, back_within, cover_within, greedily_within, narrower_within, within_by}
+use Rattle.node_cuts.{specs.{Sides.NodeSet, inner.Listed.members, Cuts.{cover, cover_back, cover_by, cover_greedily, narrower}}, proofs.Within.{IsWithin, back_within, cover_within, greedily_within, narrower_within, within_by}}
 use Rattle.node_cuts.proofs.widths.cover_by.Goals as goal
 
 -- what is known of groups

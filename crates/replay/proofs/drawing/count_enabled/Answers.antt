@@ -1,8 +1,7 @@
 use Rattle.std.proofs.Common.{sym, ◌∙◌, arith}
 use Rattle.node_programs.specs.Machines.{is_enabled}
-use Rattle.replay.proofs.Drawn.{count_fails, count_passes}
+use Rattle.replay.proofs.{Drawn.{count_fails, count_passes}, drawing.count_enabled.Goals.{then-enabled, else-enabled}}
 use Rattle.replay.proofs.drawing.count_enabled.Goals as goal
-use Rattle.replay.proofs.drawing.count_enabled.Goals.{then-enabled, else-enabled}
 
 pub loop-node-preserved : goal.loop-node-preserved
 loop-node-preserved c =

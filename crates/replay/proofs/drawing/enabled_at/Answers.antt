@@ -1,8 +1,7 @@
 use Rattle.std.proofs.Common.{◌≡◌, ◌<◌, length, refl, sym, ap, ◌∙◌, arith}
 use Rattle.node_programs.specs.Machines.{is_enabled}
-use Rattle.replay.proofs.Drawn.{count_fails, count_passes, found_at, found_none, passing}
+use Rattle.replay.proofs.{Drawn.{count_fails, count_passes, found_at, found_none, passing}, drawing.enabled_at.Goals.{then-enabled+else-before-eq0, else-enabled}}
 use Rattle.replay.proofs.drawing.enabled_at.Goals as goal
-use Rattle.replay.proofs.drawing.enabled_at.Goals.{then-enabled+else-before-eq0, else-enabled}
 
 pub returns-then-before-eq0-clause-node : goal.returns-then-before-eq0-clause-node
 returns-then-before-eq0-clause-node c =

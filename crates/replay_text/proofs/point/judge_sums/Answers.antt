@@ -1,8 +1,7 @@
 use Rattle.std.proofs.{Common.{◌≡◌, ◌∙◌, true, false, ap}, lemmas.Result.IfOk-weaker}
 use Rattle.schedule.specs.Placed.{PlacementValue}
 use Rattle.collective_spec.specs.Collectives.{chunks_in, spec_demand}
-use Rattle.replay_text.specs.Showing.{chunks_at, is_joined, nodes_of, shown_in}
-use Rattle.replay_text.proofs.{Bodies.made_of, Ends.{joined_told, last_joined, last_summed, summed_told}, Showable.demand_chunks}
+use Rattle.replay_text.{specs.Showing.{chunks_at, is_joined, nodes_of, shown_in}, proofs.{Bodies.made_of, Ends.{joined_told, last_joined, last_summed, summed_told}, Showable.demand_chunks}}
 use Rattle.replay_text.proofs.point.judge_sums.Goals as goal
 
 pub all_summed_by_last-requires-clause-last : goal.all_summed_by_last-requires-clause-last

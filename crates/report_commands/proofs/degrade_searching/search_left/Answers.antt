@@ -5,8 +5,7 @@ use Rattle.candidate_formula.specs.{Formulas.{formula_for, Suits}, Searched.sear
 use Rattle.node_cuts.specs.Cutting.{sets_for}
 use Rattle.engine_search.{proofs.{Searched.made_for, Found.found_with}, specs.Found.IsFound}
 use Rattle.link_faults.specs.Carrying.{is_carried, narrowed_question}
-use Rattle.report_commands.proofs.{Left.{formula_left, has_group, is_wider, left_question, left_small, links_narrowed, old_searched}, Parted.found_after}
-use Rattle.report_commands.proofs.Uncut.{none_cut_away}
+use Rattle.report_commands.proofs.{Left.{formula_left, has_group, is_wider, left_question, left_small, links_narrowed, old_searched}, Parted.found_after, Uncut.none_cut_away}
 use Rattle.report_commands.proofs.degrade_searching.search_left.Goals as goal
 
 pub new-requires-clause-size : goal.new-requires-clause-size

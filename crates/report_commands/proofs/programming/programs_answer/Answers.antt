@@ -1,7 +1,6 @@
 use Rattle.std.proofs.Common.{arith, ◌≡◌, Ok, IfOk, ap, subst, sym}
 use Rattle.text_lines.specs.Check.{◌>>=◌}
-use Rattle.run_rules.specs.{Answers.IsAnswerAlone, Read.IsReadAs, Tasks.{read_report}, Steps.programs_in}
-use Rattle.run_rules.proofs.Answered.{refused_alone, refused_behind}
+use Rattle.run_rules.{specs.{Answers.IsAnswerAlone, Read.IsReadAs, Tasks.read_report, Steps.programs_in}, proofs.Answered.{refused_alone, refused_behind}}
 use Rattle.report_commands.proofs.programming.programs_answer.Goals as goal
 
 pub returns-in-Spelled : goal.returns-in-Spelled

@@ -1,5 +1,4 @@
-use Rattle.std.proofs.Common.{arith}
-use Rattle.std.{proofs.{Common.{◌∙◌, ap, refl, length}, lemmas.Option.{slice_get_past, slice_get_read}}, specs.Option.option_map}
+use Rattle.std.{proofs.{Common.{arith, ◌∙◌, ap, refl, length}, lemmas.Option.{slice_get_past, slice_get_read}}, specs.Option.option_map}
 use Rattle.outer_ports.specs.declared.part.Part.TheVariants.{Joined}
 use Rattle.report_form.proofs.PointNumbers.{joined_points, number_first, number_in, number_behind, number_joined}
 use Rattle.report_form.proofs.numbered.point_at.Goals as goal

@@ -1,12 +1,10 @@
-use Rattle.std.proofs.Common.{arith, ◌≡◌, ◌∙◌, ap, subst}
-use Rattle.std.proofs.lemmas.Grind.{common_steps}
+use Rattle.std.proofs.{Common.{arith, ◌≡◌, ◌∙◌, ap, subst}, lemmas.Grind.common_steps}
 use Rattle.candidate_order.specs.Frontiers.{QuestionValue}
 use Rattle.node_cuts.specs.Cutting.{sets_for}
 use Rattle.candidate_formula.specs.Formulas.{Suits}
 use Rattle.candidate_solver.specs.Questions.{asked}
 use Rattle.engine_search.proofs.{Searched.made_for, Found.found_with}
-use Rattle.report_search.proofs.{Recorded.{alike, begun_for, filed_for}, Keeping.{keeps_single, takes_single}}
-use Rattle.report_search.proofs.Uncut.{cut_in_place, reached_uncut, runs_below, shelved_uncut, stays_below, unknown_uncut}
+use Rattle.report_search.proofs.{Recorded.{alike, begun_for, filed_for}, Keeping.{keeps_single, takes_single}, Uncut.{cut_in_place, reached_uncut, runs_below, shelved_uncut, stays_below, unknown_uncut}}
 use Rattle.report_search.proofs.single.single_frontier.Goals as goal
 
 pub returns-clause-begun : goal.returns-clause-begun

@@ -1,5 +1,4 @@
-use Rattle.run_rules.specs.Degraded.{IsNewSearch}
-use Rattle.run_rules.proofs.Denied.{denied_of, done_of, right_of}
+use Rattle.run_rules.{specs.Degraded.IsNewSearch, proofs.Denied.{denied_of, done_of, right_of}}
 use Rattle.run_rules.proofs.laws.faults_are_answered_by_the_checks.Goals as goal
 
 pub returns-clause-denied : goal.returns-clause-denied

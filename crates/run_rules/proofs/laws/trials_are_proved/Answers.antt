@@ -1,6 +1,5 @@
-use Rattle.frontier_audit.proofs.Audited.{shelf_right}
+use Rattle.frontier_audit.{proofs.Audited.shelf_right, specs.declared.verdict.AuditVerdict.TheVariants.Verified}
 use Rattle.run_rules.proofs.OneVerdict.{verdict_exactly}
-use Rattle.frontier_audit.specs.declared.verdict.AuditVerdict.TheVariants.{Verified}
 use Rattle.run_rules.proofs.laws.trials_are_proved.Goals as goal
 
 pub returns : goal.returns

@@ -1,7 +1,6 @@
 use Rattle.std.proofs.Common.{arith}
-use Rattle.sat_core.proofs.Jumping.{backed_within, lower_levels}
+use Rattle.sat_core.proofs.{Jumping.{backed_within, lower_levels}, backjump.go_back.Goals.{then-anew, else-anew}}
 use Rattle.sat_core.proofs.backjump.go_back.Goals as goal
-use Rattle.sat_core.proofs.backjump.go_back.Goals.{then-anew, else-anew}
 
 pub begin_anew-requires-clause-within : goal.begin_anew-requires-clause-within
 begin_anew-requires-clause-within c = grind (arith, backed_within)

@@ -1,9 +1,8 @@
 use Rattle.std.proofs.{Common.{◌≡◌, take, sym, subst, inl, inr, arith, Contains}, lemmas.List.take_all}
 use Rattle.cnf_formula.specs.Literals.{LitValue}
 use Rattle.trail_core.specs.Meaning.{trues}
-use Rattle.sat_core.{specs.inner.Jumping.AreUpTo, proofs.Jumping.{IsHighest, highest_more}}
+use Rattle.sat_core.{specs.inner.Jumping.AreUpTo, proofs.{Jumping.{IsHighest, highest_more}, backjump.highest.Goals.{then-level-top, else-level-top}}}
 use Rattle.sat_core.proofs.backjump.highest.Goals as goal
-use Rattle.sat_core.proofs.backjump.highest.Goals.{then-level-top, else-level-top}
 
 pub level-level-requires : goal.level-level-requires
 level-level-requires c =

@@ -1,5 +1,4 @@
-use Rattle.std.proofs.Common.{◌≡◌, ℕ, ◌+◌, ◌<◌, ◌≤◌, [], ◌∷◌, ◌++◌, length, get_or, set, take, sym, ap, ◌∙◌, subst, arith}
-use Rattle.std.proofs.lemmas.List.{take_more, take_all, length-set}
+use Rattle.std.proofs.{Common.{◌≡◌, ℕ, ◌+◌, ◌<◌, ◌≤◌, [], ◌∷◌, ◌++◌, length, get_or, set, take, sym, ap, ◌∙◌, subst, arith}, lemmas.List.{take_more, take_all, length-set}}
 use Rattle.cnf_formula.specs.Literals.{LitValue, code_of}
 use Rattle.sat_core.proofs.Loaded.{IsKeeping, keeping_new, marks_below}
 use Rattle.sat_core.proofs.loading.are_apart.Goals as goal

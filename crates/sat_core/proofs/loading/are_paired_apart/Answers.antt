@@ -1,5 +1,4 @@
-use Rattle.std.proofs.Common.{◌≡◌, ◌+◌, ◌<◌, [], ◌∷◌, ◌++◌, length, take, sym, ap, ◌∙◌, subst, arith, ◌≢◌, AllPairs, Contains}
-use Rattle.std.proofs.lemmas.List.{take_more, take_all, Elements.Contains-get_or, Quantifiers.all_pairs_push}
+use Rattle.std.proofs.{Common.{◌≡◌, ◌+◌, ◌<◌, [], ◌∷◌, ◌++◌, length, take, sym, ap, ◌∙◌, subst, arith, ◌≢◌, AllPairs, Contains}, lemmas.List.{take_more, take_all, Elements.Contains-get_or, Quantifiers.all_pairs_push}}
 use Rattle.cnf_formula.specs.Literals.{LitValue}
 use Rattle.sat_core.proofs.loading.are_paired_apart.Goals as goal
 

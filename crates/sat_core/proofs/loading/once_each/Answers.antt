@@ -1,9 +1,7 @@
-use Rattle.std.proofs.Common.{◌≡◌, ℕ, ◌+◌, ◌<◌, ◌≤◌, [], ◌∷◌, ◌++◌, List, length, get_or, set, take, sym, ap, ◌∙◌, subst, arith}
-use Rattle.std.proofs.lemmas.List.{take_more, take_all, length-set}
+use Rattle.std.proofs.{Common.{◌≡◌, ℕ, ◌+◌, ◌<◌, ◌≤◌, [], ◌∷◌, ◌++◌, List, length, get_or, set, take, sym, ap, ◌∙◌, subst, arith}, lemmas.List.{take_more, take_all, length-set}}
 use Rattle.cnf_formula.specs.Literals.{LitValue, code_of}
-use Rattle.sat_core.{specs.inner.Holding.IsSame, proofs.Loaded.{IsKeeping, keeping_old, keeping_new, marks_below}}
+use Rattle.sat_core.{specs.inner.Holding.IsSame, proofs.{Loaded.{IsKeeping, keeping_old, keeping_new, marks_below}, loading.once_each.Goals.{then-marks_at+in_ok-push, else-marks_at}}}
 use Rattle.sat_core.proofs.loading.once_each.Goals as goal
-use Rattle.sat_core.proofs.loading.once_each.Goals.{then-marks_at+in_ok-push, else-marks_at}
 
 pub loop-lit-preserved : goal.loop-lit-preserved
 loop-lit-preserved c =

@@ -1,5 +1,4 @@
-use Rattle.std.proofs.Common.{◌≡◌, ℕ, ◌+◌, ◌<◌, true, List, [], ◌∷◌, ◌++◌, length, get_or, refl, sym, ap, ◌∙◌, subst, arith, All, Result, Ok, Err, OnOk}
-use Rattle.std.proofs.lemmas.{List.{get_or_default, Elements.All-push}, Result.on_ok_weaker}
+use Rattle.std.proofs.{Common.{◌≡◌, ℕ, ◌+◌, ◌<◌, true, List, [], ◌∷◌, ◌++◌, length, get_or, refl, sym, ap, ◌∙◌, subst, arith, All, Result, Ok, Err, OnOk}, lemmas.{List.{get_or_default, Elements.All-push}, Result.on_ok_weaker}}
 use Rattle.cnf_formula.specs.{Literals.LitValue, Formulas.IsClause}
 use Rattle.trail_core.specs.Meaning.{CoreValue}
 use Rattle.sleeping_clauses.specs.{declared.awake.Awake.Awake, Naming.IsListed, Sleeping.SleepersValue}

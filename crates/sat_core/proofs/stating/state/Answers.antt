@@ -1,7 +1,5 @@
 use Rattle.std.proofs.Common.{sym, subst, arith}
-use Rattle.sat_core.specs.inner.Stating.{AreStated}
-use Rattle.sat_core.proofs.Caused.{answered, answered_after, no_memory, no_memory_after, of_ledger, on_fault}
-use Rattle.sat_core.proofs.Going.{ready_at, same_trail, still_written, written_to}
+use Rattle.sat_core.{specs.inner.Stating.AreStated, proofs.{Caused.{answered, answered_after, no_memory, no_memory_after, of_ledger, on_fault}, Going.{ready_at, same_trail, still_written, written_to}}}
 use Rattle.sat_core.proofs.stating.state.Goals as goal
 
 pub returns-then-not-room : goal.returns-then-not-room

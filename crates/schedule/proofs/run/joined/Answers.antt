@@ -1,7 +1,6 @@
 use Rattle.std.proofs.Common.{◌∙◌, refl, sym, true, false}
-use Rattle.schedule.proofs.Joining.{step_below, step_of_nil, joins_more, joins_all}
+use Rattle.schedule.proofs.{Joining.{step_below, step_of_nil, joins_more, joins_all}, run.joined.Goals.{then-holds, else-holds}}
 use Rattle.schedule.proofs.run.joined.Goals as goal
-use Rattle.schedule.proofs.run.joined.Goals.{then-holds, else-holds}
 
 pub loop-hop-init : goal.loop-hop-init
 loop-hop-init c = c.in_ok-joined.ensures.cases.0 ∙ sym (step_of_nil _ c.args.step c.in_ok-joined.ensures.cases.1)

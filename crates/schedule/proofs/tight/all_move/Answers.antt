@@ -1,7 +1,5 @@
-use Rattle.std.{proofs.Common.{◌≡◌, ◌+◌, ◌-◌, Bool, true, false, ◌&&◌, get_or, drop, sym, ap, ◌∙◌, subst, arith, rules}, specs.List.list_all}
-use Rattle.std.proofs.lemmas.List.{at_drop_more, Folds.list_all_at}
-use Rattle.schedule.specs.{declared.hop.Hop.Hop, Placed.PlacementValue, Sends.is_hop_below, Running.after, Solving.moves}
-use Rattle.schedule.proofs.Wasting.{in_run, before_is, hop_in_range, move_is}
+use Rattle.std.{proofs.{Common.{◌≡◌, ◌+◌, ◌-◌, Bool, true, false, ◌&&◌, get_or, drop, sym, ap, ◌∙◌, subst, arith, rules}, lemmas.List.{at_drop_more, Folds.list_all_at}}, specs.List.list_all}
+use Rattle.schedule.{specs.{declared.hop.Hop.Hop, Placed.PlacementValue, Sends.is_hop_below, Running.after, Solving.moves}, proofs.Wasting.{in_run, before_is, hop_in_range, move_is}}
 use Rattle.schedule.proofs.tight.all_move.Goals as goal
 
 abbrev none : Hop

@@ -1,6 +1,5 @@
 use Rattle.std.proofs.Common.{◌≡◌, ◌∙◌, Ok, IfOk, ap, refl, subst, sym}
-use Rattle.run_rules.specs.{Answers.IsAnswer, Read.IsSearchAs, Tasks.{Bound, given_sets, search_asked}, Steps.bound_asked}
-use Rattle.run_rules.proofs.{Answered.{refused_alone, refused_behind}, Sought.{same_kind, same_limits}}
+use Rattle.run_rules.{specs.{Answers.IsAnswer, Read.IsSearchAs, Tasks.{Bound, given_sets, search_asked}, Steps.bound_asked}, proofs.{Answered.{refused_alone, refused_behind}, Sought.{same_kind, same_limits}}}
 use Rattle.search_commands.proofs.BoundDue.{bound_due}
 use Rattle.search_commands.proofs.bound.bound_answer.Goals as goal
 

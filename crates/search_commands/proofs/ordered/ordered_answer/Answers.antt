@@ -1,7 +1,6 @@
 use Rattle.std.proofs.Common.{arith, IfOk, Ok, subst, sym}
 use Rattle.text_lines.specs.Check.{◌>>=◌}
-use Rattle.run_rules.specs.{Answers.IsAnswerAlone, Read.IsSearchAs, Tasks.{Order, search_asked}}
-use Rattle.run_rules.proofs.{Answered.{refused_alone, refused_behind}, Sought.same_kind}
+use Rattle.run_rules.{specs.{Answers.IsAnswerAlone, Read.IsSearchAs, Tasks.{Order, search_asked}}, proofs.{Answered.{refused_alone, refused_behind}, Sought.same_kind}}
 use Rattle.search_commands.proofs.ordered.ordered_answer.Goals as goal
 
 pub search_answer-requires-clause-single : goal.search_answer-requires-clause-single

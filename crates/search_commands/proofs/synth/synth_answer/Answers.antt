@@ -1,7 +1,6 @@
 use Rattle.std.proofs.Common.{arith, Ok, IfOk, subst, sym}
 use Rattle.text_lines.specs.Check.{◌>>=◌}
-use Rattle.run_rules.specs.{Answers.IsAnswer, Read.IsSearchAs, Tasks.{Synthesise, search_asked}}
-use Rattle.run_rules.proofs.Answered.{refused_alone, refused_behind}
+use Rattle.run_rules.{specs.{Answers.IsAnswer, Read.IsSearchAs, Tasks.{Synthesise, search_asked}}, proofs.Answered.{refused_alone, refused_behind}}
 use Rattle.search_commands.proofs.synth.synth_answer.Goals as goal
 
 pub returns-in-Asked-clause-answers : goal.returns-in-Asked-clause-answers

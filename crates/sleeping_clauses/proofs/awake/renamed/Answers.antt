@@ -1,5 +1,4 @@
-use Rattle.std.proofs.{Common.{arith, ◌≡◌, ◌∷◌, ◌++◌, [], map, get_or, take, sym, ap, ◌∙◌, rules, w64, pos, of_z, to_z}, lemmas.List.{take_more, map_push}}
-use Rattle.std.proofs.lemmas.Int.{to_z-of_z}
+use Rattle.std.proofs.{Common.{arith, ◌≡◌, ◌∷◌, ◌++◌, [], map, get_or, take, sym, ap, ◌∙◌, rules, w64, pos, of_z, to_z}, lemmas.{List.{take_more, map_push}, Int.to_z-of_z}}
 use Rattle.sleeping_clauses.specs.Naming.{name}
 use Rattle.sleeping_clauses.proofs.awake.renamed.Goals as goal
 

@@ -1,5 +1,4 @@
-use Rattle.std.proofs.Common.{◌≡◌, ◌<◌, [], ◌∷◌, ◌++◌, length, map, set, sym, ap, ◌∙◌, subst, arith, Contains}
-use Rattle.std.proofs.lemmas.List.{get_or-set_same, length-map, length-set, map-set, set-get_or, Elements.{Contains-append_left, Contains-push}}
+use Rattle.std.proofs.{Common.{◌≡◌, ◌<◌, [], ◌∷◌, ◌++◌, length, map, set, sym, ap, ◌∙◌, subst, arith, Contains}, lemmas.List.{get_or-set_same, length-map, length-set, map-set, set-get_or, Elements.{Contains-append_left, Contains-push}}}
 use Rattle.list_laws.proofs.Fronts.{at_map}
 use Rattle.sleeping_clauses.{specs.Sleeping.list_at, proofs.Found.grown}
 use Rattle.sleeping_clauses.proofs.sleepers.lead.Goals as goal

@@ -1,7 +1,6 @@
 use Rattle.std.{proofs.Common.{arith, ◌≡◌, ℕ, ◌<◌, ◌/◌, true, List, sym, ap, ◌∙◌, subst}, specs.List.All}
 use Rattle.schedule.specs.Links.{IsLink, IsGroup}
-use Rattle.topology_text.specs.declared.family_kind.FamilyKind.{FamilyKind, TheVariants.{Complete, Switch, Boxes}}
-use Rattle.topology_text.specs.Family.{is_allowed, family_links, port, cable}
+use Rattle.topology_text.specs.{declared.family_kind.FamilyKind.{FamilyKind, TheVariants.{Complete, Switch, Boxes}}, Family.{is_allowed, family_links, port, cable}}
 use Rattle.topology_text.proofs.{FamilyLinks.family_links_are, FamilyGroups.{shared_is_group, ports_out, ports_in, cables_are}}
 use Rattle.topology_text.proofs.families.family_groups.Goals as goal
 

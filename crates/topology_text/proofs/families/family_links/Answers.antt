@@ -1,7 +1,6 @@
 use Rattle.std.proofs.{Common.{◌≡◌, ◌/◌, ◌%◌, ◌++◌, ◌∷◌, [], true, false, sym, ap, ◌∙◌}, lemmas.List.append-nil}
-use Rattle.topology_text.{specs.Family.is_family_link, proofs.FamilyLinks.links_more}
+use Rattle.topology_text.{specs.Family.is_family_link, proofs.{FamilyLinks.links_more, families.family_links.Goals.{then-has_family_link+in_ok-push, else-has_family_link}}}
 use Rattle.topology_text.proofs.families.family_links.Goals as goal
-use Rattle.topology_text.proofs.families.family_links.Goals.{then-has_family_link+in_ok-push, else-has_family_link}
 
 pub loop-place-preserved : goal.loop-place-preserved
 loop-place-preserved c =

@@ -1,6 +1,4 @@
-use Rattle.std.proofs.lemmas.Bool.Decides.{nat_tests}
-use Rattle.std.proofs.lemmas.Grind.{common_steps}
-use Rattle.std.proofs.{Common.arith, lemmas.List.length-drop}
+use Rattle.std.proofs.{lemmas.{Bool.Decides.nat_tests, Grind.common_steps, List.length-drop}, Common.arith}
 use Rattle.topology_text.proofs.Links.{group_valid}
 use Rattle.topology_text.proofs.group_line.group_on.Goals as goal
 

@@ -1,9 +1,6 @@
-use Rattle.std.proofs.lemmas.Bool.Decides.{nat_tests}
-use Rattle.std.proofs.lemmas.Grind.{common_steps}
-use Rattle.std.proofs.Common.{◌+◌, ◌-◌, sym, ap, ◌∙◌, arith, rules}
+use Rattle.std.proofs.{lemmas.{Bool.Decides.nat_tests, Grind.common_steps}, Common.{◌+◌, ◌-◌, sym, ap, ◌∙◌, arith, rules}}
 use Rattle.text_lines.specs.Check.{◌>>=◌}
-use Rattle.topology_text.specs.Reading.{Pairs}
-use Rattle.topology_text.proofs.HolderLines.{no_pairs, pushed, behind_before, behind_after, next_chunk}
+use Rattle.topology_text.{specs.Reading.Pairs, proofs.HolderLines.{no_pairs, pushed, behind_before, behind_after, next_chunk}}
 use Rattle.topology_text.proofs.pattern.pairs_part.Goals as goal
 
 pub returns-in_err-holders-clause-read : goal.returns-in_err-holders-clause-read

@@ -1,8 +1,7 @@
 use Rattle.std.proofs.{Common.{◌≡◌, ◌++◌, ◌∷◌, [], ap, ◌∙◌, rules, codes}, lemmas.Result.on_ok_weaker}
 use Rattle.text_lines.specs.Text.{text_of, fields}
-use Rattle.topology_text.{specs.Spelling.{header_words, nodes_words}, proofs.Printed.{front_text, front_lines, appended_three}}
+use Rattle.topology_text.{specs.Spelling.{header_words, nodes_words}, proofs.{Printed.{front_text, front_lines, appended_three}, printing.push_front.Goals.{in-None, in-Some}}}
 use Rattle.topology_text.proofs.printing.push_front.Goals as goal
-use Rattle.topology_text.proofs.printing.push_front.Goals.{in-None, in-Some}
 
 pub returns-clause-appended : goal.returns-clause-appended
 returns-clause-appended c =

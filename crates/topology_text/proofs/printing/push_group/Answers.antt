@@ -1,6 +1,4 @@
-use Rattle.std.proofs.lemmas.Bool.Decides.{nat_tests}
-use Rattle.std.proofs.lemmas.Grind.{common_steps}
-use Rattle.std.proofs.{Common.arith, lemmas.Result.on_ok_weaker}
+use Rattle.std.proofs.{lemmas.{Bool.Decides.nat_tests, Grind.common_steps, Result.on_ok_weaker}, Common.arith}
 use Rattle.topology_text.proofs.Printed.{appended, group_is}
 use Rattle.topology_text.proofs.printing.push_group.Goals as goal
 

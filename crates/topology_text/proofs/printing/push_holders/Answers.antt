@@ -1,10 +1,6 @@
-use Rattle.std.proofs.lemmas.Bool.Decides.{nat_tests}
-use Rattle.std.proofs.lemmas.Grind.{common_steps}
-use Rattle.std.proofs.Common.{append_assoc, arith}
-use Rattle.std.proofs.lemmas.{List.get_or_default, Result.on_ok_weaker}
-use Rattle.topology_text.proofs.Printed.{appended, holders_is, name_more, name_skipped, kept_on, kept_behind, front_kept, at_err}
+use Rattle.std.proofs.{lemmas.{Bool.Decides.nat_tests, Grind.common_steps, List.get_or_default, Result.on_ok_weaker}, Common.{append_assoc, arith}}
+use Rattle.topology_text.proofs.{Printed.{appended, holders_is, name_more, name_skipped, kept_on, kept_behind, front_kept, at_err}, printing.push_holders.Goals.{then-holds+in_ok-push_name, else-holds}}
 use Rattle.topology_text.proofs.printing.push_holders.Goals as goal
-use Rattle.topology_text.proofs.printing.push_holders.Goals.{then-holds+in_ok-push_name, else-holds}
 
 pub loop-node-preserved : goal.loop-node-preserved
 loop-node-preserved c = grind (arith, then-holds+in_ok-push_name, get_or_default, append_assoc, name_more, else-holds, name_skipped)

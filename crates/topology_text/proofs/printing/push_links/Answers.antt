@@ -1,7 +1,4 @@
-use Rattle.std.proofs.lemmas.Bool.Decides.{nat_tests}
-use Rattle.std.proofs.lemmas.Grind.{common_steps}
-use Rattle.std.proofs.Common.{arith, ◌≡◌, ◌<◌, ◌+◌, ◌++◌, ◌∷◌, ℕ, List, length, map, take, get_or}
-use Rattle.std.proofs.lemmas.List.{flat_map_more, map_push, take_more}
+use Rattle.std.proofs.{lemmas.{Bool.Decides.nat_tests, Grind.common_steps, List.{flat_map_more, map_push, take_more}}, Common.{arith, ◌≡◌, ◌<◌, ◌+◌, ◌++◌, ◌∷◌, ℕ, List, length, map, take, get_or}}
 use Rattle.text_lines.specs.Text.{fields}
 use Rattle.topology_text.{specs.Spelling.link_word, proofs.Printed.{kept_behind, at_err}}
 use Rattle.topology_text.proofs.printing.push_links.Goals as goal

@@ -1,6 +1,4 @@
-use Rattle.std.proofs.lemmas.Bool.Decides.{nat_tests}
-use Rattle.std.proofs.lemmas.Grind.{common_steps}
-use Rattle.std.proofs.Common.{arith, append_assoc}
+use Rattle.std.proofs.{lemmas.{Bool.Decides.nat_tests, Grind.common_steps}, Common.{arith, append_assoc}}
 use Rattle.topology_text.proofs.Printed.{chunk_lines, chunk_more, kept_on, kept_behind, front_kept, at_err}
 use Rattle.topology_text.proofs.printing.push_pattern.Goals as goal
 

@@ -1,11 +1,6 @@
-use Rattle.std.proofs.lemmas.Bool.Decides.{nat_tests}
-use Rattle.std.proofs.lemmas.Grind.{common_steps}
-use Rattle.std.proofs.Common.{arith}
-use Rattle.std.proofs.{Common.{[], Some, sym, ap, ◌∙◌}, lemmas.List.append-nil}
-use Rattle.std.proofs.lemmas.Result.{on_ok_weaker, on_err_weaker}
+use Rattle.std.proofs.{lemmas.{Bool.Decides.nat_tests, Grind.common_steps, List.append-nil, Result.{on_ok_weaker, on_err_weaker}}, Common.{arith, [], Some, sym, ap, ◌∙◌}}
 use Rattle.text_lines.specs.Text.{text_of}
-use Rattle.topology_text.specs.Spelling.{custom_lines}
-use Rattle.topology_text.proofs.Printed.{topology_printed, kept_more, kept_on, kept_behind, at_err}
+use Rattle.topology_text.{specs.Spelling.custom_lines, proofs.Printed.{topology_printed, kept_more, kept_on, kept_behind, at_err}}
 use Rattle.topology_text.proofs.printing.push_topology.Goals as goal
 
 pub returns-in-None-clause-appended : goal.returns-in-None-clause-appended

@@ -1,14 +1,10 @@
-use Rattle.std.proofs.lemmas.Bool.Decides.{nat_tests}
-use Rattle.std.proofs.lemmas.Grind.{common_steps}
-use Rattle.std.proofs.Common.{◌≡◌, ◌==◌, ℕ, ◌+◌, ◌<◌, ◌≤◌, List, [], ◌∷◌, ◌++◌, length, get_or, set, take, sym, ap, ◌∙◌, subst, arith}
-use Rattle.std.proofs.lemmas.List.{get_or-set_other, length-set, Elements.{All-contains, Contains-append_left, Contains-push}}
+use Rattle.std.proofs.{lemmas.{Bool.Decides.nat_tests, Grind.common_steps, List.{get_or-set_other, length-set}}, Common.{◌≡◌, ◌==◌, ℕ, ◌+◌, ◌<◌, ◌≤◌, List, [], ◌∷◌, ◌++◌, length, get_or, set, take, sym, ap, ◌∙◌, subst, arith}}
+use Rattle.std.proofs.lemmas.List.Elements.{All-contains, Contains-append_left, Contains-push}
 use Rattle.cnf_formula.{specs.{Literals.{LitValue, code_of}, Formulas.IsAbout}, proofs.Codes.{same_code, code_within}}
-use Rattle.trail_core.specs.{Watching.{RowValue, IsRow, IsWatched, AreLists, occurrences, list_at, AreBlocked, WatchValue, IsOnlyNew}, Kept.IsKept}
-use Rattle.trail_core.specs.{Search.clauses_of, Trails.lits_of}
-use Rattle.trail_core.proofs.{Watching.{occurs, count_short}, Blocking.{blocked_held, blocked_short}}
-use Rattle.trail_core.proofs.Added.{Put, watched_add, watched_more, own_count, put_short, put_two, kept_add, kept_lists, rows_add, shorts_add, shorts_push, unseen_by}
-use Rattle.trail_core.proofs.adding.hold.Goals as goal
+use Rattle.trail_core.specs.{Watching.{RowValue, IsRow, IsWatched, AreLists, occurrences, list_at, AreBlocked, WatchValue, IsOnlyNew}, Kept.IsKept, Search.clauses_of, Trails.lits_of}
+use Rattle.trail_core.proofs.{Watching.{occurs, count_short}, Blocking.{blocked_held, blocked_short}, Added.{Put, watched_add, watched_more, own_count, put_short, put_two, kept_add, kept_lists, rows_add, shorts_add, shorts_push, unseen_by}}
 use Rattle.trail_core.proofs.adding.hold.Goals.{After-admit_all}
+use Rattle.trail_core.proofs.adding.hold.Goals as goal
 
 -- the lists have room for the clause
 admitted : (c : After-admit_all) → IsKept c.args.store.now c.admit_all.new.lists c.args.trail.now c.args.head.now c.args.short.now.items

@@ -1,5 +1,4 @@
-use Rattle.std.proofs.Common.{◌≡◌, ◌≢◌, ◌==◌, ◌<◌, ◌≤◌, ℕ, List, [], ◌∷◌, ◌++◌, length, set, refl, sym, ap, ◌∙◌, subst, arith, Contains}
-use Rattle.std.proofs.lemmas.List.{get_or_read, Elements.{Contains-append_left, Contains-push, Contains-get_or}}
+use Rattle.std.proofs.{Common.{◌≡◌, ◌≢◌, ◌==◌, ◌<◌, ◌≤◌, ℕ, List, [], ◌∷◌, ◌++◌, length, set, refl, sym, ap, ◌∙◌, subst, arith, Contains}, lemmas.List.{get_or_read, Elements.{Contains-append_left, Contains-push, Contains-get_or}}}
 use Rattle.cnf_formula.specs.Literals.{LitValue, code_of, yes}
 use Rattle.trail_core.specs.{Watching.{WatchValue, list_at, IsOnlyNew, AreBlocked}, Search.clauses_of, inner.Begun.{front_row, IsBegun}}
 use Rattle.trail_core.proofs.{Added.{Put, put_short, put_two, shorts_add, shorts_push}, Begun.{begun_add, front_own}, Blocking.{blocked_held, blocked_short}}

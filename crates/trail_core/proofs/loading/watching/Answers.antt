@@ -1,7 +1,4 @@
-use Rattle.std.proofs.lemmas.Bool.Decides.{nat_tests}
-use Rattle.std.proofs.lemmas.Grind.{common_steps}
-use Rattle.std.proofs.Common.{count_by, sym, subst, arith, All}
-use Rattle.std.proofs.lemmas.List.{length-map, length-take-le}
+use Rattle.std.proofs.{lemmas.{Bool.Decides.nat_tests, Grind.common_steps, List.{length-map, length-take-le}}, Common.{count_by, sym, subst, arith, All}}
 use Rattle.cnf_formula.specs.Formulas.{IsAbout}
 use Rattle.trail_core.proofs.{Storing.all_joined, Begun.{few_front, rows_more}}
 use Rattle.trail_core.proofs.loading.watching.Goals as goal

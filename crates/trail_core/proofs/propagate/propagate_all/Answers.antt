@@ -1,10 +1,9 @@
 use Rattle.std.proofs.Common.{◌≡◌, ◌≢◌, ◌<◌, length, get_or, refl, sym, ap, ◌∙◌, subst, arith, Contains}
 use Rattle.cnf_formula.specs.Literals.{LitValue, negation}
 use Rattle.trail_core.specs.{Trails.lits_of, Search.{Implied, clauses_of}, Kept.{IsDue, IsKept}}
-use Rattle.trail_core.proofs.Scans.{implied_trans, implied_grows, lits_same}
-use Rattle.trail_core.proofs.Keeping.{kept_extend, kept_next, scan_due, done_by, nil_limits, stays_at, implied_longer, IsStarted, kept_settled, started_low, started_high}
-use Rattle.trail_core.proofs.propagate.propagate_all.Goals as goal
+use Rattle.trail_core.proofs.{Scans.{implied_trans, implied_grows, lits_same}, Keeping.{kept_extend, kept_next, scan_due, done_by, nil_limits, stays_at, implied_longer, IsStarted, kept_settled, started_low, started_high}}
 use Rattle.trail_core.proofs.propagate.propagate_all.Goals.{After-scan, then-depth-eq0+in_default, else-depth-eq0}
+use Rattle.trail_core.proofs.propagate.propagate_all.Goals as goal
 
 -- the literal that is scanned for is false, and what the scan made true was due
 is_next : (c : After-scan) → (d : LitValue) → c.negated-falsified.result ≡ negation (get_or (lits_of c.loop-at.trail.steps) c.loop-at.at d)

@@ -1,7 +1,6 @@
 use Rattle.std.proofs.{Common.{◌≡◌, ◌-◌, ◌<◌, get_or, refl, sym, ap, ◌∙◌, subst, inl, inr, ⊎_elim, arith}, lemmas.Bool.cases_lt}
 use Rattle.cnf_formula.specs.Literals.{negation, code_of}
-use Rattle.trail_core.specs.{Trails.lits_of, Watching.{watch_count, row_at, list_at}, Search.IsSatisfied}
-use Rattle.trail_core.proofs.{Watching.watch_entry, Visits.scanned_same, Scans.{implied_grows, scanned_trans, satisfied_grows}}
+use Rattle.trail_core.{specs.{Trails.lits_of, Watching.{watch_count, row_at, list_at}, Search.IsSatisfied}, proofs.{Watching.watch_entry, Visits.scanned_same, Scans.{implied_grows, scanned_trans, satisfied_grows}}}
 use Rattle.trail_core.proofs.propagate.scan.Goals as goal
 
 pub loop-place-init : goal.loop-place-init

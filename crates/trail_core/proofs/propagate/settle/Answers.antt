@@ -1,8 +1,6 @@
-use Rattle.std.proofs.{Common.{◌≡◌, ◌≤◌, List, [], Some, length, get_or, refl, sym, ap, ◌∙◌, subst, inl, arith, Contains}, lemmas.Bool.false≢true}
-use Rattle.std.proofs.lemmas.List.{length-map, get_or_default, Elements.Contains-push}
+use Rattle.std.proofs.{Common.{◌≡◌, ◌≤◌, List, [], Some, length, get_or, refl, sym, ap, ◌∙◌, subst, inl, arith, Contains}, lemmas.{Bool.false≢true, List.{length-map, get_or_default, Elements.Contains-push}}}
 use Rattle.cnf_formula.specs.Literals.{LitValue}
-use Rattle.trail_core.specs.{Trails.lits_of, Watching.no_row, Search.{IsUnit, Implied, clauses_of, Implied.{none, more}}, Kept.IsDue}
-use Rattle.trail_core.proofs.Visits.{lits_at, lits_push}
+use Rattle.trail_core.{specs.{Trails.lits_of, Watching.no_row, Search.{IsUnit, Implied, clauses_of, Implied.{none, more}}, Kept.IsDue}, proofs.Visits.{lits_at, lits_push}}
 use Rattle.trail_core.proofs.propagate.settle.Goals as goal
 
 single : (xs : List LitValue) (l : LitValue) → length xs ≤ 1 → l ≡ get_or xs 0 l → (o : LitValue) → Contains xs o → o ≡ l

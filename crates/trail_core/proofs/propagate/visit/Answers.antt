@@ -1,10 +1,8 @@
-use Rattle.std.proofs.{Common.{◌≡◌, ℕ, ◌<◌, true, [], ◌∷◌, ◌++◌, Some, length, sym, ap, ◌∙◌, subst, inl, inr, ⊎_elim, arith, Contains}, lemmas.Bool.false≢true}
-use Rattle.std.proofs.lemmas.List.Elements.{Contains-push}
+use Rattle.std.proofs.{Common.{◌≡◌, ℕ, ◌<◌, true, [], ◌∷◌, ◌++◌, Some, length, sym, ap, ◌∙◌, subst, inl, inr, ⊎_elim, arith, Contains}, lemmas.{Bool.false≢true, List.Elements.Contains-push}}
 use Rattle.cnf_formula.specs.Literals.{LitValue}
 use Rattle.trail_core.specs.{Assigned.{IsFalse, IsOpen}, Trails.{TrailValue, lits_of}, Watching.row_at, Search.IsSatisfied}
-use Rattle.trail_core.proofs.{Visits.{scanned_same, lits_push, pushed_scanned}, Blocking.{Visited, visited_by}}
+use Rattle.trail_core.proofs.{Visits.{scanned_same, lits_push, pushed_scanned}, Blocking.{Visited, visited_by}, propagate.visit.Goals.After-entry-watch}
 use Rattle.trail_core.proofs.propagate.visit.Goals as goal
-use Rattle.trail_core.proofs.propagate.visit.Goals.{After-entry-watch}
 
 visited : (c : After-entry-watch) → Visited c.args.trail.now.vars c.args.store.now c.args.falsified c.entry-watch.result
 visited c = visited_by c.args.store.now c.args.lists.now c.args.trail.now c.args.falsified c.args.place c.entry-watch.result c.requires.can c.requires.within c.entry-watch.ensures.clause c.entry-watch.ensures.stands

@@ -1,13 +1,11 @@
-use Rattle.std.proofs.Common.{◌≡◌, ◌<◌, [], ◌∷◌, ◌++◌, Some, length, get_or, set, sym, ap, ◌∙◌, subst, inl, inr, ⊎_elim, arith, Contains, All, swap_remove}
-use Rattle.std.proofs.lemmas.{Bool.false≢true, List.{length-set, Elements.{All-contains, Contains-push}}}
+use Rattle.std.proofs.{Common.{◌≡◌, ◌<◌, [], ◌∷◌, ◌++◌, Some, length, get_or, set, sym, ap, ◌∙◌, subst, inl, inr, ⊎_elim, arith, Contains, All, swap_remove}, lemmas.{Bool.false≢true, List.length-set}}
+use Rattle.std.proofs.lemmas.List.Elements.{All-contains, Contains-push}
 use Rattle.cnf_formula.{specs.{Literals.code_of, Formulas.IsAbout}, proofs.Codes.code_within}
-use Rattle.trail_core.specs.{Assigned.{IsFalse, IsOpen}, Trails.lits_of, Search.{Scanned, IsSatisfied, clauses_of}}
-use Rattle.trail_core.specs.Watching.{ListsValue, WatchValue, IsOnlyNew, AreBlocked, no_row, watch_count, row_at, list_at, IsWatched, AreRows}
+use Rattle.trail_core.specs.{Assigned.{IsFalse, IsOpen}, Trails.lits_of, Search.{Scanned, IsSatisfied, clauses_of}, Watching.{ListsValue, WatchValue, IsOnlyNew, AreBlocked, no_row, watch_count, row_at, list_at, IsWatched, AreRows}}
 use Rattle.trail_core.proofs.Watching.{entry_watches, watch_within, shifted, shifted_a, length_removed}
 use Rattle.trail_core.proofs.Visits.{Pair, IsOther, pair_is, Found, same_lit, other_lit, scanned_same, found_room, found_apart, rewatched, rewatched_is, rewatched_rows, rewatched_scanned, rewatched_not, removed_front, pushed_scanned, lits_push}
-use Rattle.trail_core.proofs.Blocking.{watched_same, blocked_new, can_replace, long_blocked}
+use Rattle.trail_core.proofs.{Blocking.{watched_same, blocked_new, can_replace, long_blocked}, propagate.visit_clause.Goals.{After-clause-id, Joined-eq, In-Some, then-eq, else-eq}}
 use Rattle.trail_core.proofs.propagate.visit_clause.Goals as goal
-use Rattle.trail_core.proofs.propagate.visit_clause.Goals.{After-clause-id, Joined-eq, In-Some, then-eq, else-eq}
 
 known : (c : After-clause-id) → c.clause-id.result < length c.args.store.now
 known c = subst (λ n. n < length c.args.store.now) (sym (c.clause-id.ensures ∙ c.requires.is)) (watch_within c.args.store.now _ (code_of c.args.falsified) (entry_watches c.args.store.now c.args.lists.now (code_of c.args.falsified) c.args.place c.requires.can.watched c.requires.within))

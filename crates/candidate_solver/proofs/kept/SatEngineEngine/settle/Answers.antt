@@ -2,8 +2,7 @@ use Rattle.std.proofs.Common.{◌≡◌, [], ◌∷◌, ◌++◌, refl, sym, ap,
 use Rattle.candidate_order.specs.{declared.candidate.Candidate.Candidate, Frontiers.QuestionValue}
 use Rattle.candidate_order.specs.declared.outcome.Outcome.TheVariants as outcome
 use Rattle.candidate_formula.{specs.Formulas.{formula_for, Suits}, proofs.{Exact.formula_exact, BegunFiles.begun_refl}}
-use Rattle.candidate_solver.specs.{Questions.asked, Beside.beside, Kept.{EngineState, HasFiles}}
-use Rattle.candidate_solver.proofs.{Settling.{IsSettled, settled_moves, settled_agrees, failed_moves}, Noting.{proved_by, not_solvable}}
+use Rattle.candidate_solver.{specs.{Questions.asked, Beside.beside, Kept.{EngineState, HasFiles}}, proofs.{Settling.{IsSettled, settled_moves, settled_agrees, failed_moves}, Noting.{proved_by, not_solvable}}}
 use Rattle.engine_rules.specs.{declared.settled.Settled.Settled, Outcomes.SpentOn}
 use Rattle.candidate_solver.proofs.kept.SatEngineEngine.settle.Goals as goal
 

@@ -3,10 +3,8 @@ use mathlib.Core.{Path.refl, List.{[], ◌∷◌}}
 use mir.Val.{Val, vstruct, vnil}
 use base.Fml.{Fml, ftrue}
 use contract.Running.{tables}
-use types.{Kit.{‵, raw, ◌⊛◌, ◌$◌, ◌∵◌, !, qed, move, keep, split, join, use0, suffices, done}, Run.{no_more, returns, enter}, Part.agg}
-use types.ByLocal.{alloc_all, pass_all, free_all, look_at, sets}
-use denote.{Shadow.makes_shadow, Steps.nothing, RattleType.owns, Signature.{types_at, type_at}, Triple.Entry.{alive, Res}}
-use denote.Triple.Walked.{says, Stays, walk_of, ends_at}
+use types.{Kit.{‵, raw, ◌⊛◌, ◌$◌, ◌∵◌, !, qed, move, keep, split, join, use0, suffices, done}, Run.{no_more, returns, enter}, Part.agg, ByLocal.{alloc_all, pass_all, free_all, look_at, sets}}
+use denote.{Shadow.makes_shadow, Steps.nothing, RattleType.owns, Signature.{types_at, type_at}, Triple.{Entry.{alive, Res}, Walked.{says, Stays, walk_of, ends_at}}}
 use Rattle.std.proofs.raw_atomic.Walks.{proved_at}
 use Rattle.conflict_ledger.specs.contracts.ghost_lines.GhostLines.none as f
 use Rattle.conflict_ledger.proofs.ghost_lines.GhostLines.none.Statement.{statement}

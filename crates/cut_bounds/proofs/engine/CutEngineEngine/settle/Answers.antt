@@ -2,8 +2,7 @@ use Rattle.std.proofs.{Common.{◌≡◌, true, false, ◌∷◌, ◌++◌, [], 
 use Rattle.candidate_order.specs.{declared.candidate.Candidate.Candidate, Frontiers.QuestionValue}
 use Rattle.engine_rules.specs.declared.settled.Settled.TheVariants as settled
 use Rattle.node_cuts.specs.Cutting.{is_cut}
-use Rattle.cut_bounds.specs.Laws.{cut_refuted}
-use Rattle.cut_bounds.proofs.Noting.{refutes_more, runs_within, still_new, uncut_cut, uncut_more, within_more}
+use Rattle.cut_bounds.{specs.Laws.cut_refuted, proofs.Noting.{refutes_more, runs_within, still_new, uncut_cut, uncut_more, within_more}}
 use Rattle.cut_bounds.proofs.engine.CutEngineEngine.settle.Goals as goal
 
 pub invariant_of-self : goal.invariant_of-self

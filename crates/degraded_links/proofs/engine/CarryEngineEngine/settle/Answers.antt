@@ -2,8 +2,7 @@ use Rattle.std.proofs.Common.{◌≡◌, true, false, ◌∷◌, [], ◌++◌, r
 use Rattle.engine_rules.specs.declared.settled.Settled.TheVariants as settled
 use Rattle.engine_rules.specs.Outcomes.{RecordValue}
 use Rattle.link_faults.{specs.Carrying.{is_carried, not_carried}, proofs.Recorded.kept_contains}
-use Rattle.degraded_links.specs.Keeping.{HasNoneCarried, RefutesCarried}
-use Rattle.degraded_links.proofs.Keeping.{alone_with, is_running, joined, kept_with, kept_without, not_both, stops_nowhere}
+use Rattle.degraded_links.{specs.Keeping.{HasNoneCarried, RefutesCarried}, proofs.Keeping.{alone_with, is_running, joined, kept_with, kept_without, not_both, stops_nowhere}}
 use Rattle.degraded_links.proofs.engine.CarryEngineEngine.settle.Goals as goal
 
 pub invariant_of-self : goal.invariant_of-self

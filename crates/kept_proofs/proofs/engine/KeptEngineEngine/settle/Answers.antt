@@ -3,9 +3,7 @@ use Rattle.candidate_order.specs.{declared.candidate.Candidate.Candidate, Fronti
 use Rattle.candidate_formula.{specs.Formulas.formula_for, proofs.BegunFiles.begun_refl}
 use Rattle.engine_rules.specs.declared.settled.Settled.{Settled, TheVariants.Refuted}
 use Rattle.candidate_solver.{specs.{Kept.EngineState, Questions.asked}, proofs.Settling.{IsSettled, settled_agrees}}
-use Rattle.kept_proofs.specs.Beside.{beside}
-use Rattle.kept_proofs.proofs.Below.{below, standing_of}
-use Rattle.kept_proofs.proofs.Standing.{calm, calm_below, exhausted_by, failed_there, stands_failed, stands_prepared, stands_searched, stands_taken, unsolvable_by}
+use Rattle.kept_proofs.{specs.Beside.beside, proofs.{Below.{below, standing_of}, Standing.{calm, calm_below, exhausted_by, failed_there, stands_failed, stands_prepared, stands_searched, stands_taken, unsolvable_by}}}
 use Rattle.kept_proofs.proofs.Moving.{agrees_behind, began_behind, began_own, failed_keeping, has_files_of, is_settled, pushed_own, same_own, searched_keeping, taken_keeping}
 use Rattle.kept_proofs.proofs.engine.KeptEngineEngine.settle.Goals as goal
 

@@ -1,8 +1,7 @@
 use Rattle.std.proofs.Common.{◌≡◌, ◌||◌, ◌==◌, true, List, length, sym, ap, ◌∙◌, subst, arith}
 use Rattle.cnf_formula.specs.{Lines.ProofLineValue, Literals.LitValue}
 use Rattle.proof_rules.specs.{Judging.{verdict_of, is_accepted}, Held.has_none}
-use Rattle.lrat_checker.{specs.Checking.{checker_of, CanCheck}, proofs.Checked.{can_add, table_with, empty_is}}
-use Rattle.lrat_checker.proofs.checker.Checker.hold.Goals.{then-self, else-self}
+use Rattle.lrat_checker.{specs.Checking.{checker_of, CanCheck}, proofs.{Checked.{can_add, table_with, empty_is}, checker.Checker.hold.Goals.{then-self, else-self}}}
 use Rattle.lrat_checker.proofs.checker.Checker.hold.Goals as goal
 
 pub invariant_of-self-2 : goal.invariant_of-self-2

@@ -1,5 +1,4 @@
-use Rattle.std.proofs.Common.{◌≡◌, ◌+◌, ◌-◌, ◌≤◌, ◌++◌, ◌∷◌, [], take, drop, length, sym, ap, ◌∙◌, subst, arith, reverse}
-use Rattle.std.proofs.lemmas.List.{length_push, length-reverse}
+use Rattle.std.proofs.{Common.{◌≡◌, ◌+◌, ◌-◌, ◌≤◌, ◌++◌, ◌∷◌, [], take, drop, length, sym, ap, ◌∙◌, subst, arith, reverse}, lemmas.List.{length_push, length-reverse}}
 use Rattle.list_laws.proofs.Fronts.{shorter}
 use Rattle.lrat_checker.{specs.inner.Marking.IsCounted, proofs.Marked.{some_times, counted_fewer, read_times, at_code, reverse-take, about_last}}
 use Rattle.lrat_checker.proofs.marks.Marks.back_to.Goals as goal

@@ -1,10 +1,9 @@
-use Rattle.std.{proofs.Common.{◌≡◌, ◌<◌, true, [], length, map, get_or, sym, ap, ◌∙◌, subst, arith, All, filter}, specs.List.list_all}
-use Rattle.std.proofs.lemmas.List.{length-map, length-set}
+use Rattle.std.{proofs.{Common.{◌≡◌, ◌<◌, true, [], length, map, get_or, sym, ap, ◌∙◌, subst, arith, All, filter}, lemmas.List.{length-map, length-set}}, specs.List.list_all}
 use Rattle.cnf_formula.specs.Literals.{code_of, negation}
 use Rattle.list_laws.proofs.Fronts.{at_map}
 use Rattle.proof_rules.specs.Accepting.{is_answered}
-use Rattle.lrat_checker.{specs.Stored.{list_at, is_held, answers, IsIndexed, IsStored}, proofs.{Placed.live_within, Noted.answered_by_list}}
-use Rattle.lrat_checker.proofs.{Cleaned.{cleaned, all_held, stored_cleaned}, table.ClauseTable.all_answered.Goals.{After-drop_gone, After-deref-3}}
+use Rattle.lrat_checker.specs.Stored.{list_at, is_held, answers, IsIndexed, IsStored}
+use Rattle.lrat_checker.proofs.{Placed.live_within, Noted.answered_by_list, Cleaned.{cleaned, all_held, stored_cleaned}, table.ClauseTable.all_answered.Goals.{After-drop_gone, After-deref-3}}
 use Rattle.lrat_checker.proofs.table.ClauseTable.all_answered.Goals as goal
 
 known : (c : After-drop_gone) → c.code-code.result < length (map (λ v. v.items) c.self.inside.lists.items)

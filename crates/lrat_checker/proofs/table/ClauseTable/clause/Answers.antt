@@ -1,5 +1,4 @@
-use Rattle.std.{proofs.Common.{◌≡◌, ◌<◌, [], length, get_or, Some, None, false, sym, ap, ◌∙◌, subst, arith, if◌then◌else◌}, specs.Option.option_copied}
-use Rattle.std.proofs.lemmas.List.{get_or_read}
+use Rattle.std.{proofs.{Common.{◌≡◌, ◌<◌, [], length, get_or, Some, None, false, sym, ap, ◌∙◌, subst, arith, if◌then◌else◌}, lemmas.List.get_or_read}, specs.Option.option_copied}
 use Rattle.proof_rules.specs.Held.{clause_at}
 use Rattle.lrat_checker.{specs.Stored.held_of, proofs.{Placed.{Others, not_held, held_at}, table.ClauseTable.clause.Goals.After-index}}
 use Rattle.lrat_checker.proofs.table.ClauseTable.clause.Goals as goal

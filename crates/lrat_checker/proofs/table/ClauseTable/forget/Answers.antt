@@ -1,8 +1,6 @@
-use Rattle.std.proofs.Common.{◌+◌, ◌<◌, ◌≤◌, ℕ, List, [], ◌∷◌, ◌++◌, false, length, get_or, sym, ap, ◌∙◌, subst, arith, if◌then◌else◌}
-use Rattle.std.proofs.lemmas.List.{get_or_read}
+use Rattle.std.proofs.{Common.{◌+◌, ◌<◌, ◌≤◌, ℕ, List, [], ◌∷◌, ◌++◌, false, length, get_or, sym, ap, ◌∙◌, subst, arith, if◌then◌else◌}, lemmas.List.get_or_read}
 use Rattle.cnf_formula.specs.Literals.{LitValue}
-use Rattle.lrat_checker.{specs.Stored.{TableValue, HasForgotten}, proofs.Forgotten.{IsPart, part_push, part_skip, part_all}}
-use Rattle.lrat_checker.proofs.table.ClauseTable.forget.Goals.{then-held+in_ok-push, else-held+else-place-first}
+use Rattle.lrat_checker.{specs.Stored.{TableValue, HasForgotten}, proofs.{Forgotten.{IsPart, part_push, part_skip, part_all}, table.ClauseTable.forget.Goals.{then-held+in_ok-push, else-held+else-place-first}}}
 use Rattle.lrat_checker.proofs.table.ClauseTable.forget.Goals as goal
 
 pub push-requires-clause-above : goal.push-requires-clause-above

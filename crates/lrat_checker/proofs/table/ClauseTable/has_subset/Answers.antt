@@ -1,8 +1,7 @@
 use Rattle.std.{proofs.{Common.{◌≡◌, true, false, map, take, sym, ap, ◌∙◌, arith}, lemmas.List.{length-map, take_all}}, specs.List.list_any}
 use Rattle.cnf_formula.specs.Literals.{is_superset}
 use Rattle.list_laws.proofs.Fronts.{at_map}
-use Rattle.lrat_checker.{specs.{inner.Leads.signature_of, Stored.{list_at, finds}}, proofs.Covered.{one_covered, none_covered}}
-use Rattle.lrat_checker.proofs.table.ClauseTable.has_subset.Goals.{After-deref-2, After-deref-in-loop-lit-2}
+use Rattle.lrat_checker.{specs.{inner.Leads.signature_of, Stored.{list_at, finds}}, proofs.{Covered.{one_covered, none_covered}, table.ClauseTable.has_subset.Goals.{After-deref-2, After-deref-in-loop-lit-2}}}
 use Rattle.lrat_checker.proofs.table.ClauseTable.has_subset.Goals as goal
 
 bare : (c : After-deref-2) → list_at (map (λ v. v.items) c.self.inside.leads.items) 0 ≡ c.deref-2.result.now

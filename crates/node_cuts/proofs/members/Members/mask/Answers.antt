@@ -1,7 +1,6 @@
 use Rattle.std.proofs.Common.{◌≤◌, ◌+◌, ◌*◌, ℕ, Bool, ap, sym, ◌∙◌, arith}
-use Rattle.node_cuts.{specs.{Sides.mask_of, inner.Listed.members}, proofs.Masks.{mask_below, small_bit, mask_yes, mask_no, bit_more}}
+use Rattle.node_cuts.{specs.{Sides.mask_of, inner.Listed.members}, proofs.{Masks.{mask_below, small_bit, mask_yes, mask_no, bit_more}, members.Members.mask.Goals.{then-has, else-has}}}
 use Rattle.node_cuts.proofs.members.Members.mask.Goals as goal
-use Rattle.node_cuts.proofs.members.Members.mask.Goals.{then-has, else-has}
 
 pub overflow_add-mask : goal.overflow_add-mask
 overflow_add-mask c =

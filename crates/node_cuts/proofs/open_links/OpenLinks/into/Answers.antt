@@ -1,7 +1,6 @@
 use Rattle.std.proofs.Common.{◌≡◌, ◌/◌, ◌%◌, ◌&&◌, ℕ, length-set, arith, sym, ap, ◌∙◌, not}
-use Rattle.node_cuts.{specs.{Sides.NodeSet, inner.Listed.members, Cuts.enters}, proofs.Filling.filled}
+use Rattle.node_cuts.{specs.{Sides.NodeSet, inner.Listed.members, Cuts.enters}, proofs.{Filling.filled, open_links.OpenLinks.into.Goals.{then-not-has, else-not-has}}}
 use Rattle.node_cuts.proofs.open_links.OpenLinks.into.Goals as goal
-use Rattle.node_cuts.proofs.open_links.OpenLinks.into.Goals.{then-not-has, else-not-has}
 
 pub loop-cell-preserved : goal.loop-cell-preserved
 loop-cell-preserved c =

@@ -1,8 +1,6 @@
 use Rattle.std.proofs.{Common.{◌≡◌, ◌*◌, ◌<◌, ℕ, List, get_or, length, map, sym, ap, ◌∙◌, arith}, lemmas.List.{get_or_default, length-map}}
 use Rattle.list_laws.proofs.Fronts.{at_map}
-use Rattle.node_cuts.specs.{declared.members.Members.Members, Sides.{NodeSet, mask_of, node_sets}, inner.Listed.members}
-use Rattle.node_cuts.specs.{Cuts.cover_by, Tables.{TableValue, cut_at, no_measure}}
-use Rattle.node_cuts.proofs.Tabled.{nobody}
+use Rattle.node_cuts.{specs.{declared.members.Members.Members, Sides.{NodeSet, mask_of, node_sets}, inner.Listed.members, Cuts.cover_by, Tables.{TableValue, cut_at, no_measure}}, proofs.Tabled.nobody}
 use Rattle.node_cuts.proofs.table.CutTable.cut_at.Goals as goal
 
 pub returns : goal.returns

@@ -1,5 +1,4 @@
-use Rattle.std.proofs.{Common.{◌≡◌, ◌/◌, ◌<◌, ℕ, Bool, true, false, List, Some, below_more, get_or, length, sym, ap, ◌∙◌, arith}}
-use Rattle.std.proofs.lemmas.List.{get_or_default}
+use Rattle.std.proofs.{Common.{◌≡◌, ◌/◌, ◌<◌, ℕ, Bool, true, false, List, Some, below_more, get_or, length, sym, ap, ◌∙◌, arith}, lemmas.List.get_or_default}
 use Rattle.node_cuts.{specs.{declared.measure.Measure.Measure, Tables.{TableValue, cut_at, no_measure}}, proofs.Tabled.{first_in, is_over, none_in}}
 use Rattle.node_cuts.proofs.table.CutTable.first_cut.Goals as goal
 

@@ -1,9 +1,7 @@
-use Rattle.std.proofs.Common.{◌≡◌, ◌+◌, ◌++◌, ℕ, List, [], ◌∷◌, get_or, map, take, sym, ap, ◌∙◌, ⊎_elim, subst, All, MatchOption, Some, filter}
-use Rattle.std.proofs.lemmas.{List.{take_all, take_more, Elements.{All-append, All-cons, All-nil}}, Simd.map-map}
+use Rattle.std.proofs.{Common.{◌≡◌, ◌+◌, ◌++◌, ℕ, List, [], ◌∷◌, get_or, map, take, sym, ap, ◌∙◌, ⊎_elim, subst, All, MatchOption, Some, filter}, lemmas.{List.{take_all, take_more, Elements.{All-append, All-cons, All-nil}}, Simd.map-map}}
 use Rattle.collective_spec.specs.{declared.instance.Instance.Instance, Collectives.{kind_in, spec_instance}}
-use Rattle.node_cuts.specs.declared.{members.Members.{Members, TheVariants.Sided}, side.Side.TheVariants.One, measure.Measure.Measure, floor.Floor.Floor}
-use Rattle.node_cuts.specs.{Sides.{NodeSet, node_sets}, inner.Listed.members, Floors.{first_greatest, floor_of, fraction_of, greater_of, has_need, least_count}}
-use Rattle.node_cuts.specs.Tables.{IsLow, IsSmall, measure_of}
+use Rattle.node_cuts.specs.{declared.{members.Members.{Members, TheVariants.Sided}, side.Side.TheVariants.One, measure.Measure.Measure, floor.Floor.Floor}, Sides.{NodeSet, node_sets}, inner.Listed.members}
+use Rattle.node_cuts.specs.{Floors.{first_greatest, floor_of, fraction_of, greater_of, has_need, least_count}, Tables.{IsLow, IsSmall, measure_of}}
 use Rattle.node_cuts.proofs.{Best.{IsBest, best_is, best_more}, Filling.mapped_more, Tabled.{fraction_told, measure_told}}
 use Rattle.node_cuts.proofs.table.CutTable.new.Goals as goal
 

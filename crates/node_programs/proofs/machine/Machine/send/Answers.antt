@@ -1,6 +1,5 @@
 use Rattle.std.proofs.Common.{◌≡◌, ◌+◌, ◌*◌, ◌<◌, get_or, set, Some, [], sym, ap, ◌∙◌, slice_get}
-use Rattle.node_programs.specs.{declared.op.Op.TheVariants.Send, Queues.{no_queue, with_message}}
-use Rattle.node_programs.proofs.Firing.{kept_send, next_below, place_inside, room_for, state_sent}
+use Rattle.node_programs.{specs.{declared.op.Op.TheVariants.Send, Queues.{no_queue, with_message}}, proofs.Firing.{kept_send, next_below, place_inside, room_for, state_sent}}
 use Rattle.node_programs.proofs.machine.Machine.send.Goals as goal
 
 pub push_at-requires-clause-room : goal.push_at-requires-clause-room

@@ -1,6 +1,5 @@
 use Rattle.std.proofs.Common.{◌≡◌, ◌+◌, ◌*◌, ◌<◌, get_or, set, Some, [], sym, ap, ◌∙◌, arith, slice_get}
-use Rattle.node_programs.specs.{declared.op.Op.TheVariants.Take, Queues.{no_queue, without_first}}
-use Rattle.node_programs.proofs.Firing.{kept_take, next_below, place_inside, state_taken}
+use Rattle.node_programs.{specs.{declared.op.Op.TheVariants.Take, Queues.{no_queue, without_first}}, proofs.Firing.{kept_take, next_below, place_inside, state_taken}}
 use Rattle.node_programs.proofs.machine.Machine.take.Goals as goal
 
 pub take_at-requires : goal.take_at-requires

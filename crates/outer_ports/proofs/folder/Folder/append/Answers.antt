@@ -1,5 +1,4 @@
-use Rattle.std.proofs.Common.{arith}
-use Rattle.std.{proofs.Common.ap, specs.Prelude.⊤}
+use Rattle.std.{proofs.Common.{arith, ap}, specs.Prelude.⊤}
 use Rattle.outer_ports.proofs.{Folders.{held_spared, held_stays, read_spared, read_stays, written_here, written_others}, OpenKinds.held_before}
 use Rattle.outer_ports.proofs.folder.Folder.append.Goals as goal
 

@@ -1,6 +1,4 @@
-use Rattle.std.proofs.lemmas.Bool.Decides.{nat_tests}
-use Rattle.std.proofs.lemmas.Grind.{common_steps}
-use Rattle.std.proofs.Common.{arith, ◌∙◌, ap, rules, string_bytes}
+use Rattle.std.proofs.{lemmas.{Bool.Decides.nat_tests, Grind.common_steps}, Common.{arith, ◌∙◌, ap, rules, string_bytes}}
 use Rattle.outer_ports.specs.{Folders.{files_in_folder, fresh_in, path_in}, Shelf.FilesStay, inner.Keeping.{IsNeither, IsOther, IsOwn, Spares}}
 use Rattle.outer_ports.proofs.{Entries.on_err, Folders.{all_held, all_read, begun_held, begun_others, begun_read, fault_files, fault_held, fault_read, file_is}}
 use Rattle.outer_ports.proofs.folder.Folder.begin.Goals as goal

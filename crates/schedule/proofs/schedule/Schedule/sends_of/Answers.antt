@@ -1,5 +1,4 @@
-use Rattle.std.{proofs.Common.{List, leb, ltb, rules}, specs.List.Sorted.IsNonDecreasingBy}
-use Rattle.std.proofs.lemmas.List.Sorted.{IsPartitionedBy-leb, IsPartitionedBy-ltb, IsPartitionPoint-from_clause, IsNonDecreasingBy-take}
+use Rattle.std.{proofs.{Common.{List, leb, ltb, rules}, lemmas.List.Sorted.{IsPartitionedBy-leb, IsPartitionedBy-ltb, IsPartitionPoint-from_clause, IsNonDecreasingBy-take}}, specs.List.Sorted.IsNonDecreasingBy}
 use Rattle.schedule.{specs.declared.hop.Hop.Hop, proofs.Steps.{step_found, steps_ascend}}
 use Rattle.schedule.proofs.schedule.Schedule.sends_of.Goals as goal
 

@@ -1,7 +1,6 @@
 use Rattle.std.proofs.{Common.{ℕ, ◌<◌, [], ◌∷◌, ◌++◌, Some, length, get_or, sym, ap, subst, arith, Contains}, lemmas.List.{length-map, Elements.All-contains}}
 use Rattle.cnf_formula.specs.Formulas.{IsAbout}
-use Rattle.trail_core.specs.{Trails.{TrailValue, lits_of}, Watching.row_at, Search.{IsUnit, clauses_of}, Kept.{IsDue, IsKept}}
-use Rattle.trail_core.proofs.{Visits.lits_at, Levels.kept_assert}
+use Rattle.trail_core.{specs.{Trails.{TrailValue, lits_of}, Watching.row_at, Search.{IsUnit, clauses_of}, Kept.{IsDue, IsKept}}, proofs.{Visits.lits_at, Levels.kept_assert}}
 use Rattle.trail_core.proofs.cdcl.Core.assert.Goals as goal
 
 pub push-requires-clause-within : goal.push-requires-clause-within

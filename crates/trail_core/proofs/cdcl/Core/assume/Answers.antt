@@ -1,8 +1,6 @@
 use Rattle.std.proofs.Common.{◌≡◌, [], ◌∷◌, ◌++◌, None, length, sym, ap, ◌∙◌, subst}
-use Rattle.trail_core.specs.{Assigned.IsOpen, Trails.lits_of, Search.clauses_of, Meaning.IsClosed, Kept.IsKept}
-use Rattle.trail_core.proofs.{Keeping.implied_closed, Levels.{done_closed, kept_decide}}
+use Rattle.trail_core.{specs.{Assigned.IsOpen, Trails.lits_of, Search.clauses_of, Meaning.IsClosed, Kept.IsKept}, proofs.{Keeping.implied_closed, Levels.{done_closed, kept_decide}, cdcl.Core.assume.Goals.After-propagate_all-closed}}
 use Rattle.trail_core.proofs.cdcl.Core.assume.Goals as goal
-use Rattle.trail_core.proofs.cdcl.Core.assume.Goals.{After-propagate_all-closed}
 
 closed : (c : After-propagate_all-closed) → IsClosed (lits_of c.self.inside.trail.steps) (clauses_of c.self.inside.store)
 closed c = subst (λ x. IsClosed (lits_of x.trail) x.clauses) (sym c.self.view_is) c.requires.closed

@@ -1,6 +1,5 @@
 use Rattle.std.proofs.Common.{ℕ, [], ◌∷◌, ◌++◌, Some, length, sym, ap, subst}
-use Rattle.trail_core.specs.{Trails.{TrailValue, lits_of}, Search.IsUnit, Meaning.CoreValue, Kept.{IsDue, IsKept, IsHeld, CanAddTo}}
-use Rattle.trail_core.proofs.Added.{kept_learned}
+use Rattle.trail_core.{specs.{Trails.{TrailValue, lits_of}, Search.IsUnit, Meaning.CoreValue, Kept.{IsDue, IsKept, IsHeld, CanAddTo}}, proofs.Added.kept_learned}
 use Rattle.trail_core.proofs.cdcl.Core.learn.Goals as goal
 
 pub hold-requires-clause-place : goal.hold-requires-clause-place

@@ -1,6 +1,5 @@
 use Rattle.std.proofs.Common.{[], map, sym, subst, arith}
-use Rattle.trail_core.specs.{Trails.TrailValue, Kept.IsKept, inner.Begun.front_row}
-use Rattle.trail_core.proofs.{Storing.occurrences_joined, Begun.{kept_begun, rows_front, lits_front}}
+use Rattle.trail_core.{specs.{Trails.TrailValue, Kept.IsKept, inner.Begun.front_row}, proofs.{Storing.occurrences_joined, Begun.{kept_begun, rows_front, lits_front}}}
 use Rattle.trail_core.proofs.cdcl.Core.of_clauses.Goals as goal
 
 pub invariant_of-result-2 : goal.invariant_of-result-2

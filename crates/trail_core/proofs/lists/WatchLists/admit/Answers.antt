@@ -1,10 +1,7 @@
-use Rattle.std.proofs.lemmas.Bool.Decides.{nat_tests}
-use Rattle.std.proofs.lemmas.Grind.{common_steps}
-use Rattle.std.proofs.Common.{arith, map, ap, ◌∙◌, rules}
+use Rattle.std.proofs.{lemmas.{Bool.Decides.nat_tests, Grind.common_steps}, Common.{arith, map, ap, ◌∙◌, rules}}
 use Rattle.cnf_formula.specs.Literals.{code_of}
-use Rattle.trail_core.{specs.inner.Pooled.numbers_of, proofs.{Pooling.{pooled_longer, pooled_roomy, views_same}, Listing.{Known, known, admitted}}}
+use Rattle.trail_core.{specs.inner.Pooled.numbers_of, proofs.{Pooling.{pooled_longer, pooled_roomy, views_same}, Listing.{Known, known, admitted}, lists.WatchLists.admit.Goals.After-index-span}}
 use Rattle.trail_core.proofs.lists.WatchLists.admit.Goals as goal
-use Rattle.trail_core.proofs.lists.WatchLists.admit.Goals.{After-index-span}
 
 found : (c : After-index-span) → Known c.self.inside.pool.items c.self.inside.spans.items c.args.self.now c.code-code.result (code_of c.args.lit) c.index-span.result.now
 found c = known _ _ _ _ _ _ c.self.invariant c.self.view_is c.code-code.ensures.code c.requires.known c.index-span.ensures

@@ -1,8 +1,7 @@
 use Rattle.std.proofs.Common.{arith}
 use Rattle.cnf_formula.specs.Literals.{code_of}
-use Rattle.trail_core.proofs.Listing.{Known, known, entry_at}
+use Rattle.trail_core.proofs.{Listing.{Known, known, entry_at}, lists.WatchLists.entry.Goals.After-index}
 use Rattle.trail_core.proofs.lists.WatchLists.entry.Goals as goal
-use Rattle.trail_core.proofs.lists.WatchLists.entry.Goals.{After-index}
 
 found : (c : After-index) → Known c.self.inside.pool.items c.self.inside.spans.items c.args.self.now c.code.result (code_of c.args.lit) c.index.result.now
 found c = known _ _ _ _ _ _ c.self.invariant c.self.view_is c.code.ensures.code c.requires.known c.index.ensures

@@ -1,6 +1,4 @@
-use Rattle.std.proofs.lemmas.Grind.{common_steps}
-use Rattle.std.proofs.Common.{arith}
-use Rattle.std.proofs.lemmas.List.{length_push, map_push, take_more, take_all}
+use Rattle.std.proofs.{lemmas.{Grind.common_steps, List.{length_push, map_push, take_more, take_all}}, Common.arith}
 use Rattle.trail_core.proofs.Pooling.{pooled_push, none_viewed, none_listed, spans_many}
 use Rattle.list_laws.proofs.Places.{by_place_push}
 use Rattle.trail_core.proofs.lists.WatchLists.new.Goals as goal

@@ -1,10 +1,7 @@
-use Rattle.std.proofs.{Common.{◌≡◌, ◌+◌, ◌<◌, ◌≤◌, List, [], ◌∷◌, ◌++◌, map, length, get_or, take, sym, ap, ◌∙◌, subst, arith, All}, lemmas.List.map_push}
-use Rattle.std.proofs.lemmas.List.Elements.{All-push}
+use Rattle.std.proofs.{Common.{◌≡◌, ◌+◌, ◌<◌, ◌≤◌, List, [], ◌∷◌, ◌++◌, map, length, get_or, take, sym, ap, ◌∙◌, subst, arith, All}, lemmas.List.{map_push, Elements.All-push}}
 use Rattle.cnf_formula.specs.Literals.{yes}
-use Rattle.trail_core.specs.{inner.{Begun.front_row, Stored.row_of}, declared.store.Header.Header}
-use Rattle.trail_core.proofs.{Storing.{joined, joined_at, Lies}, Begun.rows_more}
+use Rattle.trail_core.{specs.{inner.{Begun.front_row, Stored.row_of}, declared.store.Header.Header}, proofs.{Storing.{joined, joined_at, Lies}, Begun.rows_more, store.ClauseStore.of_clauses.Goals.After-clause-clause}}
 use Rattle.trail_core.proofs.store.ClauseStore.of_clauses.Goals as goal
-use Rattle.trail_core.proofs.store.ClauseStore.of_clauses.Goals.{After-clause-clause}
 
 -- the clause lies among the literals
 within : (c : After-clause-clause) → c.loop-place.start + length c.clause-clause.result.now ≤ length (joined c.args.clauses.now)

@@ -1,8 +1,7 @@
 use Rattle.std.proofs.{Common.{◌≡◌, ◌+◌, [], ◌∷◌, ◌++◌, None, length, ap, refl, arith}, lemmas.List.length-set}
 use Rattle.trail_core.specs.{inner.Packed.levels_of, declared.trail.Assignment.Assignment}
-use Rattle.trail_core.proofs.{Trails.{same_trail, leveled_decide, placed_push}, Packed.no_reason, Valued.assigned_push, Fields.{seen, CanPush, can_push, pushed}}
+use Rattle.trail_core.proofs.{Trails.{same_trail, leveled_decide, placed_push}, Packed.no_reason, Valued.assigned_push, Fields.{seen, CanPush, can_push, pushed}, trail.Trail.decide.Goals.After-len-place}
 use Rattle.trail_core.proofs.trail.Trail.decide.Goals as goal
-use Rattle.trail_core.proofs.trail.Trail.decide.Goals.{After-len-place}
 
 ready : (c : After-len-place) → CanPush c.self.inside.vars c.self.inside.values.items c.self.inside.lits.items c.self.inside.limits.items c.args.lit
 ready c =

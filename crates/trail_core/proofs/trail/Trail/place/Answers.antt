@@ -1,5 +1,4 @@
-use Rattle.std.proofs.lemmas.Grind.{common_steps}
-use Rattle.std.proofs.Common.{arith}
+use Rattle.std.proofs.{lemmas.Grind.common_steps, Common.arith}
 use Rattle.list_laws.proofs.Fronts.{at_map}
 use Rattle.trail_core.proofs.Fields.{seen, stands_within}
 use Rattle.trail_core.proofs.trail.Trail.place.Goals as goal

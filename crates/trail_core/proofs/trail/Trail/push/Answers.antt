@@ -1,9 +1,7 @@
 use Rattle.std.proofs.{Common.{◌≡◌, Some, length, refl, ap, arith}, lemmas.List.length-set}
 use Rattle.trail_core.specs.{inner.Packed.levels_of, declared.trail.Assignment.Assignment}
-use Rattle.trail_core.proofs.{Trails.{same_trail, leveled_push, placed_push}, Packed.some_reason, Valued.{code_of_within, assigned_push}}
-use Rattle.trail_core.proofs.Fields.{seen, CanPush, can_push, pushed}
+use Rattle.trail_core.proofs.{Trails.{same_trail, leveled_push, placed_push}, Packed.some_reason, Valued.{code_of_within, assigned_push}, Fields.{seen, CanPush, can_push, pushed}, trail.Trail.push.Goals.After-len}
 use Rattle.trail_core.proofs.trail.Trail.push.Goals as goal
-use Rattle.trail_core.proofs.trail.Trail.push.Goals.{After-len}
 
 ready : (c : After-len) → CanPush c.self.inside.vars c.self.inside.values.items c.self.inside.lits.items c.self.inside.limits.items c.args.lit
 ready c =
