@@ -1,13 +1,13 @@
 //! A report as JSON.
 
-ghost use Rattle.std.specs.Prelude.{◌≡◌, [], ◌∷◌, Ok, codes, map, slice_index_or, IfOk, OnOk};
+ghost use Rattle.std.specs.Prelude.{◌≡◌, ℕ, List, [], ◌∷◌, Ok, Some, None, codes, map, if◌then◌else◌, option_map, unwrap_or, slice_index_or, IfOk, OnOk};
 ghost use Rattle.report_form.specs.Reports.{IsReport};
-ghost use Rattle.serde_json.specs.View.{view, members_view};
-ghost use Rattle.json_values.specs.Json.{printed, array_of, count_of, members_of, object_of};
+ghost use Rattle.serde_json.specs.{Data.{Data, put, string}, View.{view, members_view}};
+ghost use Rattle.json_values.specs.Json.{printed, array_of, count_of, object_of};
 ghost use Rattle.report_form.specs.Spelling.{mark_words, part_words};
-ghost use Rattle.json_rules.specs.{ReportForm.{send as send_form, point as point_form, frontier as frontier_form, words as words_form}, ReportJson.report_json};
+ghost use Rattle.json_rules.specs.{ReportForm.{adding_in, send as send_form, point as point_form, frontier as frontier_form, words as words_form}, ReportJson.report_json};
 ghost use Rattle.json_rules.specs.Answer.{report_of_json};
-ghost use Rattle.json_reports.specs.{Candidates.{refuted as refuted_form, unknown as unknown_form}, inner.Members.{point_members, plain_members, with_said}};
+ghost use Rattle.json_reports.specs.Candidates.{refuted as refuted_form, unknown as unknown_form};
 
 use candidate_order::{Candidate, Frontier, Mark, Point, Unknown};
 use collective_spec::takes_root;
@@ -19,66 +19,60 @@ use serde_json::{Map, Value, json, put};
 use std::alloc::{AllocError, Global};
 use topology_text::Name;
 
-fn candidate_json(alloc: Global, x: Candidate) -> Result<Value, AllocError>
-    ensures { IfOk result (λ v. view v ≡ refuted_form.json x) }
-{
-    json!(in alloc; [x.s, x.r, x.c])
+/// What a report's JSON has lists of.
+trait Listed {
+    /// The JSON of a value, by the names of the nodes.
+    ghost json: { List (List ℕ) → Self → Data };
+
+    fn value(&self, alloc: Global, names: &[Name]) -> Result<Value, AllocError>
+        ensures { IfOk result (λ v. view v ≡ json names.now self.now) };
 }
 
-fn candidates_json(alloc: Global, list: &[Candidate]) -> Result<Value, AllocError>
-    ensures { IfOk result (λ v. view v ≡ array_of (map refuted_form.json list.now)) }
+/// The array of the values of a list.
+fn list_json<T: Listed>(alloc: Global, names: &[Name], list: &[T]) -> Result<Value, AllocError>
+    ensures { IfOk result (λ v. view v ≡ array_of (map (T.json names.now) list.now)) }
 {
     let mut values = Vec::new(alloc);
     for x in list {
-        values.push(candidate_json(alloc, *x)?)?;
+        values.push(x.value(alloc, names)?)?;
     }
     Ok(Value::Array(values))
 }
 
-fn unknown_json(alloc: Global, unknown: &Unknown) -> Result<Value, AllocError>
-    ensures { IfOk result (λ v. view v ≡ unknown_form.json unknown.now) }
-{
-    let x = unknown.candidate();
-    let conflicts = unknown.conflicts();
-    json!(in alloc; [x.s, x.r, x.c, conflicts])
-}
+impl Listed for Candidate {
+    ghost json = { λ _. refuted_form.json };
 
-fn unknowns_json(alloc: Global, list: &[Unknown]) -> Result<Value, AllocError>
-    ensures { IfOk result (λ v. view v ≡ array_of (map unknown_form.json list.now)) }
-{
-    let mut values = Vec::new(alloc);
-    for unknown in list {
-        values.push(unknown_json(alloc, unknown)?)?;
+    fn value(&self, alloc: Global, _names: &[Name]) -> Result<Value, AllocError> {
+        json!(in alloc; [self.s, self.r, self.c])
     }
-    Ok(Value::Array(values))
 }
 
-fn send_json(alloc: Global, names: &[Name], hop: Hop) -> Result<Value, AllocError>
-    ensures { IfOk result (λ v. view v ≡ (send_form names.now).json hop) }
-{
-    let from = node_text(names, hop.from);
-    let to = node_text(names, hop.to);
-    json!(in alloc; [hop.chunk, from, to, hop.step])
-}
+impl Listed for Unknown {
+    ghost json = { λ _. unknown_form.json };
 
-fn sends_json(alloc: Global, names: &[Name], sends: &[Hop]) -> Result<Value, AllocError>
-    ensures { IfOk result (λ v. view v ≡ array_of (map (send_form names.now).json sends.now)) }
-{
-    let mut values = Vec::new(alloc);
-    for hop in sends {
-        values.push(send_json(alloc, names, *hop)?)?;
+    fn value(&self, alloc: Global, _names: &[Name]) -> Result<Value, AllocError> {
+        let x = self.candidate();
+        let conflicts = self.conflicts();
+        json!(in alloc; [x.s, x.r, x.c, conflicts])
     }
-    Ok(Value::Array(values))
 }
 
-fn rounds_json(alloc: Global, rounds: &[u8]) -> Result<Value, AllocError>
-    ensures { IfOk result (λ v. view v ≡ array_of (map count_of rounds.now)) }
-{
-    let mut values = Vec::new(alloc);
-    for count in rounds {
-        values.push(Value::from(*count))?;
+impl Listed for Hop {
+    ghost json = { λ names. (send_form names).json };
+
+    fn value(&self, alloc: Global, names: &[Name]) -> Result<Value, AllocError> {
+        let from = node_text(names, self.from);
+        let to = node_text(names, self.to);
+        json!(in alloc; [self.chunk, from, to, self.step])
     }
-    Ok(Value::Array(values))
+}
+
+impl Listed for u8 {
+    ghost json = { λ _. count_of };
+
+    fn value(&self, _alloc: Global, _names: &[Name]) -> Result<Value, AllocError> {
+        Ok(Value::from(*self))
+    }
 }
 
 fn mark_text(mark: Mark) -> &'static str
@@ -91,50 +85,46 @@ fn mark_text(mark: Mark) -> &'static str
     }
 }
 
-/// The members that every point has.
-fn point_members(
+/// Puts in how many steps a joined point adds.
+fn put_adding(members: &mut Map<String, Value>, alloc: Global, mark: Mark) -> Result<(), AllocError>
+    ensures { OnOk result (members_view members.new.entries ≡ unwrap_or (option_map (λ n. put (codes "adding") (count_of n) (members_view members.old.entries)) (adding_in mark)) (members_view members.old.entries)) }
+{
+    if let Mark::Joined { adding } = mark {
+        put(members, alloc, "adding", Value::from(adding))?;
+    }
+    Ok(())
+}
+
+/// Puts in the steps, the rounds and the copies.
+fn put_candidate(
+    members: &mut Map<String, Value>,
     alloc: Global,
-    names: &[Name],
-    point: &Point,
-) -> Result<Map<String, Value>, AllocError>
-    ensures { IfOk result (λ m. members_view m.entries ≡ members_of (point_members names.now point.now)) }
+    x: Candidate,
+) -> Result<(), AllocError>
+    ensures { OnOk result (members_view members.new.entries ≡ put (codes "s") (count_of x.s) (put (codes "r") (count_of x.r) (put (codes "c") (count_of x.c) (members_view members.old.entries)))) }
 {
-    let x = point.candidate();
-    let rounds = rounds_json(alloc, point.schedule().rounds())?;
-    let sends = sends_json(alloc, names, point.schedule().sends())?;
-    let mut members = Map::new(alloc);
-    put(&mut members, alloc, "c", Value::from(x.c))?;
-    put(
-        &mut members,
-        alloc,
-        "mark",
-        Value::try_from_str(alloc, mark_text(point.mark()))?,
-    )?;
-    put(&mut members, alloc, "r", Value::from(x.r))?;
-    put(&mut members, alloc, "rounds", rounds)?;
-    put(&mut members, alloc, "s", Value::from(x.s))?;
-    put(&mut members, alloc, "sends", sends)?;
-    Ok(members)
+    put(members, alloc, "c", Value::from(x.c))?;
+    put(members, alloc, "r", Value::from(x.r))?;
+    put(members, alloc, "s", Value::from(x.s))?;
+    Ok(())
 }
 
-fn point_json(alloc: Global, names: &[Name], point: &Point) -> Result<Value, AllocError>
-    ensures { IfOk result (λ v. view v ≡ (point_form names.now).json point.now) }
-{
-    let mut members = point_members(alloc, names, point)?;
-    if let Mark::Joined { adding } = point.mark() {
-        put(&mut members, alloc, "adding", Value::from(adding))?;
-    }
-    Ok(Value::Object(members))
-}
+impl Listed for Point {
+    ghost json = { λ names. (point_form names).json };
 
-fn points_json(alloc: Global, names: &[Name], points: &[Point]) -> Result<Value, AllocError>
-    ensures { IfOk result (λ v. view v ≡ array_of (map (point_form names.now).json points.now)) }
-{
-    let mut values = Vec::new(alloc);
-    for point in points {
-        values.push(point_json(alloc, names, point)?)?;
+    fn value(&self, alloc: Global, names: &[Name]) -> Result<Value, AllocError> {
+        let (schedule, mark) = (self.schedule(), self.mark());
+        let rounds = list_json(alloc, names, schedule.rounds())?;
+        let sends = list_json(alloc, names, schedule.sends())?;
+        let text = Value::try_from_str(alloc, mark_text(mark))?;
+        let mut members = Map::new(alloc);
+        put(&mut members, alloc, "sends", sends)?;
+        put(&mut members, alloc, "rounds", rounds)?;
+        put_adding(&mut members, alloc, mark)?;
+        put(&mut members, alloc, "mark", text)?;
+        put_candidate(&mut members, alloc, self.candidate())?;
+        Ok(Value::Object(members))
     }
-    Ok(Value::Array(values))
 }
 
 fn part_text(part: Part) -> &'static str
@@ -148,82 +138,30 @@ fn part_text(part: Part) -> &'static str
     }
 }
 
-fn frontier_json(
-    alloc: Global,
-    names: &[Name],
-    part: Part,
-    frontier: &Frontier,
-) -> Result<Value, AllocError>
-    ensures { IfOk result (λ v. view v ≡ (frontier_form names.now).json (part, frontier.now)) }
-{
-    let part = part_text(part);
-    let points = points_json(alloc, names, frontier.points())?;
-    let refuted = candidates_json(alloc, frontier.refuted())?;
-    let unknown = unknowns_json(alloc, frontier.unknown())?;
-    json!(in alloc; {"part": part, "points": points, "refuted": refuted, "unknown": unknown})
-}
+impl Listed for (Part, Frontier) {
+    ghost json = { λ names. (frontier_form names).json };
 
-fn frontiers_json(
-    alloc: Global,
-    names: &[Name],
-    frontiers: &[(Part, Frontier)],
-) -> Result<Value, AllocError>
-    ensures { IfOk result (λ v. view v ≡ array_of (map (frontier_form names.now).json frontiers.now)) }
-{
-    let mut values = Vec::new(alloc);
-    for (part, frontier) in frontiers {
-        values.push(frontier_json(alloc, names, *part, frontier)?)?;
+    fn value(&self, alloc: Global, names: &[Name]) -> Result<Value, AllocError> {
+        let part = part_text(self.0);
+        let points = list_json(alloc, names, self.1.points())?;
+        let refuted = list_json(alloc, names, self.1.refuted())?;
+        let unknown = list_json(alloc, names, self.1.unknown())?;
+        json!(in alloc; {"part": part, "points": points, "refuted": refuted, "unknown": unknown})
     }
-    Ok(Value::Array(values))
 }
 
-/// The members of the words without what is left out.
-fn plain_members(
-    alloc: Global,
-    names: &[Name],
-    words: Words,
-) -> Result<Map<String, Value>, AllocError>
-    ensures { IfOk result (λ m. members_view m.entries ≡ members_of (plain_members names.now words)) }
-{
-    let kind = words.collective().kind;
-    let collective = kind.word();
-    let limits = words.limits();
-    let (k, steps) = (limits.k(), limits.max_s());
-    let (chunks, conflicts) = (limits.max_c(), limits.conflicts());
-    let mut members = Map::new(alloc);
-    put(&mut members, alloc, "chunks", Value::from(chunks))?;
-    put(
-        &mut members,
-        alloc,
-        "collective",
-        Value::try_from_str(alloc, collective)?,
-    )?;
-    put(&mut members, alloc, "conflicts", Value::from(conflicts))?;
-    put(&mut members, alloc, "k", Value::from(k))?;
-    put(&mut members, alloc, "steps", Value::from(steps))?;
-    if takes_root(kind) {
-        let root = node_text(names, words.collective().root);
-        put(
-            &mut members,
-            alloc,
-            "root",
-            Value::try_from_str(alloc, root)?,
-        )?;
-    }
-    Ok(members)
-}
-
-/// Puts the key in with the word `yes`, where it is said.
+/// Puts the text in under the key, where it is said.
 fn put_said(
     members: &mut Map<String, Value>,
     alloc: Global,
     key: &str,
     said: bool,
+    text: &str,
 ) -> Result<(), AllocError>
-    ensures { OnOk result (members_view members.new.entries ≡ with_said key.now said (members_view members.old.entries)) }
+    ensures { OnOk result (members_view members.new.entries ≡ unwrap_or (option_map (λ t. put key.now (string t) (members_view members.old.entries)) (if said then Some text.now else None)) (members_view members.old.entries)) }
 {
     if said {
-        put(members, alloc, key, Value::try_from_str(alloc, "yes")?)?;
+        put(members, alloc, key, Value::try_from_str(alloc, text)?)?;
     }
     Ok(())
 }
@@ -231,10 +169,24 @@ fn put_said(
 fn words_json(alloc: Global, names: &[Name], words: Words) -> Result<Value, AllocError>
     ensures { IfOk result (λ v. view v ≡ (words_form names.now).json words) }
 {
-    let pruning = words.limits().pruning();
-    let mut members = plain_members(alloc, names, words)?;
-    put_said(&mut members, alloc, "cuts", pruning.cuts)?;
-    put_said(&mut members, alloc, "ordered", pruning.ordered)?;
+    let (asked, limits) = (words.collective(), words.limits());
+    let pruning = limits.pruning();
+    let root = node_text(names, asked.root);
+    let collective = Value::try_from_str(alloc, asked.kind.word())?;
+    let mut members = Map::new(alloc);
+    put_said(&mut members, alloc, "ordered", pruning.ordered, "yes")?;
+    put_said(&mut members, alloc, "cuts", pruning.cuts, "yes")?;
+    put_said(&mut members, alloc, "root", takes_root(asked.kind), root)?;
+    put(
+        &mut members,
+        alloc,
+        "conflicts",
+        Value::from(limits.conflicts()),
+    )?;
+    put(&mut members, alloc, "chunks", Value::from(limits.max_c()))?;
+    put(&mut members, alloc, "steps", Value::from(limits.max_s()))?;
+    put(&mut members, alloc, "k", Value::from(limits.k()))?;
+    put(&mut members, alloc, "collective", collective)?;
     Ok(Value::Object(members))
 }
 
@@ -256,8 +208,8 @@ fn report_value(alloc: Global, report: &Report) -> Result<Value, AllocError>
     ensures limits { IsReport report.now }
 {
     let names = report.topology().names();
-    let frontiers = frontiers_json(alloc, names, report.frontiers())?;
-    let joined = points_json(alloc, names, report.joined())?;
+    let frontiers = list_json(alloc, names, report.frontiers())?;
+    let joined = list_json(alloc, names, report.joined())?;
     let topology = topology_value(alloc, report.topology())?;
     let words = words_json(alloc, names, report.words())?;
     whole_value(alloc, frontiers, joined, topology, words)

@@ -1,2 +1,0 @@
--- What no contract of a public call says: contracts and proofs inside this crate alone cite it.
-pub mod Members
