@@ -3,7 +3,7 @@ use Rattle.std.proofs.Common.{◌≡◌, ℕ, ◌+◌, ◌*◌, ◌/◌, ◌%◌
 use Rattle.std.{specs.List.range_with_len, proofs.lemmas.{List.Elements.{All-from_recursion, All-set, recursion_from_All}, Nat.{div-mul-add, mod-mul-add, mul-add-lt}}}
 use Rattle.std.proofs.lemmas.List.{get_or-map, length-map, length-set, map-set, FromFn.{get_or-map-range_with_len, length-map-range_with_len}}
 use Rattle.schedule.specs.{Placed.{PlacementValue, holds}, Bags.{Bag, contributions, empty_bag, held_at_2, of_placement, one_of}}
-use Rattle.bag_runs.specs.{declared.mode.Mode.Mode, Stores.{StoreValue, bag_in, received, stored, with_bag}, Kept.{IsFilled, IsHeld, IsStore, counted, counts_of, counts_where}}
+use Rattle.bag_runs.specs.{declared.mode.Mode.Mode, Stores.{StoreValue, bag_in, bags_in, received, stored, with_bag}, Kept.{IsFilled, IsHeld, IsStore, counted, counts_of, counts_where}}
 use Rattle.bag_runs.proofs.{Tables.{column_below, same_table}, Counting.{counted_none, counted_one, few, held_one, none_at}}
 
 -- ---- what is held at 2 stays as it is
@@ -26,20 +26,21 @@ held_empty_bag nodes = held_small (λ _. 0) (λ _. omega arith) (range_with_len 
 abbrev pub value : ℕ → ℕ → List (List ℕ) → StoreValue
 value chunks nodes bags = record { chunks = chunks; nodes = nodes; bags = map (counted nodes) bags }
 
-module _ (chunks nodes : ℕ) (bags : List (List ℕ)) (filled : IsFilled chunks nodes bags) where
-  held_cell : (k : ℕ) → k < length bags → held_at_2 (get_or (map (counted nodes) bags) k []) ≡ get_or (map (counted nodes) bags) k []
-  held_cell k inside =
-      let at : get_or (map (counted nodes) bags) k [] ≡ counted nodes (get_or bags k []) = get_or-map (counted nodes) bags k [] [] inside in
-      ap held_at_2 at ∙ held_counted nodes (get_or bags k []) (All-from_recursion IsHeld bags filled.held k [] inside) ∙ sym at
+-- bags with the right cells are a store
+by_cells : (chunks nodes : ℕ) (f : ℕ × ℕ → Bag) (bags : List (List ℕ)) → length bags ≡ chunks * nodes
+    → ((c b : ℕ) → b < nodes → c * nodes + b < length bags → counted nodes (get_or bags (c * nodes + b) []) ≡ held_at_2 (f (c, b))) → value chunks nodes bags ≡ stored chunks nodes f
+by_cells chunks nodes f bags size right =
+    ap (λ (cells : List Bag). make cells) (same_table (λ pair. held_at_2 (f pair)) nodes chunks (map (counted nodes) bags) [] (length-map bags (counted nodes) ∙ size)
+    (λ c b low inside.
+    let at : c * nodes + b < length bags = omega (arith, size, mul-add-lt c nodes b chunks low inside) in
+    get_or-map (counted nodes) bags (c * nodes + b) [] [] at ∙ right c b inside at))
+  where
+    make : List Bag → StoreValue
+    make cells = record { chunks = chunks; nodes = nodes; bags = cells }
 
-  pub store_stored : IsStore (value chunks nodes bags)
-  store_stored =
-      ap (λ (cells : List Bag). make cells)
-      (same_table (λ pair. held_at_2 (bag_in (value chunks nodes bags) pair.0 pair.1)) nodes chunks (map (counted nodes) bags) [] (length-map bags (counted nodes) ∙ filled.size)
-      (λ c b low inside. sym (held_cell (c * nodes + b) (omega (arith, filled.size, mul-add-lt c nodes b chunks low inside)))))
-    where
-      make : List Bag → StoreValue
-      make cells = record { chunks = chunks; nodes = nodes; bags = cells }
+pub store_stored : (chunks nodes : ℕ) (bags : List (List ℕ)) → IsFilled chunks nodes bags → IsStore (value chunks nodes bags)
+store_stored chunks nodes bags filled = by_cells chunks nodes (bags_in (value chunks nodes bags)) bags filled.size (λ c b inside at.
+    sym (ap held_at_2 (get_or-map (counted nodes) bags (c * nodes + b) [] [] at) ∙ held_counted nodes (get_or bags (c * nodes + b) []) (All-from_recursion IsHeld bags filled.held (c * nodes + b) [] at)))
 
 -- ---- the bags of all places, by chunk and then by node
 
@@ -54,17 +55,10 @@ module _ (chunks nodes : ℕ) (f : ℕ × ℕ → Bag) (g : ℕ × ℕ → List 
   pub all_places : IsFilled chunks nodes bags × (value chunks nodes bags ≡ stored chunks nodes f)
   all_places = (
     record { size = places; held = recursion_from_All IsHeld bags (λ k d inside. rw (place_at k d inside) (right (k / nodes) (k % nodes) (column_below k chunks nodes (omega (arith, inside, places)))).0) },
-    ap (λ (cells : List Bag). make cells)
-        (same_table (λ pair. held_at_2 (f pair)) nodes chunks (map (counted nodes) bags) [] (length-map bags (counted nodes) ∙ places)
-        (λ c b low inside.
-        let at : c * nodes + b < length bags = omega (arith, places, mul-add-lt c nodes b chunks low inside) in
-        get_or-map (counted nodes) bags (c * nodes + b) [] [] at ∙ ap (counted nodes) (place_at (c * nodes + b) [] at)
-        ∙ ap (λ a. counted nodes (g (a, (c * nodes + b) % nodes))) (div-mul-add c nodes b inside) ∙ ap (λ a. counted nodes (g (c, a))) (mod-mul-add c nodes b inside)
-        ∙ (right c b inside).1)),
+    by_cells chunks nodes f bags places (λ c b inside at.
+        ap (counted nodes) (place_at (c * nodes + b) [] at) ∙ ap (λ a. counted nodes (g (a, (c * nodes + b) % nodes))) (div-mul-add c nodes b inside)
+        ∙ ap (λ a. counted nodes (g (c, a))) (mod-mul-add c nodes b inside) ∙ (right c b inside).1),
   )
-    where
-      make : List Bag → StoreValue
-      make cells = record { chunks = chunks; nodes = nodes; bags = cells }
 
 where_held : (held : Bool) (nodes : ℕ) → IsHeld (counts_where held) × (counted nodes (counts_where held) ≡ held_at_2 (cond held (one_of nodes 0) (empty_bag nodes)))
 where_held true nodes = (held_one 0 (omega arith), counted_one 0 nodes (omega arith) ∙ sym (held_one_of nodes 0))
