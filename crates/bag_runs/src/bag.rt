@@ -64,6 +64,7 @@ impl Bag {
     }
 
     /// None of the first nodes has contributed.
+    #[tactic(auto, using(crate::proofs::Counting::empty_front))]
     pub(crate) fn is_empty(&self, nodes: u8) -> bool
         ensures { result ≡ is_empty (counted nodes self.now) }
     {
@@ -72,6 +73,7 @@ impl Bag {
     }
 
     /// The contributions of both.
+    #[tactic(auto, using(crate::proofs::Counting::counted_sum, crate::proofs::Counting::sum_filled))]
     fn added(&self, other: &Bag) -> Bag
         ensures sum { (nodes : ℕ) → counted nodes result ≡ held_at_2 (added (counted nodes self.now) (counted nodes other.now)) }
         ensures held { IsHeld result }

@@ -88,6 +88,7 @@ impl Store {
 
     /// A bag arrives at a node: it is added to the node's bag of the chunk, or takes its place
     /// unless it is empty.
+    #[tactic(auto, using(crate::proofs::Storing::store_stored, crate::proofs::Storing::filled_set))]
     pub fn receive(&mut self, chunk: u16, node: u8, mode: Mode, arrived: Bag)
         requires chunk { chunk < self.old.chunks }
         requires node { node < self.old.nodes }
@@ -105,6 +106,7 @@ impl Clone for Store {
     // A copy has the same bags.
     ghost is_clone = { λ old new. (new ≡ old) × IsStore old };
 
+    #[tactic(auto, using(std::proofs::lemmas::List::Elements::same_from_all_zip, crate::proofs::Storing::store_stored))]
     fn clone(&self) -> Result<Store, OutOfMemory> {
         let bags = self.bags.clone()?;
         Ok(Store {
