@@ -18,13 +18,9 @@ one_is_not_empty : (nodes : ℕ) → 0 < nodes → is_empty (one_of nodes 0) ≡
 one_is_not_empty zero some = absurd (omega arith)
 one_is_not_empty (suc nodes) some = refl
 
-filled_or_not : (nodes : ℕ) → 0 < nodes → (held : Bool) → not (is_empty (cond held (one_of nodes 0) (empty_bag nodes))) ≡ held
-filled_or_not nodes some true = ap not (one_is_not_empty nodes some)
-filled_or_not nodes some false = ap not (zeros_are_empty 0 nodes)
-
 -- a bag of a placement is not empty exactly where the chunk is held
 filled_where_held : (held : PlacementValue) (pair : ℕ × ℕ) → 0 < held.nodes → not (is_empty (of_placement held pair)) ≡ holds held pair
-filled_where_held held pair some = filled_or_not held.nodes some (holds held pair)
+filled_where_held held pair some = grind (arith, one_is_not_empty, zeros_are_empty)
 
 -- ---- the greatest sender
 

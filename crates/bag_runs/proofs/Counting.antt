@@ -1,9 +1,9 @@
 -- Bags with places for 16 counts, and the counts of so many nodes that they stand for.
-use Rattle.std.proofs.Common.{◌≡◌, ℕ, zero, suc, ◌+◌, ◌<◌, ◌≤◌, Bool, true, ◌&&◌, cond, eqb, min, List, [], ◌∷◌, length, map, get_or, set, replicate, take, refl, sym, ap, ◌∙◌, arith, inl, inr, get_or-set_same, get_or-set_other}
+use Rattle.std.proofs.Common.{◌≡◌, ℕ, zero, suc, ◌+◌, ◌<◌, ◌≤◌, Bool, true, ◌&&◌, cond, eqb, min, List, [], ◌∷◌, length, map, get_or, take, refl, sym, ap, ◌∙◌, arith, inl, inr, get_or-set_same, get_or-set_other}
 use Rattle.std.{specs.List.{list_all, range_with_len}, proofs.lemmas.{Bool.{cases_lt, eq-eqb}, List.{get_or_past, get_or-replicate, take_all}}}
 use Rattle.std.proofs.lemmas.List.FromFn.{get_or-map-range_with_len}
-use Rattle.schedule.specs.Bags.{added, held_at_2, is_empty, one_of}
-use Rattle.bag_runs.{specs.Kept.{IsHeld, counted}, proofs.Cells.{differ, same_or_not}}
+use Rattle.schedule.specs.Bags.{added, empty_bag, held_at_2, is_empty, one_of}
+use Rattle.bag_runs.{specs.Kept.{IsHeld, counted, counts_of, no_counts}, proofs.Cells.{differ, same_or_not}}
 
 -- functions that agree give the same list
 pub map_alike : {X : Type 0} (f g : ℕ → X) → ((k : ℕ) → f k ≡ g k) → (ks : List ℕ) → map f ks ≡ map g ks
@@ -15,29 +15,29 @@ counted_at nodes counts node low = get_or-map-range_with_len (λ k. get_or count
 
 -- ---- no contribution, and one
 
-abbrev pub zeros : List ℕ
-zeros = replicate 16 0
-
-zeros_length : length zeros ≡ 16
+zeros_length : length no_counts ≡ 16
 zeros_length = refl
 
-none_at : (k : ℕ) → get_or zeros k 0 ≡ zero
-none_at k = elim (cases_lt k 16) [ inl low ↦ get_or-replicate 16 k 0 0 low | inr high ↦ get_or_past zeros k 0 (omega (arith, high, zeros_length)) ]
+pub none_at : (k : ℕ) → get_or no_counts k 0 ≡ zero
+none_at k = elim (cases_lt k 16) [ inl low ↦ get_or-replicate 16 k 0 0 low | inr high ↦ get_or_past no_counts k 0 (omega (arith, high, zeros_length)) ]
 
-one_at : (node k : ℕ) → node < 16 → get_or (set zeros node 1) k 0 ≡ cond (eqb k node) 1 0
+one_at : (node k : ℕ) → node < 16 → get_or (counts_of node) k 0 ≡ cond (eqb k node) 1 0
 one_at node k low =
     elim (same_or_not k node) [
-      | inl here ↦ ap (λ i. get_or (set zeros node 1) i 0) here ∙ get_or-set_same zeros node 1 0 (omega (arith, zeros_length)) ∙ sym (ap (λ b. cond b 1 0) (eq-eqb k node here))
-      | inr apart ↦ get_or-set_other zeros node k 1 0 (differ k node apart) ∙ none_at k ∙ sym (ap (λ b. cond b 1 0) apart)
+      | inl here ↦ ap (λ i. get_or (counts_of node) i 0) here ∙ get_or-set_same no_counts node 1 0 (omega (arith, zeros_length)) ∙ sym (ap (λ b. cond b 1 0) (eq-eqb k node here))
+      | inr apart ↦ get_or-set_other no_counts node k 1 0 (differ k node apart) ∙ none_at k ∙ sym (ap (λ b. cond b 1 0) apart)
     ]
 
-pub counted_one : (node nodes : ℕ) → node < 16 → counted nodes (set zeros node 1) ≡ one_of nodes node
-counted_one node nodes low = map_alike (λ k. get_or (set zeros node 1) k 0) (λ k. cond (eqb k node) 1 0) (λ k. one_at node k low) (range_with_len 0 nodes)
+pub counted_none : (nodes : ℕ) → counted nodes no_counts ≡ empty_bag nodes
+counted_none nodes = map_alike (λ k. get_or no_counts k 0) (λ _. 0) none_at (range_with_len 0 nodes)
+
+pub counted_one : (node nodes : ℕ) → node < 16 → counted nodes (counts_of node) ≡ one_of nodes node
+counted_one node nodes low = map_alike (λ k. get_or (counts_of node) k 0) (λ k. cond (eqb k node) 1 0) (λ k. one_at node k low) (range_with_len 0 nodes)
 
 pub few : (b : Bool) → cond b 1 0 ≤ 2
 few b = grind arith
 
-pub held_one : (node : ℕ) → node < 16 → IsHeld (set zeros node 1)
+pub held_one : (node : ℕ) → node < 16 → IsHeld (counts_of node)
 held_one node low k = omega (arith, one_at node k low, few (eqb k node))
 
 -- ---- sums

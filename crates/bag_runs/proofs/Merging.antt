@@ -1,5 +1,6 @@
 -- Takes of one step, one after the other, on bags with counts held at 2: what they add, and what they copy.
-use Rattle.std.proofs.Common.{◌≡◌, ℕ, zero, suc, ◌+◌, ◌≤◌, Bool, ◌&&◌, cond, eqb, min, max, List, [], ◌∷◌, map, refl, sym, ap, ◌∙◌, arith, filter, fold, not}
+use Rattle.std.proofs.lemmas.Bool.Decides.{nat_tests}
+use Rattle.std.proofs.Common.{◌≡◌, ℕ, ◌+◌, ◌≤◌, Bool, ◌&&◌, cond, eqb, min, max, List, [], ◌∷◌, map, refl, sym, ap, ◌∙◌, arith, filter, fold, not}
 use Rattle.std.specs.List.{AllByRecursion, reduce}
 use Rattle.schedule.specs.{declared.hop.Hop.Hop, Bags.{Bag, Bags, added, held_at_2, is_empty}, JoinedRuns.replaced}
 
@@ -14,8 +15,7 @@ held_added (x ∷ a) [] = refl
 held_added (x ∷ a) (y ∷ b) = ap (λ c. c ∷ held_at_2 (added (held_at_2 a) (held_at_2 b))) (min_sum x y) ∙ ap (λ bag. min (x + y) 2 ∷ bag) (held_added a b)
 
 pub min_none : (x : ℕ) → eqb (min x 2) 0 ≡ eqb x 0
-min_none zero = refl
-min_none (suc x) = grind arith
+min_none x = grind (arith, nat_tests)
 
 pub held_empty : (a : Bag) → is_empty (held_at_2 a) ≡ is_empty a
 held_empty [] = refl

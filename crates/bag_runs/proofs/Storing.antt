@@ -1,10 +1,10 @@
 -- Stores as lists of bags, a row of nodes for each chunk.
-use Rattle.std.proofs.Common.{◌≡◌, ℕ, zero, suc, ◌+◌, ◌*◌, ◌<◌, ◌≤◌, cond, eqb, List, [], ◌∷◌, ◌++◌, length, map, get_or, set, refl, sym, ap, ◌∙◌, arith}
-use Rattle.std.{specs.List.{AllByRecursion, flat_map, range_with_len}, proofs.lemmas.{Grind.flat_map-append, List.Elements.All-from_recursion, Nat.mul-add-lt, Simd.map-map}}
-use Rattle.std.proofs.lemmas.List.{append-nil, append_assoc, get_or-map, length-map, length-set, map-append, map-id, map-set, FromFn.map-range_with_len_more}
-use Rattle.schedule.{specs.{Placed.all_pairs, Bags.{Bag, empty_bag, held_at_2, one_of}}, proofs.First.each_append}
-use Rattle.bag_runs.specs.{declared.mode.Mode.Mode, Stores.{StoreValue, bag_in, received, with_bag}, Kept.{IsFilled, IsHeld, IsStore, counted}}
-use Rattle.bag_runs.proofs.{Tables.{same_table, table_length}, Counting.few}
+use Rattle.std.proofs.Common.{◌≡◌, ℕ, ◌+◌, ◌*◌, ◌/◌, ◌%◌, ◌<◌, ◌≤◌, Bool, true, false, cond, eqb, List, [], ◌∷◌, length, map, get_or, set, refl, sym, ap, ◌∙◌, arith}
+use Rattle.std.{specs.List.range_with_len, proofs.lemmas.{List.Elements.{All-from_recursion, All-set, recursion_from_All}, Nat.{div-mul-add, mod-mul-add, mul-add-lt}}}
+use Rattle.std.proofs.lemmas.List.{get_or-map, length-map, length-set, map-set, FromFn.{get_or-map-range_with_len, length-map-range_with_len}}
+use Rattle.schedule.specs.{Placed.{PlacementValue, holds}, Bags.{Bag, contributions, empty_bag, held_at_2, of_placement, one_of}}
+use Rattle.bag_runs.specs.{declared.mode.Mode.Mode, Stores.{StoreValue, bag_in, bags_in, received, stored, with_bag}, Kept.{IsFilled, IsHeld, IsStore, counted, counts_of, counts_where}}
+use Rattle.bag_runs.proofs.{Tables.{column_below, same_table}, Counting.{counted_none, counted_one, few, held_one, none_at}}
 
 -- ---- what is held at 2 stays as it is
 
@@ -26,60 +26,61 @@ held_empty_bag nodes = held_small (λ _. 0) (λ _. omega arith) (range_with_len 
 abbrev pub value : ℕ → ℕ → List (List ℕ) → StoreValue
 value chunks nodes bags = record { chunks = chunks; nodes = nodes; bags = map (counted nodes) bags }
 
-module _ (chunks nodes : ℕ) (bags : List (List ℕ)) (filled : IsFilled chunks nodes bags) where
-  held_cell : (k : ℕ) → k < length bags → held_at_2 (get_or (map (counted nodes) bags) k []) ≡ get_or (map (counted nodes) bags) k []
-  held_cell k inside =
-      let at : get_or (map (counted nodes) bags) k [] ≡ counted nodes (get_or bags k []) = get_or-map (counted nodes) bags k [] [] inside in
-      ap held_at_2 at ∙ held_counted nodes (get_or bags k []) (All-from_recursion IsHeld bags filled.held k [] inside) ∙ sym at
+-- bags with the right cells are a store
+by_cells : (chunks nodes : ℕ) (f : ℕ × ℕ → Bag) (bags : List (List ℕ)) → length bags ≡ chunks * nodes
+    → ((c b : ℕ) → b < nodes → c * nodes + b < length bags → counted nodes (get_or bags (c * nodes + b) []) ≡ held_at_2 (f (c, b))) → value chunks nodes bags ≡ stored chunks nodes f
+by_cells chunks nodes f bags size right =
+    ap (λ (cells : List Bag). make cells) (same_table (λ pair. held_at_2 (f pair)) nodes chunks (map (counted nodes) bags) [] (length-map bags (counted nodes) ∙ size)
+    (λ c b low inside.
+    let at : c * nodes + b < length bags = omega (arith, size, mul-add-lt c nodes b chunks low inside) in
+    get_or-map (counted nodes) bags (c * nodes + b) [] [] at ∙ right c b inside at))
+  where
+    make : List Bag → StoreValue
+    make cells = record { chunks = chunks; nodes = nodes; bags = cells }
 
-  pub store_stored : IsStore (value chunks nodes bags)
-  store_stored =
-      ap (λ (cells : List Bag). make cells)
-      (same_table (λ pair. held_at_2 (bag_in (value chunks nodes bags) pair.0 pair.1)) nodes chunks (map (counted nodes) bags) [] (length-map bags (counted nodes) ∙ filled.size)
-      (λ c b low inside. sym (held_cell (c * nodes + b) (omega (arith, filled.size, mul-add-lt c nodes b chunks low inside)))))
-    where
-      make : List Bag → StoreValue
-      make cells = record { chunks = chunks; nodes = nodes; bags = cells }
+pub store_stored : (chunks nodes : ℕ) (bags : List (List ℕ)) → IsFilled chunks nodes bags → IsStore (value chunks nodes bags)
+store_stored chunks nodes bags filled = by_cells chunks nodes (bags_in (value chunks nodes bags)) bags filled.size (λ c b inside at.
+    sym (ap held_at_2 (get_or-map (counted nodes) bags (c * nodes + b) [] [] at) ∙ held_counted nodes (get_or bags (c * nodes + b) []) (All-from_recursion IsHeld bags filled.held (c * nodes + b) [] at)))
 
--- ---- rows
+-- ---- the bags of all places, by chunk and then by node
 
-pairs_more : (chunk nodes : ℕ) → all_pairs (chunk + 1) nodes ≡ all_pairs chunk nodes ++ map (λ node. (chunk, node)) (range_with_len 0 nodes)
-pairs_more chunk nodes =
-    let row : ℕ → List (ℕ × ℕ) = λ c. map (λ node. (c, node)) (range_with_len 0 nodes) in
-    let range : range_with_len 0 (chunk + 1) ≡ range_with_len 0 chunk ++ chunk ∷ [] =
-    sym (map-id (range_with_len 0 (chunk + 1))) ∙ map-range_with_len_more (λ k. k) 0 chunk chunk (omega arith) ∙ ap (λ r. r ++ chunk ∷ []) (map-id (range_with_len 0 chunk)) in
-    ap (flat_map row) range ∙ flat_map-append row (range_with_len 0 chunk) (chunk ∷ []) ∙ ap (λ r. all_pairs chunk nodes ++ r) (append-nil (row chunk))
+module _ (chunks nodes : ℕ) (f : ℕ × ℕ → Bag) (g : ℕ × ℕ → List ℕ) (bags : List (List ℕ)) (is : bags ≡ map (λ place. g (place / nodes, place % nodes)) (range_with_len 0 (chunks * nodes)))
+    (right : (c b : ℕ) → b < nodes → IsHeld (g (c, b)) × (counted nodes (g (c, b)) ≡ held_at_2 (f (c, b)))) where
+  places : length bags ≡ chunks * nodes
+  places = ap length is ∙ length-map-range_with_len (λ place. g (place / nodes, place % nodes)) 0 (chunks * nodes)
 
--- the bags so far are those of the first so many chunks
-pub row_pushed : (f : ℕ × ℕ → Bag) (nodes chunk : ℕ) (old new : List Bag) → old ≡ map f (all_pairs chunk nodes) → new ≡ old ++ map (λ node. f (chunk, node)) (range_with_len 0 nodes) → new ≡ map f (all_pairs (chunk + 1) nodes)
-row_pushed f nodes chunk old new so_far more =
-    more ∙ ap (λ bs. bs ++ map (λ node. f (chunk, node)) (range_with_len 0 nodes)) so_far
-    ∙ ap (λ bs. map f (all_pairs chunk nodes) ++ bs) (sym (map-map f (λ node. (chunk, node)) (range_with_len 0 nodes)))
-    ∙ sym (map-append f (all_pairs chunk nodes) (map (λ node. (chunk, node)) (range_with_len 0 nodes)))
-    ∙ ap (map f) (sym (pairs_more chunk nodes))
+  place_at : (k : ℕ) (d : List ℕ) → k < length bags → get_or bags k d ≡ g (k / nodes, k % nodes)
+  place_at k d inside = ap (λ xs. get_or xs k d) is ∙ get_or-map-range_with_len (λ place. g (place / nodes, place % nodes)) 0 (chunks * nodes) k k d (omega (arith, inside, places)) (omega arith)
 
--- one bag more of a row
-pub bag_pushed : (f : ℕ → Bag) (nodes node : ℕ) (old now new : List (List ℕ)) (counts : List ℕ) → map (counted nodes) now ≡ map (counted nodes) old ++ map f (range_with_len 0 node)
-    → new ≡ now ++ counts ∷ [] → counted nodes counts ≡ f node → map (counted nodes) new ≡ map (counted nodes) old ++ map f (range_with_len 0 (node + 1))
-bag_pushed f nodes node old now new counts so_far more is = grind (arith, map-append, append_assoc, map-range_with_len_more)
+  pub all_places : IsFilled chunks nodes bags × (value chunks nodes bags ≡ stored chunks nodes f)
+  all_places = (
+    record { size = places; held = recursion_from_All IsHeld bags (λ k d inside. rw (place_at k d inside) (right (k / nodes) (k % nodes) (column_below k chunks nodes (omega (arith, inside, places)))).0) },
+    by_cells chunks nodes f bags places (λ c b inside at.
+        ap (counted nodes) (place_at (c * nodes + b) [] at) ∙ ap (λ a. counted nodes (g (a, (c * nodes + b) % nodes))) (div-mul-add c nodes b inside)
+        ∙ ap (λ a. counted nodes (g (c, a))) (mod-mul-add c nodes b inside) ∙ (right c b inside).1),
+  )
 
-pub held_pushed : (now new : List (List ℕ)) (counts : List ℕ) → AllByRecursion IsHeld now → new ≡ now ++ counts ∷ [] → IsHeld counts → AllByRecursion IsHeld new
-held_pushed now new counts so_far more held = rw more (each_append IsHeld now (counts ∷ []) so_far (held, tt))
+where_held : (held : Bool) (nodes : ℕ) → IsHeld (counts_where held) × (counted nodes (counts_where held) ≡ held_at_2 (cond held (one_of nodes 0) (empty_bag nodes)))
+where_held true nodes = (held_one 0 (omega arith), counted_one 0 nodes (omega arith) ∙ sym (held_one_of nodes 0))
+where_held false nodes = (λ k. omega (arith, none_at k), counted_none nodes ∙ sym (held_empty_bag nodes))
 
--- where all bags are there
-pub filled_all : (f : ℕ × ℕ → Bag) (chunks nodes : ℕ) (bags : List (List ℕ)) → map (counted nodes) bags ≡ map f (all_pairs chunks nodes) → AllByRecursion IsHeld bags → IsFilled chunks nodes bags
-filled_all f chunks nodes bags all held = record { size = sym (length-map bags (counted nodes)) ∙ ap length all ∙ table_length f nodes chunks; held = held }
+-- of what is held
+pub filled_of_placement : (p : PlacementValue) (bags : List (List ℕ)) → bags ≡ map (λ place. counts_where (holds p (place / p.nodes, place % p.nodes))) (range_with_len 0 (p.chunks * p.nodes))
+    → IsFilled p.chunks p.nodes bags × (value p.chunks p.nodes bags ≡ stored p.chunks p.nodes (of_placement p))
+filled_of_placement p bags is = all_places p.chunks p.nodes (of_placement p) (λ pair. counts_where (holds p pair)) bags is (λ c b low. where_held (holds p (c, b)) p.nodes)
+
+-- of one contribution of each node
+pub filled_of_contributions : (chunks nodes : ℕ) (bags : List (List ℕ)) → nodes ≤ 16 → bags ≡ map (λ place. counts_of (place % nodes)) (range_with_len 0 (chunks * nodes))
+    → IsFilled chunks nodes bags × (value chunks nodes bags ≡ stored chunks nodes (contributions nodes))
+filled_of_contributions chunks nodes bags few is =
+    all_places chunks nodes (contributions nodes) (λ pair. counts_of pair.1) bags is
+    (λ c b low. (held_one b (omega (arith, low, few)), counted_one b nodes (omega (arith, low, few)) ∙ sym (held_one_of nodes b)))
 
 -- ---- one bag changed
 
-pub held_set : (bags : List (List ℕ)) (place : ℕ) (counts : List ℕ) → AllByRecursion IsHeld bags → IsHeld counts → AllByRecursion IsHeld (set bags place counts)
-held_set [] place counts all held = tt
-held_set (b ∷ bags) zero counts all held = (held, all.1)
-held_set (b ∷ bags) (suc place) counts all held = (all.0, held_set bags place counts all.1 held)
-
 module _ (chunks nodes : ℕ) (bags : List (List ℕ)) (chunk node : ℕ) (new : List ℕ) where
   pub filled_set : IsFilled chunks nodes bags → IsHeld new → IsFilled chunks nodes (set bags (chunk * nodes + node) new)
-  filled_set filled held = record { size = length-set bags (chunk * nodes + node) new ∙ filled.size; held = held_set bags (chunk * nodes + node) new filled.held held }
+  filled_set filled held = record { size = length-set bags (chunk * nodes + node) new ∙ filled.size; held = recursion_from_All IsHeld (set bags (chunk * nodes + node) new) (All-set IsHeld bags (chunk * nodes + node) new held (All-from_recursion IsHeld bags filled.held)) }
 
   -- what has arrived at a node
   pub received_here : (mode : Mode) (own arrived : List ℕ) → IsFilled chunks nodes bags → chunk < chunks → node < nodes → own ≡ get_or bags (chunk * nodes + node) own

@@ -1,6 +1,6 @@
 ghost use Rattle.std.specs.Prelude.{◌≡◌, ℕ, ◌+◌, ◌≤◌, ◌<◌, min, slice_index};
-ghost use Rattle.schedule.specs.Bags.{added, empty_bag, held_at_2, is_empty, one_of};
-ghost use Rattle.bag_runs.specs.{Stores.received, Kept.{IsHeld, counted}};
+ghost use Rattle.schedule.specs.Bags.{added, held_at_2, is_empty};
+ghost use Rattle.bag_runs.specs.{Stores.received, Kept.{IsHeld, counted, counts_of, no_counts}};
 
 use crate::mode::Mode;
 use std::marker::Model;
@@ -27,8 +27,7 @@ impl Model for Bag {
 impl Bag {
     /// No node has contributed.
     pub(crate) fn empty() -> Bag
-        ensures none { (nodes : ℕ) → counted nodes result ≡ empty_bag nodes }
-        ensures held { IsHeld result }
+        ensures { result ≡ no_counts }
     {
         Bag { counts: [0; 16] }
     }
@@ -36,8 +35,7 @@ impl Bag {
     /// One contribution of a node.
     pub(crate) fn one_of(node: u8) -> Bag
         requires { node < 16 }
-        ensures one { (nodes : ℕ) → counted nodes result ≡ one_of nodes node }
-        ensures held { IsHeld result }
+        ensures { result ≡ counts_of node }
     {
         let mut counts = [0; 16];
         counts[node as usize] = 1;
@@ -66,6 +64,7 @@ impl Bag {
     }
 
     /// None of the first nodes has contributed.
+    #[tactic(auto, using(crate::proofs::Counting::empty_front))]
     pub(crate) fn is_empty(&self, nodes: u8) -> bool
         ensures { result ≡ is_empty (counted nodes self.now) }
     {
@@ -74,6 +73,7 @@ impl Bag {
     }
 
     /// The contributions of both.
+    #[tactic(auto, using(crate::proofs::Counting::counted_sum, crate::proofs::Counting::sum_filled))]
     fn added(&self, other: &Bag) -> Bag
         ensures sum { (nodes : ℕ) → counted nodes result ≡ held_at_2 (added (counted nodes self.now) (counted nodes other.now)) }
         ensures held { IsHeld result }

@@ -13,6 +13,7 @@ use std::alloc::Global;
 /// The stores after step 0, which is `start`, to the last step. The first `adding` steps add what
 /// arrives; a later one copies the bag of the greatest sender whose bag is not empty. The only
 /// error is `OutOfMemory`.
+#[tactic(auto, using(crate::proofs::Stepping::come_none, crate::proofs::Stepping::range_kept))]
 pub fn replay_steps(
     alloc: Global,
     start: &Store,
@@ -39,6 +40,7 @@ pub fn replay_steps(
 /// The store after the last step, of that before the first. The first `adding` steps add what
 /// arrives; a later one copies the bag of the greatest sender whose bag is not empty. The only
 /// error is `OutOfMemory`.
+#[tactic(auto, using(crate::proofs::Stepping::after_none, crate::proofs::Stepping::range_kept, crate::proofs::Stepping::after_more))]
 pub fn last_store(start: Store, schedule: &Schedule, adding: u8) -> Result<Store, OutOfMemory>
     requires { IsInRange start.chunks start.nodes schedule.now }
     // It holds the last bags of the joined run from any bags that the start holds.
@@ -53,6 +55,7 @@ pub fn last_store(start: Store, schedule: &Schedule, adding: u8) -> Result<Store
 }
 
 /// The store after a step, of the store before it.
+#[tactic(auto, using(crate::proofs::Arriving::chunks_arrived, crate::proofs::Arriving::nodes_arrived))]
 fn stepped(before: &Store, schedule: &Schedule, adding: u8, step: u8) -> Result<Store, OutOfMemory>
     requires { IsInRange before.now.chunks before.now.nodes schedule.now }
     ensures bags { IfOk result (λ after. (bags : Bags) → before.now ≡ stored before.now.chunks before.now.nodes bags

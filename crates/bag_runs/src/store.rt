@@ -1,6 +1,6 @@
-ghost use Rattle.std.specs.{Prelude.{◌≡◌, ℕ, ◌<◌, ◌≤◌, ◌++◌, if◌then◌else◌, map, IfOk, OnOk}, List.{range_with_len, AllByRecursion}};
-ghost use Rattle.schedule.specs.Bags.{contributions, empty_bag, held_at_2, of_placement, one_of};
-ghost use Rattle.bag_runs.specs.{Stores.{StoreValue, bag_in, received, stored, with_bag}, Kept.{IsHeld, IsStore, counted}};
+ghost use Rattle.std.specs.{Prelude.{◌≡◌, ◌*◌, ◌/◌, ◌%◌, ◌<◌, ◌≤◌, map, IfOk}, List.range_with_len};
+ghost use Rattle.schedule.specs.{Placed.holds, Bags.{contributions, of_placement}};
+ghost use Rattle.bag_runs.specs.{Stores.{StoreValue, bag_in, received, stored, with_bag}, Kept.{IsStore, counted, counts_of, counts_where}};
 
 use crate::OutOfMemory;
 use crate::bag::Bag;
@@ -31,31 +31,25 @@ impl Model for Store {
 impl Store {
     /// A chunk that a node holds is one contribution of node 0, and one that it lacks is the empty
     /// bag. The only error is `OutOfMemory`.
+    #[tactic(auto, using(crate::proofs::Storing::filled_of_placement))]
     pub fn of_placement(alloc: Global, placement: &Placement) -> Result<Store, OutOfMemory>
         ensures { IfOk result (λ s. s ≡ stored placement.now.chunks placement.now.nodes (of_placement placement.now)) }
     {
-        let chunks = placement.chunks();
-        let nodes = placement.nodes();
-        let mut bags = Vec::with_capacity(alloc, chunks as usize * nodes as usize)?;
-        for chunk in 0..chunks {
-            push_holders(&mut bags, placement, chunk)?;
-        }
+        let bags = held_bags(alloc, placement)?;
         Ok(Store {
-            chunks,
-            nodes,
+            chunks: placement.chunks(),
+            nodes: placement.nodes(),
             bags,
         })
     }
 
     /// Each node has contributed once to each of its chunks. The only error is `OutOfMemory`.
+    #[tactic(auto, using(crate::proofs::Storing::filled_of_contributions))]
     pub fn of_contributions(alloc: Global, chunks: u16, nodes: u8) -> Result<Store, OutOfMemory>
         requires { nodes ≤ 16 }
         ensures { IfOk result (λ s. s ≡ stored chunks nodes (contributions nodes)) }
     {
-        let mut bags = Vec::with_capacity(alloc, chunks as usize * nodes as usize)?;
-        for _chunk in 0..chunks {
-            push_contributions(&mut bags, nodes)?;
-        }
+        let bags = own_bags(alloc, chunks as usize * nodes as usize, nodes as usize)?;
         Ok(Store {
             chunks,
             nodes,
@@ -94,6 +88,7 @@ impl Store {
 
     /// A bag arrives at a node: it is added to the node's bag of the chunk, or takes its place
     /// unless it is empty.
+    #[tactic(auto, using(crate::proofs::Storing::store_stored, crate::proofs::Storing::filled_set))]
     pub fn receive(&mut self, chunk: u16, node: u8, mode: Mode, arrived: Bag)
         requires chunk { chunk < self.old.chunks }
         requires node { node < self.old.nodes }
@@ -111,6 +106,7 @@ impl Clone for Store {
     // A copy has the same bags.
     ghost is_clone = { λ old new. (new ≡ old) × IsStore old };
 
+    #[tactic(auto, using(std::proofs::lemmas::List::Elements::same_from_all_zip, crate::proofs::Storing::store_stored))]
     fn clone(&self) -> Result<Store, OutOfMemory> {
         let bags = self.bags.clone()?;
         Ok(Store {
@@ -121,36 +117,39 @@ impl Clone for Store {
     }
 }
 
-/// A chunk's bags of which nodes hold it.
-fn push_holders(bags: &mut Vec<Bag>, placement: &Placement, chunk: u16) -> Result<(), OutOfMemory>
-    requires { chunk < placement.now.chunks }
-    ensures bags { OnOk result (map (counted placement.now.nodes) bags.new.items ≡ map (counted placement.now.nodes) bags.old.items
-        ++ map (λ node. held_at_2 (of_placement placement.now (chunk, node))) (range_with_len 0 placement.now.nodes)) }
-    ensures held { OnOk result (AllByRecursion IsHeld bags.old.items → AllByRecursion IsHeld bags.new.items) }
+/// The bags of what is held, by chunk and then by node.
+fn held_bags(alloc: Global, placement: &Placement) -> Result<Vec<Bag>, OutOfMemory>
+    ensures { IfOk result (λ bags. bags.items ≡ map (λ place. counts_where (holds placement.now (place / placement.now.nodes, place % placement.now.nodes)))
+        (range_with_len 0 (placement.now.chunks * placement.now.nodes))) }
 {
-    for node in 0..placement.nodes() {
-        bags.push(bag_where(placement.holds(chunk, node)))?;
-    }
-    Ok(())
+    (0..placement.chunks() as usize * placement.nodes() as usize)
+        .map(|place| held_bag(placement, place))
+        .collect(alloc)
 }
 
-/// A chunk's bags of which each has a contribution of its node.
-fn push_contributions(bags: &mut Vec<Bag>, nodes: u8) -> Result<(), OutOfMemory>
-    requires { nodes ≤ 16 }
-    ensures bags { OnOk result (map (counted nodes) bags.new.items ≡ map (counted nodes) bags.old.items
-        ++ map (λ node. held_at_2 (one_of nodes node)) (range_with_len 0 nodes)) }
-    ensures held { OnOk result (AllByRecursion IsHeld bags.old.items → AllByRecursion IsHeld bags.new.items) }
+/// The bag of a place: one contribution of node 0 where the chunk is held, and else none.
+#[tactic(auto, using(crate::proofs::Tables::row_below))]
+fn held_bag(placement: &Placement, place: usize) -> Bag
+    requires { place < placement.now.chunks * placement.now.nodes }
+    ensures { result ≡ counts_where (holds placement.now (place / placement.now.nodes, place % placement.now.nodes)) }
 {
-    for node in 0..nodes {
-        bags.push(Bag::one_of(node))?;
+    // A chunk has a number of 16 bits.
+    let _chunks = placement.chunks();
+    let nodes = placement.nodes() as usize;
+    if placement.holds((place / nodes) as u16, (place % nodes) as u8) {
+        Bag::one_of(0)
+    } else {
+        Bag::empty()
     }
-    Ok(())
 }
 
-/// The bag of a chunk that a node holds, or lacks.
-fn bag_where(held: bool) -> Bag
-    ensures bag { (nodes : ℕ) → counted nodes result ≡ held_at_2 (if held then one_of nodes 0 else empty_bag nodes) }
-    ensures held { IsHeld result }
+/// The first bags in which each node has contributed once, by chunk and then by node.
+fn own_bags(alloc: Global, count: usize, nodes: usize) -> Result<Vec<Bag>, OutOfMemory>
+    requires some { 0 < count → 0 < nodes }
+    requires few { nodes ≤ 16 }
+    ensures { IfOk result (λ bags. bags.items ≡ map (λ place. counts_of (place % nodes)) (range_with_len 0 count)) }
 {
-    if held { Bag::one_of(0) } else { Bag::empty() }
+    (0..count)
+        .map(|place| Bag::one_of((place % nodes) as u8))
+        .collect(alloc)
 }

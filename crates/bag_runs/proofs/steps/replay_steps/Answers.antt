@@ -1,12 +1,6 @@
 use Rattle.std.proofs.Common.{◌≡◌, ap, length, arith}
-use Rattle.bag_runs.proofs.Stepping.{come_more, come_none, range_kept, run_whole}
+use Rattle.bag_runs.proofs.Stepping.{come_more, run_whole}
 use Rattle.bag_runs.proofs.steps.replay_steps.Goals as goal
-
-pub loop-step-init : goal.loop-step-init
-loop-step-init c = rw c.in_ok-run.ensures.items (come_none c.args.start.now c.args.schedule.now c.args.adding c.in_ok-held.held c.in_ok-held.ensures.cases.0)
-
-pub stepped-requires : goal.stepped-requires
-stepped-requires c = range_kept c.args.start.now c.args.schedule.now c.args.adding c.loop-step.held c.loop-step.held c.loop-step.step c.loop-step.invariant.after c.requires
 
 pub loop-step-preserved : goal.loop-step-preserved
 loop-step-preserved c =

@@ -1,9 +1,5 @@
-use Rattle.std.proofs.Common.{arith}
-use Rattle.bag_runs.proofs.Storing.{filled_all, row_pushed}
+use Rattle.bag_runs.proofs.Storing.{filled_of_placement}
 use Rattle.bag_runs.proofs.store.Store.of_placement.Goals as goal
 
-pub loop-chunk-preserved : goal.loop-chunk-preserved
-loop-chunk-preserved c = grind (arith, row_pushed)
-
 pub invariant_of-result : goal.invariant_of-result
-invariant_of-result c = grind (arith, filled_all)
+invariant_of-result c = rw (c.chunks.ensures.chunks, c.nodes.ensures.nodes) (filled_of_placement c.args.placement.now c.in_ok-bags.bags.items c.in_ok-bags.ensures).0
