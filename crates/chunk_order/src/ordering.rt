@@ -1,11 +1,11 @@
 //! The clauses that put chunks that are alike in order.
 
-ghost use Rattle.std.specs.Prelude.{◌≡◌, ◌<◌, ◌≤◌, ◌+◌, ◌∷◌, ◌↔◌, [], ℕ, Some, All, IfOk, OnOk};
-ghost use Rattle.schedule.specs.{Links.TopologyValue, Sends.IsStep, Solving.Solvable};
-ghost use Rattle.cnf_formula.specs.{Literals.negation, Formulas.{Satisfiable, with_clauses}};
-ghost use Rattle.send_encoding.specs.Variables.{arrival, arrivals, sends};
+ghost use Rattle.std.specs.Prelude.{◌≡◌, ◌<◌, ◌≤◌, ◌+◌, ◌↔◌, ℕ, Some, All, IfOk, OnOk};
+ghost use Rattle.schedule.specs.{Links.TopologyValue, Solving.Solvable};
+ghost use Rattle.cnf_formula.specs.Formulas.{Satisfiable, with_clauses};
+ghost use Rattle.send_encoding.specs.Variables.{arrivals, sends};
 ghost use Rattle.round_encoding.specs.Candidates.{IsEncodingOf};
-ghost use Rattle.chunk_order.specs.{Ordering.{class_in_order, leads_in_order, order_clauses, ordered_formula_of, pair_in_order}, Solutions.IsEncodingFor};
+ghost use Rattle.chunk_order.specs.{Ordering.{class_in_order, leads_in_order, order_clauses, ordered_formula_of}, Solutions.IsEncodingFor};
 
 use crate::OutOfMemory;
 use crate::alike::{class_of, is_least, watch_node};
@@ -15,49 +15,8 @@ use round_encoding::Encoding;
 use send_encoding::SendMap;
 use std::alloc::Global;
 
-/// After a step, the first chunk is at the node where the second is.
-fn follows_at(
-    formula: &mut Formula,
-    map: &SendMap,
-    node: u8,
-    first: u16,
-    second: u16,
-    step: u8,
-) -> Result<(), OutOfMemory>
-    requires vars { arrivals map.now + sends map.now ≤ formula.old.vars }
-    requires first { first < map.now.chunks }
-    requires second { second < map.now.chunks }
-    requires node { node < map.now.nodes }
-    requires step { IsStep map.now.steps step }
-    ensures { OnOk result (formula.new ≡ with_clauses formula.old ((negation (arrival map.now second node step) ∷ arrival map.now first node step ∷ []) ∷ [])) }
-{
-    let later = map.arrival(second, node, step);
-    formula.add(&[later.negated(), map.arrival(first, node, step)])
-}
-
-/// The same after each step.
+/// After each step, the first chunk of each next pair of a class is at the node where the second is.
 #[tactic(auto, using(cnf_formula::proofs::Growing::grows_by_one))]
-fn pair_in_order(
-    formula: &mut Formula,
-    map: &SendMap,
-    node: u8,
-    first: u16,
-    second: u16,
-) -> Result<(), OutOfMemory>
-    requires vars { arrivals map.now + sends map.now ≤ formula.old.vars }
-    requires first { first < map.now.chunks }
-    requires second { second < map.now.chunks }
-    requires node { node < map.now.nodes }
-    ensures { OnOk result (formula.new ≡ with_clauses formula.old (pair_in_order map.now node (first, second))) }
-{
-    for index in 0..map.steps() {
-        follows_at(formula, map, node, first, second, index + 1)?;
-    }
-    Ok(())
-}
-
-/// The same for each next pair of a class.
-#[tactic(auto, using(cnf_formula::proofs::Growing::grows_more))]
 fn class_in_order(
     formula: &mut Formula,
     map: &SendMap,
@@ -70,7 +29,13 @@ fn class_in_order(
     ensures { OnOk result (formula.new ≡ with_clauses formula.old (class_in_order map.now (Some node) class.now)) }
 {
     for index in 1..class.len() {
-        pair_in_order(formula, map, node, class[index - 1], class[index])?;
+        for step in 0..map.steps() {
+            let later = map.arrival(class[index], node, step + 1);
+            formula.add(&[
+                later.negated(),
+                map.arrival(class[index - 1], node, step + 1),
+            ])?;
+        }
     }
     Ok(())
 }

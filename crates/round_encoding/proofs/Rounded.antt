@@ -1,10 +1,10 @@
 -- The counter of extra rounds, in the order in which it is made.
-use Rattle.std.proofs.{Common.{◌≡◌, ℕ, ◌+◌, ◌*◌, ◌<◌, ◌≤◌, List, [], ◌∷◌, length, map, arith}, lemmas.List.FromFn.length-map-range_with_len}
+use Rattle.std.proofs.{Common.{◌≡◌, ℕ, ◌+◌, ◌*◌, ◌<◌, ◌≤◌, List, length, map, arith}, lemmas.List.FromFn.length-map-range_with_len}
 use Rattle.std.specs.List.{range_with_len}
-use Rattle.cnf_formula.specs.{Literals.{LitValue, negation}, Formulas.{FormulaValue, IsClause, with_clauses}}
-use Rattle.cardinality.{specs.{Counting.with_counter, Totalizers.totalizer_of}, proofs.Wider.clause_more}
+use Rattle.cnf_formula.specs.{Literals.LitValue, Formulas.IsClause}
+use Rattle.cardinality.proofs.Wider.{clause_more}
 use Rattle.send_encoding.proofs.Grid.{rows_length}
-use Rattle.round_encoding.specs.{Frames.{Frame, extra_round, own_variables}, Rounding.{count_of_rounds, output_at, with_count}}
+use Rattle.round_encoding.specs.{Frames.{Frame, extra_round, own_variables}, Rounding.count_of_rounds}
 use Rattle.round_encoding.proofs.Counted.{rounds_counted}
 
 module _ (f : Frame) where
@@ -20,7 +20,3 @@ module _ (f : Frame) where
 
   pub extra_inputs_about : (v : ℕ) → own_variables f ≤ v → 0 < f.map.steps → 0 < f.extra → IsClause v (count_of_rounds f).inputs
   extra_inputs_about v le steps extra = clause_more (own_variables f) v (count_of_rounds f).inputs le (rounds_counted f steps extra).about
-
-  pub rounds_grow : (f0 f1 f2 : FormulaValue) (ys outs : List LitValue) (bound : ℕ) → ys ≡ (count_of_rounds f).inputs → bound ≡ f.extra → f1 ≡ with_counter f0 (totalizer_of f0.vars ys bound) → outs ≡ (totalizer_of f0.vars ys bound).outputs
-      → f2 ≡ with_clauses f1 ((negation (output_at outs (f.extra + 1)) ∷ []) ∷ []) → f2 ≡ with_count f0 (count_of_rounds f)
-  rounds_grow f0 f1 f2 ys outs bound ey eb e1 eo e2 = grind arith

@@ -1,7 +1,6 @@
 //! The counters of all groups at all steps, and all that is said of rounds.
 
 ghost use Rattle.std.specs.{Prelude.{◌≡◌, ◌+◌, ◌*◌, ◌<◌, ◌≤◌, ◌++◌, map, sum_by, OnOk}, List.flat_map};
-ghost use Rattle.schedule.specs.Sends.{IsStep};
 ghost use Rattle.send_encoding.specs.Variables.{arrivals, sends, steps_of};
 ghost use Rattle.round_encoding.specs.{Frames.own_variables, Rounding.{count_of_group, counts_in, extra_in_order}, inner.Counts.{with_counts, room, HasLinks}};
 
@@ -12,31 +11,6 @@ use cnf_formula::Formula;
 use schedule::Topology;
 use send_encoding::{SendMap, add_variables};
 use std::alloc::Global;
-
-/// Holds each group to its width at a step.
-fn count_groups(
-    alloc: Global,
-    formula: &mut Formula,
-    topology: &Topology,
-    variables: &SendMap,
-    extra: u8,
-    step: u8,
-) -> Result<(), OutOfMemory>
-    requires vars { own_variables (record { map = variables.now; extra = extra }) ≤ formula.old.vars }
-    requires small { formula.old.vars + sum_by (room (record { map = variables.now; extra = extra })) topology.now.groups < 2147483648 }
-    requires chunks { 0 < variables.now.chunks }
-    requires step { IsStep variables.now.steps step }
-    requires links { HasLinks variables.now topology.now }
-    requires few { extra ≤ 8 }
-    ensures formula { OnOk result (formula.new ≡ with_counts formula.old (map (count_of_group (record { map = variables.now; extra = extra }) step) topology.now.groups)) }
-    ensures few { OnOk result (formula.new.vars ≤ formula.old.vars + sum_by (room (record { map = variables.now; extra = extra })) topology.now.groups) }
-    ensures more { OnOk result (formula.old.vars ≤ formula.new.vars) }
-{
-    for group in topology.groups() {
-        count_group(alloc, formula, variables, extra, group, step)?;
-    }
-    Ok(())
-}
 
 /// Holds each group to its width at each step.
 fn count_all_groups(
@@ -54,7 +28,9 @@ fn count_all_groups(
     ensures { OnOk result (formula.new ≡ with_counts formula.old (flat_map (λ s. map (count_of_group (record { map = variables.now; extra = extra }) s) topology.now.groups) (steps_of variables.now))) }
 {
     for index in 0..variables.steps() {
-        count_groups(alloc, formula, topology, variables, extra, index + 1)?;
+        for group in topology.groups() {
+            count_group(alloc, formula, variables, extra, group, index + 1)?;
+        }
     }
     Ok(())
 }

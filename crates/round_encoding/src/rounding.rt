@@ -1,8 +1,8 @@
 //! Extra rounds: in their order, and together no more than there are.
 
-ghost use Rattle.std.specs.Prelude.{◌≡◌, ◌+◌, ◌*◌, ◌<◌, ◌≤◌, ◌∷◌, [], if◌then◌else◌, length, map, nat_lt, OnOk, IfOk};
-ghost use Rattle.cnf_formula.specs.{Literals.negation, Formulas.{IsClause, with_clauses}};
-ghost use Rattle.round_encoding.specs.{Frames.{extra_round, own_variables}, Rounding.{extra_in_order, count_of_rounds, output_at, with_count}};
+ghost use Rattle.std.specs.Prelude.{◌≡◌, ◌+◌, ◌*◌, ◌<◌, ◌≤◌, ◌∷◌, [], if◌then◌else◌, nat_lt, OnOk, IfOk};
+ghost use Rattle.cnf_formula.specs.Formulas.{with_clauses};
+ghost use Rattle.round_encoding.specs.{Frames.own_variables, Rounding.{extra_in_order, count_of_rounds, with_count}};
 ghost use Rattle.round_encoding.specs.inner.Counts.{with_counts};
 
 use crate::OutOfMemory;
@@ -52,15 +52,6 @@ fn all_extra(alloc: Global, variables: &SendMap, extra: u8) -> Result<Vec<Lit>, 
     Ok(inputs)
 }
 
-/// The last of so many outputs and one more is false.
-fn push_limit(formula: &mut Formula, outputs: &[Lit], extra: u8) -> Result<(), OutOfMemory>
-    requires outputs { IsClause formula.old.vars outputs.now }
-    requires many { length outputs.now ≡ extra + 1 }
-    ensures { OnOk result (formula.new ≡ with_clauses formula.old ((negation (output_at outputs.now (extra + 1)) ∷ []) ∷ [])) }
-{
-    formula.add(&[outputs[extra as usize].negated()])
-}
-
 /// Counts the extra rounds, and holds them to as many as there are.
 fn count_extra(
     alloc: Global,
@@ -78,7 +69,7 @@ fn count_extra(
 {
     let inputs = all_extra(alloc, variables, extra)?;
     let outputs = count_up_to(alloc, formula, &inputs, u32::from(extra))?;
-    push_limit(formula, &outputs, extra)
+    formula.add(&[outputs[extra as usize].negated()])
 }
 
 /// Where there are extra rounds, the steps have no more of them together.

@@ -1,10 +1,10 @@
 //! The clauses that tie sends and arrivals.
 
-ghost use Rattle.std.specs.Prelude.{◌≡◌, ◌+◌, ◌<◌, ◌≤◌, ◌++◌, length, OnOk};
-ghost use Rattle.schedule.specs.{Links.IsBelow, Sends.IsStep};
+ghost use Rattle.std.specs.Prelude.{◌≡◌, ◌+◌, ◌<◌, ◌≤◌, ◌++◌, OnOk};
+ghost use Rattle.schedule.specs.Sends.{IsStep};
 ghost use Rattle.cnf_formula.specs.Formulas.{with_clauses};
 ghost use Rattle.send_encoding.specs.Variables.{arrivals, sends};
-ghost use Rattle.send_encoding.specs.Sending.{send_over, sends_arrive, sends_into, arrives_by_sends};
+ghost use Rattle.send_encoding.specs.Sending.{sends_arrive, sends_into, arrives_by_sends};
 
 use crate::OutOfMemory;
 use crate::send_map::SendMap;
@@ -12,29 +12,6 @@ use cnf_formula::{Formula, Lit};
 use std::alloc::Global;
 
 /// A send goes from a node that has the chunk to one that lacks it, which then has it.
-fn send_over(
-    formula: &mut Formula,
-    map: &SendMap,
-    chunk: u16,
-    number: usize,
-    link: (u8, u8),
-    step: u8,
-) -> Result<(), OutOfMemory>
-    requires vars { arrivals map.now + sends map.now ≤ formula.old.vars }
-    requires chunk { chunk < map.now.chunks }
-    requires number { number < length map.now.links }
-    requires link { IsBelow map.now.nodes link }
-    requires step { IsStep map.now.steps step }
-    ensures { OnOk result (formula.new ≡ with_clauses formula.old (send_over map.now chunk (number, link) step)) }
-{
-    let (from, to) = link;
-    let idle = map.sent_over(chunk, number, step).negated();
-    formula.add(&[idle, map.arrival(chunk, from, step - 1)])?;
-    formula.add(&[idle, map.arrival(chunk, to, step - 1).negated()])?;
-    formula.add(&[idle, map.arrival(chunk, to, step)])
-}
-
-/// The clauses of every send.
 #[tactic(auto, using(cnf_formula::proofs::Growing::grows_more))]
 pub(crate) fn sends_arrive(formula: &mut Formula, map: &SendMap) -> Result<(), OutOfMemory>
     requires vars { arrivals map.now + sends map.now ≤ formula.old.vars }
@@ -43,7 +20,11 @@ pub(crate) fn sends_arrive(formula: &mut Formula, map: &SendMap) -> Result<(), O
     for chunk in 0..map.chunks() {
         for (number, link) in map.links().iter().enumerate() {
             for index in 0..map.steps() {
-                send_over(formula, map, chunk, number, *link, index + 1)?;
+                let (from, to) = *link;
+                let idle = map.sent_over(chunk, number, index + 1).negated();
+                formula.add(&[idle, map.arrival(chunk, from, index)])?;
+                formula.add(&[idle, map.arrival(chunk, to, index).negated()])?;
+                formula.add(&[idle, map.arrival(chunk, to, index + 1)])?;
             }
         }
     }

@@ -1,37 +1,13 @@
 //! The clauses of what the nodes have: at the start, from step to step, and at the end.
 
-ghost use Rattle.std.specs.Prelude.{◌≡◌, ◌+◌, ◌<◌, ◌≤◌, OnOk};
+ghost use Rattle.std.specs.Prelude.{◌≡◌, ◌+◌, ◌≤◌, OnOk};
 ghost use Rattle.cnf_formula.specs.Formulas.{with_clauses};
 ghost use Rattle.send_encoding.specs.{Variables.{arrivals, sends}, Sending.{at_start, keeps, at_end}};
-ghost use Rattle.send_encoding.specs.inner.Parts.{node_starts, node_ends};
 
 use crate::OutOfMemory;
 use crate::send_map::SendMap;
 use cnf_formula::Formula;
 use schedule::Placement;
-
-/// At the start a node has what it has before.
-fn node_starts(
-    formula: &mut Formula,
-    map: &SendMap,
-    pre: &Placement,
-    chunk: u16,
-    node: u8,
-) -> Result<(), OutOfMemory>
-    requires vars { arrivals map.now + sends map.now ≤ formula.old.vars }
-    requires chunk { chunk < map.now.chunks }
-    requires node { node < map.now.nodes }
-    requires chunks { pre.now.chunks ≡ map.now.chunks }
-    requires nodes { pre.now.nodes ≡ map.now.nodes }
-    ensures { OnOk result (formula.new ≡ with_clauses formula.old (node_starts map.now pre.now (chunk, node))) }
-{
-    let start = map.arrival(chunk, node, 0);
-    if pre.holds(chunk, node) {
-        formula.add(&[start])
-    } else {
-        formula.add(&[start.negated()])
-    }
-}
 
 /// At the start the nodes have what they have before.
 #[tactic(auto, using(cnf_formula::proofs::Growing::grows_more))]
@@ -47,7 +23,13 @@ pub(crate) fn at_start(
 {
     for chunk in 0..map.chunks() {
         for node in 0..map.nodes() {
-            node_starts(formula, map, pre, chunk, node)?;
+            let start = map.arrival(chunk, node, 0);
+            let said = if pre.holds(chunk, node) {
+                start
+            } else {
+                start.negated()
+            };
+            formula.add(&[said])?;
         }
     }
     Ok(())
@@ -70,27 +52,6 @@ pub(crate) fn keeps(formula: &mut Formula, map: &SendMap) -> Result<(), OutOfMem
     Ok(())
 }
 
-/// At the end a node has what it has after.
-fn node_ends(
-    formula: &mut Formula,
-    map: &SendMap,
-    post: &Placement,
-    chunk: u16,
-    node: u8,
-) -> Result<(), OutOfMemory>
-    requires vars { arrivals map.now + sends map.now ≤ formula.old.vars }
-    requires chunk { chunk < map.now.chunks }
-    requires node { node < map.now.nodes }
-    requires chunks { post.now.chunks ≡ map.now.chunks }
-    requires nodes { post.now.nodes ≡ map.now.nodes }
-    ensures { OnOk result (formula.new ≡ with_clauses formula.old (node_ends map.now post.now (chunk, node))) }
-{
-    if post.holds(chunk, node) {
-        formula.add(&[map.arrival(chunk, node, map.steps())])?;
-    }
-    Ok(())
-}
-
 /// At the end the nodes have what they have after.
 #[tactic(auto, using(cnf_formula::proofs::Growing::grows_more, crate::proofs::Picking::pairs_of_loops, crate::proofs::Picking::picked_flat))]
 pub(crate) fn at_end(
@@ -105,7 +66,9 @@ pub(crate) fn at_end(
 {
     for chunk in 0..map.chunks() {
         for node in 0..map.nodes() {
-            node_ends(formula, map, post, chunk, node)?;
+            if post.holds(chunk, node) {
+                formula.add(&[map.arrival(chunk, node, map.steps())])?;
+            }
         }
     }
     Ok(())

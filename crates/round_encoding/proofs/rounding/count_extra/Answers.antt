@@ -1,6 +1,6 @@
 use Rattle.std.proofs.{Common.{◌≡◌, ◌<◌, length, arith, sym, ap, ◌∙◌, subst}, lemmas.Result.on_ok_weaker}
 use Rattle.cnf_formula.specs.Formulas.{FormulaValue, IsClause}
-use Rattle.round_encoding.{specs.{Frames.Frame, Rounding.count_of_rounds}, proofs.Rounded.{same_space, extra_some, extra_inputs_about, rounds_grow}}
+use Rattle.round_encoding.{specs.{Frames.Frame, Rounding.count_of_rounds}, proofs.Rounded.{same_space, extra_some, extra_inputs_about}}
 use Rattle.round_encoding.proofs.rounding.count_extra.Goals as goal
 
 pub count_up_to-requires-clause-some : goal.count_up_to-requires-clause-some
@@ -21,16 +21,9 @@ count_up_to-requires-clause-few c =
     let is : c.deref.result.now ≡ (count_of_rounds f).inputs = c.deref.ensures.value ∙ c.in_ok-inputs.ensures in
     omega (arith, same_space f c.args.formula.now.vars c.from.result c.deref.result.now is (cc), c.requires.small)
 
-pub returns-clause-formula : goal.returns-clause-formula
-returns-clause-formula c =
-    let f : Frame = record { map = c.args.variables.now; extra = c.args.extra } in
-    let is : c.deref.result.now ≡ (count_of_rounds f).inputs = c.deref.ensures.value ∙ c.in_ok-inputs.ensures in
-    on_ok_weaker c.push_limit.result (λ e.
-    rounds_grow f c.args.formula.now c.count_up_to.new.formula c.push_limit.new.formula c.deref.result.now c.deref-2.result.now c.from.result is (cc) c.in_ok-outputs.ensures.formula (c.deref-2.ensures.value ∙ c.in_ok-outputs.ensures.outputs) e) c.push_limit.ensures
-
 pub returns-clause-few : goal.returns-clause-few
 returns-clause-few c =
     let f : Frame = record { map = c.args.variables.now; extra = c.args.extra } in
     let is : c.deref.result.now ≡ (count_of_rounds f).inputs = c.deref.ensures.value ∙ c.in_ok-inputs.ensures in
     let same = same_space f c.args.formula.now.vars c.from.result c.deref.result.now is (cc) in
-    on_ok_weaker c.push_limit.result (λ e. omega (arith, ap (λ (f : FormulaValue). f.vars) e, c.in_ok-outputs.ensures.few, same)) c.push_limit.ensures
+    on_ok_weaker c.add.result (λ e. omega (arith, ap (λ (f : FormulaValue). f.vars) e, c.in_ok-outputs.ensures.few, same)) c.add.ensures.added

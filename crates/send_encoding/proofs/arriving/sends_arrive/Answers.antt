@@ -1,8 +1,15 @@
-use Rattle.std.proofs.Common.{arith, rules, ◌≡◌, get_or}
+use Rattle.std.proofs.Common.{arith, rules, ◌≡◌, ◌+◌, ◌-◌, get_or, append_assoc}
 use Rattle.std.specs.List.{flat_map, enumerate_from}
 use Rattle.cnf_formula.{specs.Formulas.with_clauses, proofs.Growing.{grows_more, grows_numbered, grown_numbered}}
 use Rattle.send_encoding.specs.{Variables.steps_of, Sending.send_over}
 use Rattle.send_encoding.proofs.arriving.sends_arrive.Goals as goal
+
+pub loop-index-preserved : goal.loop-index-preserved
+loop-index-preserved c =
+    let k = c.loop-index.index in
+    let back : k + 1 - 1 ≡ k = omega arith in
+    let here : c.add-in-loop-index-2.new.self ≡ with_clauses c.loop-index.formula (send_over c.args.map.now c.loop-chunk.chunk (c.loop-number.number, get_or c.links-link-items.result.now c.loop-number.number (0, 0)) (k + 1)) = grind (arith, back, append_assoc) in
+    grows_more c.loop-number.formula c.loop-index.formula c.add-in-loop-index-2.new.self (send_over c.args.map.now c.loop-chunk.chunk (c.loop-number.number, get_or c.links-link-items.result.now c.loop-number.number (0, 0))) 1 k (k + 1) (omega arith) c.loop-index.invariant here
 
 pub loop-number-preserved : goal.loop-number-preserved
 loop-number-preserved c =
