@@ -12,19 +12,8 @@ use Rattle.sccl_run.specs.{inner.Answering.Answers, TopCall.{CountValue, EndsIfI
 
 -- an answer has no status of a port that failed, or of memory
 not_given : (c : Command) → (IsOneOf (answers_of c) OutOfMemory → ⊥) × (IsOneOf (answers_of c) SourceFailed → ⊥) × (IsOneOf (answers_of c) SinkFailed → ⊥) × (IsOneOf (answers_of c) ShelfFailed → ⊥)
-not_given (command.Synth kind word limits root kept) = (λ no. absurd (cc), λ no. absurd (cc), λ no. absurd (cc), λ no. absurd (cc))
-not_given command.Check = (λ no. absurd (cc), λ no. absurd (cc), λ no. absurd (cc), λ no. absurd (cc))
-not_given (command.Replay number word order) = (λ no. absurd (cc), λ no. absurd (cc), λ no. absurd (cc), λ no. absurd (cc))
-not_given (command.Programs number word) = (λ no. absurd (cc), λ no. absurd (cc), λ no. absurd (cc), λ no. absurd (cc))
-not_given (command.Family kind size) = (λ no. absurd (cc), λ no. absurd (cc), λ no. absurd (cc), λ no. absurd (cc))
-not_given (command.Trial n) = (λ no. absurd (cc), λ no. absurd (cc), λ no. absurd (cc), λ no. absurd (cc))
-not_given (command.Bound kind word limits root all_sets) = (λ no. absurd (cc), λ no. absurd (cc), λ no. absurd (cc), λ no. absurd (cc))
-not_given (command.Ordered kind word limits root) = (λ no. absurd (cc), λ no. absurd (cc), λ no. absurd (cc), λ no. absurd (cc))
-not_given (command.Degrade group group_word width width_word) = (λ no. absurd (cc), λ no. absurd (cc), λ no. absurd (cc), λ no. absurd (cc))
 not_given (command.Json what.Topology point) = (λ no. absurd (cc), λ no. absurd (cc), λ no. absurd (cc), λ no. absurd (cc))
-not_given (command.Json what.Report point) = (λ no. absurd (cc), λ no. absurd (cc), λ no. absurd (cc), λ no. absurd (cc))
-not_given (command.Json what.Programs point) = (λ no. absurd (cc), λ no. absurd (cc), λ no. absurd (cc), λ no. absurd (cc))
-not_given (command.Unjson value) = (λ no. absurd (cc), λ no. absurd (cc), λ no. absurd (cc), λ no. absurd (cc))
+not_given _ = (λ no. absurd (cc), λ no. absurd (cc), λ no. absurd (cc), λ no. absurd (cc))
 
 -- with these statuses there is no answer
 pub record IsGiven (s : Status) : Type 0 where

@@ -61,19 +61,10 @@ shelf_listed (Err fault) opens = absurd (cc)
 
 -- a command that reads may refuse what is too long
 long_listed : (c : Command) → IsTrue (reads_source (Ok c)) → IsOneOf (answers_of c) TooLong
-long_listed (command.Synth kind word limits root kept) reads = refl
-long_listed command.Check reads = refl
-long_listed (command.Replay number word order) reads = refl
-long_listed (command.Programs number word) reads = refl
 long_listed (command.Family kind size) reads = absurd (cc)
 long_listed (command.Trial n) reads = absurd (cc)
-long_listed (command.Bound kind word limits root all_sets) reads = refl
-long_listed (command.Ordered kind word limits root) reads = refl
-long_listed (command.Degrade group group_word width width_word) reads = refl
 long_listed (command.Json what.Topology point) reads = refl
-long_listed (command.Json what.Report point) reads = refl
-long_listed (command.Json what.Programs point) reads = refl
-long_listed (command.Unjson value) reads = refl
+long_listed _ reads = refl
 
 whole_with : (P : Status → Type 0) (reads : Bool) (bytes : List ℕ) → (IsTrue reads → P TooLong) → With P (whole_text reads bytes)
 whole_with P true bytes h = by_length (nat_lt limit (length bytes))

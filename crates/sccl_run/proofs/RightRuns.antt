@@ -71,20 +71,11 @@ IsKept (Ok (Bound w t sets)) = Unit {0}
 IsKept _ = ⊥
 
 stays_as_due : (d : Result Task Refusal) (x : RunValue) → (IsKept d → ⊥) → IsEnd d x all_tell → FilesStay x.files x.files_after
-stays_as_due (Err r) x other (inl a) = a.answer.stay refl
-stays_as_due (Err r) x other (inr a) = a.leaves refl
-stays_as_due (Ok (Write text)) x other (inl a) = a.answer.stay refl
-stays_as_due (Ok (Write text)) x other (inr a) = a.leaves refl
 stays_as_due (Ok (Synthesise w t kept)) x other end = absurd (other tt)
 stays_as_due (Ok (Bound w t sets)) x other end = absurd (other tt)
-stays_as_due (Ok (Audit r)) x other (inl a) = a.answer.stay refl
-stays_as_due (Ok (Audit r)) x other (inr a) = a.leaves refl
 stays_as_due (Ok (Try n)) x other (inl a) = a.answer.1.stay refl
-stays_as_due (Ok (Try n)) x other (inr a) = a.leaves refl
-stays_as_due (Ok (Order w t)) x other (inl a) = a.answer.stay refl
-stays_as_due (Ok (Order w t)) x other (inr a) = a.leaves refl
-stays_as_due (Ok (Degrade r group width)) x other (inl a) = a.answer.stay refl
-stays_as_due (Ok (Degrade r group width)) x other (inr a) = a.leaves refl
+stays_as_due _ x other (inl a) = a.answer.stay refl
+stays_as_due _ x other (inr a) = a.leaves refl
 
 -- it is due only for a command that changes files
 no_kept : {A : Type 0} (x : Result A Refusal) (f : A → Result Task Refusal) → ((a : A) → IsKept (f a) → ⊥) → IsKept (x >>= f) → ⊥
@@ -140,19 +131,8 @@ unchanged x a b c run none = stays_as_due (due x.words x.bytes) x (λ kept. none
 -- ---- what is refused
 
 refused_statuses : (c : Command) → IsOneOf (refusals_of c) Done → ⊥
-refused_statuses (command.Synth kind word limits root kept) is = absurd (cc)
-refused_statuses command.Check is = absurd (cc)
-refused_statuses (command.Replay number word order) is = absurd (cc)
-refused_statuses (command.Programs number word) is = absurd (cc)
-refused_statuses (command.Family kind size) is = absurd (cc)
-refused_statuses (command.Trial n) is = absurd (cc)
-refused_statuses (command.Bound kind word limits root all_sets) is = absurd (cc)
-refused_statuses (command.Ordered kind word limits root) is = absurd (cc)
-refused_statuses (command.Degrade group group_word width width_word) is = absurd (cc)
 refused_statuses (command.Json what.Topology point) is = absurd (cc)
-refused_statuses (command.Json what.Report point) is = absurd (cc)
-refused_statuses (command.Json what.Programs point) is = absurd (cc)
-refused_statuses (command.Unjson value) is = absurd (cc)
+refused_statuses _ is = absurd (cc)
 
 abbrev NotDone : {A : Type 0} → Result A Refusal → Type 0
 NotDone (Ok x) = Unit {0}
