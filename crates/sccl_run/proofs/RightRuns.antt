@@ -1,7 +1,7 @@
 -- What a right run says, drawn out.
-use Rattle.std.proofs.Common.{◌≡◌, ◌⊎◌, ◌≤◌, ◌++◌, ℕ, Bool, true, false, IsTrue, nat_lt, length, List, [], inl, inr, Result, Ok, Err, refl, sym, subst, ap, ◌∙◌}
+use Rattle.std.proofs.Common.{◌≡◌, ◌⊎◌, ◌≤◌, ◌++◌, ℕ, Bool, true, false, IsTrue, length, List, [], inl, inr, Result, Ok, Err, refl, sym, subst, ap, ◌∙◌}
 use Rattle.std.proofs.lemmas.List.{take_all, Elements.All-contains}
-use Rattle.text_lines.specs.Check.{◌>>=◌, need, refuse}
+use Rattle.text_lines.specs.Check.{◌>>=◌, need}
 use Rattle.topology_text.specs.{Answer.topology_number, Reading.topology_of, Value.NamedTopologyValue}
 use Rattle.json_values.specs.{Answer.json_number, Reading.read_json, TopologyForm.topology as topology_form}
 use Rattle.json_rules.specs.ReportForm.{report as report_form}
@@ -11,22 +11,20 @@ use Rattle.report_form.specs.{Reading.report_of, Reports.{WordsValue, ReportValu
 use Rattle.frontier_audit.specs.{Rights.IsRight, Parts.IsRightPart}
 use Rattle.command_words.specs.declared.{fault.WordFault.WordFault, command.{Command.Command, SearchWords.SearchWords}}
 use Rattle.command_words.specs.Words.{command_of}
-use Rattle.run_rules.specs.{declared.status.Status.Status, Commands.{Ask, IsOneOf, reads_source}, Ends.{changes_files, refusals_of}, Answers.IsAnswer, Refusals.{Refusal, refused_as, refused_at}}
+use Rattle.run_rules.specs.{declared.status.Status.Status, Commands.{Ask, IsOneOf, reads_source}, Ends.{changes_files, refusals_of}, Answers.IsAnswer, Refusals.{Refusal, refused_as}}
 use Rattle.run_rules.specs.declared.status.Status.TheVariants.{Done, BadWords, BadTopology, BadJson, TooLong, OutOfMemory, SourceFailed, SinkFailed, ShelfFailed}
-use Rattle.run_rules.specs.Tasks.{Task, Synthesise, Try, Bound, Degrade, due, fault_in, limit, point_in, read_report, root_in, search_asked, searchable, task_of, words_asked}
+use Rattle.run_rules.specs.Tasks.{Task, Synthesise, Try, Bound, Degrade, due, fault_in, point_in, read_report, root_in, search_asked, searchable, task_of, words_asked}
 use Rattle.run_rules.specs.Steps.{fitting, whole_question, whole_text, words_for}
-use Rattle.run_rules.proofs.Ends.{refused_with}
+use Rattle.run_rules.proofs.Ends.{With, refused_with}
 use Rattle.command_words.specs.declared.command.JsonWhat.TheVariants as what
 use Rattle.command_words.specs.declared.command.Command.TheVariants as command
 use Rattle.sccl_run.specs.{Laws.{IsRightRun, WritesWith, NoneIsBetter}, TopCall.{CountValue, IsEnd, IsSilent, RunValue}, Rows.all_tell, inner.Answering.{IsWholeAnswer, files_of}}
-use Rattle.sccl_run.proofs.Ended.{ended}
+use Rattle.sccl_run.proofs.{Calls.spoken, Ended.ended, Listed.whole_with}
 
 -- ---- a run that is done
 
 pub done_not_silent : (s : Status) → s ≡ Done → IsSilent s → ⊥
-done_not_silent s e (inl f) = let g : Done ≡ OutOfMemory = sym e ∙ f in cc
-done_not_silent s e (inr (inl f)) = let g : Done ≡ SourceFailed = sym e ∙ f in cc
-done_not_silent s e (inr (inr f)) = let g : Done ≡ ShelfFailed = sym e ∙ f in cc
+done_not_silent s e = spoken s (λ f. cc) (λ f. cc) (λ f. cc)
 
 pub done_not_cut_off : (s : Status) → s ≡ Done → s ≡ SinkFailed → ⊥
 done_not_cut_off s e f = let g : Done ≡ SinkFailed = sym e ∙ f in cc
@@ -134,20 +132,11 @@ refused_statuses (command.Json what.Topology point) is = absurd (cc)
 refused_statuses _ is = absurd (cc)
 
 abbrev NotDone : {A : Type 0} → Result A Refusal → Type 0
-NotDone (Ok x) = Unit {0}
-NotDone (Err r) = r.status ≡ Done → ⊥
+NotDone = With (λ s. s ≡ Done → ⊥)
 
 first_not_done : {A B : Type 0} (x : Result A Refusal) (f : A → Result B Refusal) → NotDone x → ((a : A) → NotDone (f a)) → NotDone (x >>= f)
 first_not_done (Ok a) f h g = g a
 first_not_done (Err r) f h g = h
-
-whole_not_done : (reads : Bool) (bytes : List ℕ) → NotDone (whole_text reads bytes)
-whole_not_done true bytes = by_length (nat_lt limit (length bytes))
-  where
-    by_length : (long : Bool) → NotDone (refuse long (refused_at TooLong 0 limit))
-    by_length true = λ e. absurd (cc)
-    by_length false = tt
-whole_not_done false bytes = tt
 
 task_not_done : (c : Command) (bytes : List ℕ) (x : Result Task Refusal) → task_of c bytes ≡ x → NotDone x
 task_not_done c bytes (Ok t) is = tt
@@ -161,7 +150,7 @@ due_not_done : (words : List (List ℕ)) (bytes : List ℕ) → NotDone (due wor
 unfolding due
 due_not_done words bytes =
     first_not_done (words_asked (command_of words)) _ (words_not_done (command_of words))
-    (λ c. first_not_done (whole_text (reads_source (Ok c)) bytes) _ (whole_not_done (reads_source (Ok c)) bytes) (λ _. task_not_done c bytes (task_of c bytes) refl))
+    (λ c. first_not_done (whole_text (reads_source (Ok c)) bytes) _ (whole_with (λ s. s ≡ Done → ⊥) (reads_source (Ok c)) bytes (λ _ e. let f : TooLong ≡ Done = e in cc)) (λ _. task_not_done c bytes (task_of c bytes) refl))
 
 pub refused_not_done : (x : RunValue) (a b c : CountValue) → IsRightRun x a b c → (r : Refusal) → due x.words x.bytes ≡ Err r → x.status ≡ Done → ⊥
 refused_not_done x a b c run r refused done =
