@@ -12,7 +12,7 @@ use Rattle.frontier_audit.specs.{Rights.IsRight, Parts.IsRightPart}
 use Rattle.command_words.specs.declared.{fault.WordFault.WordFault, command.{Command.Command, SearchWords.SearchWords}}
 use Rattle.command_words.specs.Words.{command_of}
 use Rattle.run_rules.specs.{declared.status.Status.Status, Commands.{Ask, IsOneOf, reads_source}, Ends.{changes_files, refusals_of}, Answers.IsAnswer, Refusals.{Refusal, refused_as}}
-use Rattle.run_rules.specs.declared.status.Status.TheVariants.{Done, BadWords, BadTopology, BadJson, TooLong, OutOfMemory, SourceFailed, SinkFailed, ShelfFailed}
+use Rattle.run_rules.specs.declared.status.Status.TheVariants.{Done, BadWords, BadTopology, BadJson, TooLong, SinkFailed}
 use Rattle.run_rules.specs.Tasks.{Task, Synthesise, Try, Bound, Degrade, due, fault_in, point_in, read_report, root_in, search_asked, searchable, task_of, words_asked}
 use Rattle.run_rules.specs.Steps.{fitting, whole_question, whole_text, words_for}
 use Rattle.run_rules.proofs.Ends.{With, refused_with}

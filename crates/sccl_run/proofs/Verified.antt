@@ -40,11 +40,8 @@ check_due words bytes r e short read fits =
     ∙ ap (λ x. x >>= (λ _. Ok (Audit r))) fits
 
 two_parts : (xs : List (Part × FrontierValue)) (r : ReportValue) → map (λ x. x.0) xs ≡ part.Reduce ∷ part.Gather ∷ [] → AreJoined r xs → Joins r.topology.topology (points_of is_reduce xs) (points_of is_gather xs) r.joined
-two_parts [] r e joined = absurd (cc)
-two_parts (x ∷ []) r e joined = absurd (cc)
-two_parts (x ∷ y ∷ z ∷ xs) r e joined = absurd (cc)
 two_parts ((part.Reduce, f) ∷ (part.Gather, h) ∷ []) r e joined = rw (append-nil f.points, append-nil h.points) joined
-two_parts (x ∷ y ∷ []) r e joined = absurd (cc)
+two_parts xs r e joined = absurd (cc)
 
 joined_right : (r : ReportValue) → IsRight r → r.words.collective.kind ≡ kind.Allreduce → Joins r.topology.topology (points_of is_reduce r.frontiers) (points_of is_gather r.frontiers) r.joined
 joined_right r right e = two_parts r.frontiers r (right.valid.parts ∙ ap parts_of e) right.joined

@@ -37,8 +37,6 @@ unread_is_wrong a b c run = none-some _ (run.call.behind_source refl some_name)
 
 -- no file of the part that is joined belongs to a report of one part
 of_one_part : (q : Part → QuestionValue) (xs : List (Part × FrontierValue)) → map (λ x. x.0) xs ≡ Whole ∷ [] → Any (λ x. (x.0 ≡ Joined) × HasOwnFiles (q x.0) x.1 (record { s = 1; r = 1; c = 1 })) xs → ⊥
-of_one_part q [] e any = absurd (cc)
-of_one_part q (x ∷ y ∷ xs) e any = absurd (cc)
 of_one_part q (x ∷ []) e (zero, y, below, got, such) =
     let whole : x.0 ≡ Whole = cc in
     let same : x ≡ y = got in
@@ -46,6 +44,7 @@ of_one_part q (x ∷ []) e (zero, y, below, got, such) =
     let clash : Whole ≡ Joined = sym whole ∙ joined in
     absurd (cc)
 of_one_part q (x ∷ []) e (suc k, y, below, got, such) = absurd (omega (arith, below))
+of_one_part q xs e any = absurd (cc)
 
 joined_name : ProofName
 joined_name = record { kind = Cnf; part = Joined; s = 1; r = 1; c = 1 }

@@ -9,14 +9,12 @@ pub returns-in-Ok-write_all-clause-run : goal.returns-in-Ok-write_all-clause-run
 returns-in-Ok-write_all-clause-run g c =
     let words = texts c.args.words.now in
     let a = c.in-Ok.ensures in
-    let before = g.O.Sink.written c.args.sink.now in
-    let now = g.O.Sink.written c.write_all.new.sink in
     let is = given (command_of words) c.in-Ok.answer.status a.ends in
     run_answered _ _ _ _ _ _ _ _ c.in-Ok.answer.status c.in-Ok.answer.text.items _
     (call_answered words _ _ _ _ _ _ c.in-Ok.answer.status a.ends (a.cause.stays (λ e. cc)) (c.in-Ok-write_all.ensures.cause.stays (λ e. cc)) (a.shelf_cause.stays (λ e. cc)) a.unread a.unopened a.behind_refusals)
     (λ told. left_read words _ _ c.in-Ok.answer.status is.memory is.source (a.read told))
     (inl (refl, omega arith)) a.answers
-    (λ told. appended_as before now c.in-Ok.answer.text.items _ (c.in-Ok-write_all.ensures.whole told) c.deref.ensures.value)
+    (λ told. appended_as _ _ c.in-Ok.answer.text.items _ (c.in-Ok-write_all.ensures.whole told) c.deref.ensures.value)
 
 pub returns-in-Ok-clause-run : goal.returns-in-Ok-clause-run
 returns-in-Ok-clause-run g c =
