@@ -12,19 +12,8 @@ use Rattle.sccl_run.specs.{inner.Answering.Answers, TopCall.{CountValue, EndsIfI
 
 -- an answer has no status of a port that failed, or of memory
 not_given : (c : Command) → (IsOneOf (answers_of c) OutOfMemory → ⊥) × (IsOneOf (answers_of c) SourceFailed → ⊥) × (IsOneOf (answers_of c) SinkFailed → ⊥) × (IsOneOf (answers_of c) ShelfFailed → ⊥)
-not_given (command.Synth kind word limits root kept) = (λ no. absurd (cc), λ no. absurd (cc), λ no. absurd (cc), λ no. absurd (cc))
-not_given command.Check = (λ no. absurd (cc), λ no. absurd (cc), λ no. absurd (cc), λ no. absurd (cc))
-not_given (command.Replay number word order) = (λ no. absurd (cc), λ no. absurd (cc), λ no. absurd (cc), λ no. absurd (cc))
-not_given (command.Programs number word) = (λ no. absurd (cc), λ no. absurd (cc), λ no. absurd (cc), λ no. absurd (cc))
-not_given (command.Family kind size) = (λ no. absurd (cc), λ no. absurd (cc), λ no. absurd (cc), λ no. absurd (cc))
-not_given (command.Trial n) = (λ no. absurd (cc), λ no. absurd (cc), λ no. absurd (cc), λ no. absurd (cc))
-not_given (command.Bound kind word limits root all_sets) = (λ no. absurd (cc), λ no. absurd (cc), λ no. absurd (cc), λ no. absurd (cc))
-not_given (command.Ordered kind word limits root) = (λ no. absurd (cc), λ no. absurd (cc), λ no. absurd (cc), λ no. absurd (cc))
-not_given (command.Degrade group group_word width width_word) = (λ no. absurd (cc), λ no. absurd (cc), λ no. absurd (cc), λ no. absurd (cc))
 not_given (command.Json what.Topology point) = (λ no. absurd (cc), λ no. absurd (cc), λ no. absurd (cc), λ no. absurd (cc))
-not_given (command.Json what.Report point) = (λ no. absurd (cc), λ no. absurd (cc), λ no. absurd (cc), λ no. absurd (cc))
-not_given (command.Json what.Programs point) = (λ no. absurd (cc), λ no. absurd (cc), λ no. absurd (cc), λ no. absurd (cc))
-not_given (command.Unjson value) = (λ no. absurd (cc), λ no. absurd (cc), λ no. absurd (cc), λ no. absurd (cc))
+not_given _ = (λ no. absurd (cc), λ no. absurd (cc), λ no. absurd (cc), λ no. absurd (cc))
 
 -- with these statuses there is no answer
 pub record IsGiven (s : Status) : Type 0 where
@@ -49,21 +38,17 @@ given (Err fault) s is = record {
 
 -- ---- every run
 
-quiet : (failed status : Status) (count : CountValue) → status ≢ failed → count.now ≡ count.before → EndsIfItFails failed status count
+pub quiet : (failed status : Status) (count : CountValue) → status ≢ failed → count.now ≡ count.before → EndsIfItFails failed status count
 quiet failed status count other same = record { only = λ e. absurd (other e); kept = λ _. same }
 
 loud : (failed : Status) (count : CountValue) → Rose count.before count.now → EndsIfItFails failed failed count
 loud failed count rose = record { only = λ _. rose; kept = λ other. absurd (other refl) }
 
-spoken : (s : Status) → IsGiven s → IsSilent s → ⊥
-spoken s g (inl e) = g.memory e
-spoken s g (inr (inl e)) = g.source e
-spoken s g (inr (inr e)) = g.shelf e
-
-heard : IsSilent SinkFailed → ⊥
-heard (inl e) = absurd (cc)
-heard (inr (inl e)) = absurd (cc)
-heard (inr (inr e)) = absurd (cc)
+-- with any other status something may be written
+pub spoken : (s : Status) → s ≢ OutOfMemory → s ≢ SourceFailed → s ≢ ShelfFailed → IsSilent s → ⊥
+spoken s memory source shelf (inl e) = memory e
+spoken s memory source shelf (inr (inl e)) = source e
+spoken s memory source shelf (inr (inr e)) = shelf e
 
 module _ (words : List (List ℕ)) (source sink shelf : CountValue) (SourceStays SinkStays ShelfStays : Type 0) where
   -- it is answered
@@ -81,7 +66,7 @@ module _ (words : List (List ℕ)) (source sink shelf : CountValue) (SourceStays
         unopened = unopened;
         behind_source = λ e. absurd (g.source e);
         behind_refusals = refused;
-        silent = λ silent. absurd (spoken status g silent);
+        silent = λ silent. absurd (spoken status g.memory g.source g.shelf silent);
       }
 
   -- the sink failed
@@ -97,7 +82,7 @@ module _ (words : List (List ℕ)) (source sink shelf : CountValue) (SourceStays
     unopened = unopened;
     behind_source = λ e. absurd (cc);
     behind_refusals = λ no. absurd (cc);
-    silent = λ silent. absurd (heard silent);
+    silent = λ silent. absurd (spoken SinkFailed (λ e. cc) (λ e. cc) (λ e. cc) silent);
   }
 
   -- memory ran out

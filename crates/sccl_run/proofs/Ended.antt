@@ -16,19 +16,10 @@ use Rattle.sccl_run.proofs.Dues.{asks, due_command, due_refused}
 
 -- what is not read decides nothing
 same_for : (c : Command) (bytes came : List ℕ) → (IsTrue (reads_source (Ok c)) → came ≡ bytes) → due_for c came ≡ due_for c bytes
-same_for (command.Synth kind word limits root kept) bytes came are = ap (due_for (command.Synth kind word limits root kept)) (are refl)
-same_for command.Check bytes came are = ap (due_for command.Check) (are refl)
-same_for (command.Replay number word order) bytes came are = ap (due_for (command.Replay number word order)) (are refl)
-same_for (command.Programs number word) bytes came are = ap (due_for (command.Programs number word)) (are refl)
 same_for (command.Family kind size) bytes came are = refl
 same_for (command.Trial n) bytes came are = refl
-same_for (command.Bound kind word limits root all_sets) bytes came are = ap (due_for (command.Bound kind word limits root all_sets)) (are refl)
-same_for (command.Ordered kind word limits root) bytes came are = ap (due_for (command.Ordered kind word limits root)) (are refl)
-same_for (command.Degrade group group_word width width_word) bytes came are = ap (due_for (command.Degrade group group_word width width_word)) (are refl)
 same_for (command.Json what.Topology point) bytes came are = ap (due_for (command.Json what.Topology point)) (are refl)
-same_for (command.Json what.Report point) bytes came are = ap (due_for (command.Json what.Report point)) (are refl)
-same_for (command.Json what.Programs point) bytes came are = ap (due_for (command.Json what.Programs point)) (are refl)
-same_for (command.Unjson value) bytes came are = ap (due_for (command.Unjson value)) (are refl)
+same_for c bytes came are = ap (due_for c) (are refl)
 
 same_due : (words : List (List ℕ)) (bytes came : List ℕ) → (Ask reads_source words → came ≡ bytes) → due words came ≡ due words bytes
 same_due words bytes came are = by_words (command_of words) refl
@@ -49,21 +40,14 @@ same_reading read reads words bytes = by_words (command_of words)
     behind f = ap (λ r. refused_as BadReport report_number r >>= f) (same bytes)
 
     by_task : (c : Command) → task_by read c bytes ≡ task_by report_of c bytes
-    by_task (command.Synth kind word limits root kept) = refl
     by_task command.Check = behind audit_in
     by_task (command.Replay number word order) = behind (λ r. replay_in r (record { point = number; word = word }) order)
     by_task (command.Programs number word) = behind (λ r. programs_in r (record { point = number; word = word }))
-    by_task (command.Family kind size) = refl
-    by_task (command.Trial n) = refl
-    by_task (command.Bound kind word limits root all_sets) = refl
-    by_task (command.Ordered kind word limits root) = refl
     by_task (command.Degrade group group_word width width_word) = behind (λ r. degrade_in r group group_word width width_word)
-    by_task (command.Json what.Topology point) = refl
     by_task (command.Json what.Report point) = behind (λ r. Ok (Write (printed ((report_form r.topology.names).json r))))
     by_task (command.Json what.Programs point) = behind (λ r. json_programs_in r point)
-    by_task (command.Unjson what.Topology) = refl
     by_task (command.Unjson what.Report) = ap (λ read. refused_as BadJson json_number read >>= (λ r. Ok (Write (report_text r)))) (readers_alike (report_form []) read report_of same bytes)
-    by_task (command.Unjson what.Programs) = refl
+    by_task _ = refl
 
     by_words : (x : Result Command WordFault) → (words_asked x >>= (λ c. whole_text (reads_source (Ok c)) bytes >>= (λ _. task_by read c bytes))) ≡ (words_asked x >>= (λ c. whole_text (reads_source (Ok c)) bytes >>= (λ _. task_by report_of c bytes)))
     by_words (Ok c) = ap (λ t. whole_text (reads_source (Ok c)) bytes >>= (λ _. t)) (by_task c)

@@ -6,10 +6,10 @@ use Rattle.command_words.specs.{Words.command_of}
 use Rattle.command_words.specs.declared.command.Command.TheVariants as command
 use Rattle.report_form.specs.Reading.{report_of}
 use Rattle.report_laws.proofs.Readings.{read_by_spelling}
-use Rattle.run_rules.specs.{declared.status.Status.{Status, TheVariants.{Done, SourceFailed, SinkFailed, ShelfFailed}}, Commands.{Ask, opens_shelf, reads_source}}
+use Rattle.run_rules.specs.{declared.status.Status.TheVariants.{Done, SourceFailed, SinkFailed, ShelfFailed}, Commands.{Ask, opens_shelf, reads_source}}
 use Rattle.run_rules.specs.{Tasks.{Write, due}, Rows.two_nodes_text}
-use Rattle.sccl_run.specs.{Laws.IsRightRun, Rows.{all_tell, family_run}, TopCall.{CountValue, EndsIfItFails, IsEnd, IsSilent}}
-use Rattle.sccl_run.proofs.{Dues.asks_one, Ended.ended, RightRuns.{done_answered, done_not_silent}}
+use Rattle.sccl_run.specs.{Laws.IsRightRun, Rows.{all_tell, family_run}, TopCall.{CountValue, IsEnd}}
+use Rattle.sccl_run.proofs.{Calls.{quiet, spoken}, Dues.asks_one, Ended.ended, RightRuns.{done_answered, done_not_silent}}
 
 is_asked : command_of family_run.words ≡ Ok (command.Family Line 2)
 unfolding command_of digits
@@ -32,16 +32,13 @@ opens_nothing ask = let opens : IsTrue (opens_shelf (Ok (command.Family Line 2))
 
 -- ---- the run that is right
 
-quiet : (failed : Status) (n : ℕ) → Done ≢ failed → EndsIfItFails failed Done (record { before = n; now = n })
-quiet failed n other = record { only = λ e. absurd (other e); kept = λ _. refl }
-
 pub family_is_right : (n : ℕ) → IsRightRun family_run (record { before = n; now = n }) (record { before = n; now = n }) (record { before = n; now = n })
 unfolding due command_of digits
 family_is_right n = record {
   call = record {
-    source_fails = quiet SourceFailed n (λ e. cc);
-    sink_fails = quiet SinkFailed n (λ e. cc);
-    shelf_fails = quiet ShelfFailed n (λ e. cc);
+    source_fails = quiet SourceFailed Done _ (λ e. cc) refl;
+    sink_fails = quiet SinkFailed Done _ (λ e. cc) refl;
+    shelf_fails = quiet ShelfFailed Done _ (λ e. cc) refl;
     reads = λ e. absurd (cc);
     unread = λ _. refl;
     opens = λ e. absurd (cc);
@@ -102,13 +99,8 @@ no_part_is_wrong a b c run =
     let x = record family_run { status = SinkFailed; now = codes "n" } in
     elim (ended x a b c (Ok (Write (spelling (family_of Line 2)))) run is_due) [
       | inl end ↦ begins_so end.count (end.written refl ∙ ap (take end.count) (end.answer.says.text ∙ text))
-      | inr halt ↦ not_silent halt.silent
+      | inr halt ↦ spoken SinkFailed (λ e. cc) (λ e. cc) (λ e. cc) halt.silent
     ]
-  where
-    not_silent : IsSilent SinkFailed → ⊥
-    not_silent (inl e) = absurd (cc)
-    not_silent (inr (inl e)) = absurd (cc)
-    not_silent (inr (inr e)) = absurd (cc)
 
 pub source_is_wrong : (a b c : CountValue) → IsRightRun (record family_run { status = SourceFailed; now = [] }) a b c → ⊥
 source_is_wrong a b c run = reads_nothing (run.call.reads refl)

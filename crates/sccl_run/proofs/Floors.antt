@@ -17,7 +17,7 @@ use Rattle.cut_bounds.proofs.{Bounded.sums_bound, Turned.floor_same}
 use Rattle.run_rules.specs.{declared.status.Status.TheVariants.{Done, BadReport}, Degraded.{IsNewSearch, left_topology}, Refusals.{Refusal, refused_as}}
 use Rattle.run_rules.specs.{Tasks.{Task, Bound, Order, Degrade, due, fault_in, given_sets, read_report, searchable, task_of}, Steps.whole_question}
 use Rattle.run_rules.proofs.Denied.{accepted_of, done_of, right_of}
-use Rattle.sccl_run.specs.{Headline.{AsksBound, AsksDegraded, AsksOrdered, IsFloor, PrintsBound, PrintsDegraded, PrintsOrdered}, Laws.IsRightRun}
+use Rattle.sccl_run.specs.{Headline.{AsksBound, AsksDegraded, AsksOrdered, PrintsBound, PrintsDegraded, PrintsOrdered}, Laws.IsRightRun}
 use Rattle.sccl_run.specs.TopCall.{CountValue, RunValue}
 use Rattle.sccl_run.proofs.{Ended.ended, Printed.{IsJustOr, behind, due_of_done, due_or, found_one, passed, searchable_or, searches_or, unless}}
 use Rattle.sccl_run.proofs.{RightRuns.done_answered, SearchWords.{bound_asked, degrade_asked, ordered_asked, root_word}}
@@ -34,9 +34,6 @@ bounded true sets q adds some spec single x s allowed sums =
     subst (λ (f : Floor). f.above * x.c ≤ x.r * f.below) (sym (floor_same sets (reversed_of q.topology) q.spec)) (sums_bound sets q.topology q.spec s x.s x.r x.c adds single spec allowed sums)
 bounded false sets q adds some spec single x s allowed solves =
     subst (λ (f : Floor). f.above * x.c ≤ x.r * f.below) (sym (floor_same sets q.topology q.spec)) (floor_bounds sets q.topology q.spec s x.s x.r x.c some allowed solves)
-
-pub floor_is_one : (sets : Sets) (q : QuestionValue) → 0 < q.topology.nodes → IsSpec q.topology.nodes q.spec → kind_in q.spec ≢ kind.Allreduce → IsFloor q (floor_of sets (searched_question q).topology (searched_question q).spec)
-floor_is_one sets q some spec single x s allowed achieves = bounded (adds_up q.spec) sets q refl some spec single x s allowed achieves
 
 -- ---- a search with cuts, and one in order
 
@@ -59,7 +56,7 @@ module _ (x : RunValue) (a b c : CountValue) (run : IsRightRun x a b c) (done : 
         text = end.written refl ∙ ap (λ text. x.before ++ text) end.answer.says.text;
         told = (2, omega arith, refl);
         searched = found_one q end.answer.frontier end.answer.found.right end.answer.found.searched end.answer.found.within;
-        holds = floor_is_one sets q asks.topology.topology.some spec end.answer.found.right.single;
+        holds = bounded (adds_up q.spec) sets q refl asks.topology.topology.some spec end.answer.found.right.single;
       }
 
   pub ordered_is_true : (w : WordsValue) (t : NamedTopologyValue) → AsksOrdered x.words x.bytes w t → PrintsOrdered w t x.before x.now

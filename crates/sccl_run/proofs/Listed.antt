@@ -38,44 +38,29 @@ source_in : (reads : Bool) (rest : List Status) → IsTrue reads → IsOneOf (Ou
 source_in true rest reads = refl
 source_in false rest reads = absurd (cc)
 
-source_ends : (c : Command) → IsTrue (reads_source (Ok c)) → IsOneOf (OutOfMemory ∷ SinkFailed ∷ ends_of (Ok c)) SourceFailed
-source_ends c reads = source_in (reads_source (Ok c)) _ reads
-
 shelf_in : (reads opens : Bool) (rest : List Status) → IsTrue opens → IsOneOf (OutOfMemory ∷ SinkFailed ∷ ((if reads then SourceFailed ∷ [] else []) ++ ((if opens then ShelfFailed ∷ [] else []) ++ rest))) ShelfFailed
 shelf_in true true rest opens = refl
 shelf_in false true rest opens = refl
 shelf_in reads false rest opens = absurd (cc)
 
-shelf_ends : (c : Command) → IsTrue (opens_shelf (Ok c)) → IsOneOf (OutOfMemory ∷ SinkFailed ∷ ends_of (Ok c)) ShelfFailed
-shelf_ends c opens = shelf_in (reads_source (Ok c)) (opens_shelf (Ok c)) (answers_of c) opens
-
 source_listed : (asked : Result Command WordFault) → IsTrue (reads_source asked) → IsOneOf (OutOfMemory ∷ SinkFailed ∷ ends_of asked) SourceFailed
-source_listed (Ok c) reads = source_ends c reads
+source_listed (Ok c) reads = source_in (reads_source (Ok c)) _ reads
 source_listed (Err fault) reads = absurd (cc)
 
 shelf_listed : (asked : Result Command WordFault) → IsTrue (opens_shelf asked) → IsOneOf (OutOfMemory ∷ SinkFailed ∷ ends_of asked) ShelfFailed
-shelf_listed (Ok c) opens = shelf_ends c opens
+shelf_listed (Ok c) opens = shelf_in (reads_source (Ok c)) (opens_shelf (Ok c)) (answers_of c) opens
 shelf_listed (Err fault) opens = absurd (cc)
 
 -- ---- an answer
 
 -- a command that reads may refuse what is too long
 long_listed : (c : Command) → IsTrue (reads_source (Ok c)) → IsOneOf (answers_of c) TooLong
-long_listed (command.Synth kind word limits root kept) reads = refl
-long_listed command.Check reads = refl
-long_listed (command.Replay number word order) reads = refl
-long_listed (command.Programs number word) reads = refl
 long_listed (command.Family kind size) reads = absurd (cc)
 long_listed (command.Trial n) reads = absurd (cc)
-long_listed (command.Bound kind word limits root all_sets) reads = refl
-long_listed (command.Ordered kind word limits root) reads = refl
-long_listed (command.Degrade group group_word width width_word) reads = refl
 long_listed (command.Json what.Topology point) reads = refl
-long_listed (command.Json what.Report point) reads = refl
-long_listed (command.Json what.Programs point) reads = refl
-long_listed (command.Unjson value) reads = refl
+long_listed _ reads = refl
 
-whole_with : (P : Status → Type 0) (reads : Bool) (bytes : List ℕ) → (IsTrue reads → P TooLong) → With P (whole_text reads bytes)
+pub whole_with : (P : Status → Type 0) (reads : Bool) (bytes : List ℕ) → (IsTrue reads → P TooLong) → With P (whole_text reads bytes)
 whole_with P true bytes h = by_length (nat_lt limit (length bytes))
   where
     by_length : (long : Bool) → With P (refuse long (refused_at TooLong 0 limit))

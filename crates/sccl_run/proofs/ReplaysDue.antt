@@ -10,40 +10,25 @@ use Rattle.report_form.specs.{Numbered.point_at, Reading.report_of}
 use Rattle.report_form.proofs.ReportTaken.{report_take}
 use Rattle.report_laws.proofs.{ReportAgain.report_again, FirstBlamed.first_is_blamed}
 use Rattle.replay_text.specs.Showing.{shown_in, shown_text}
-use Rattle.run_rules.specs.{declared.status.Status.TheVariants.BadReport, Refusals.{Refusal, refused_at, refused_as, refused_word}, Steps.replay_in}
-use Rattle.run_rules.specs.Tasks.{Task, Write, due, limit, replay_asked}
+use Rattle.run_rules.specs.{declared.status.Status.TheVariants.BadReport, Refusals.{Refusal, refused_as, refused_word}, Steps.replay_in}
+use Rattle.run_rules.specs.Tasks.{Task, Write, due, limit}
 use Rattle.report_commands.proofs.Pointed.{no_point, some_point}
 use Rattle.sccl_run.{specs.Laws.{AskReplay, IsRefusedText, IsTextOf}, proofs.Dues.{due_command, short_due}}
-
-module _ (asked : PointWord) (order : Option ℕ) (bytes : List ℕ) where
-  read_as : Result ReportValue (ReportCode × ℕ) → Result Task Refusal
-  read_as x = refused_as BadReport report_number x >>= (λ r. replay_in r asked order)
-
-  -- what is due for a text that is read so
-  replayed_by : (x : Result ReportValue (ReportCode × ℕ)) → report_of bytes ≡ x → replay_asked asked order bytes ≡ read_as x
-  unfolding read_as
-  replayed_by x e = ap read_as e
-
-  replayed_of : (r : ReportValue) → report_of bytes ≡ Ok r → replay_asked asked order bytes ≡ replay_in r asked order
-  unfolding read_as
-  replayed_of r e = replayed_by (Ok r) e
-
-  replayed_refused : (code : ReportCode) (line : ℕ) → report_of bytes ≡ Err (code, line) → replay_asked asked order bytes ≡ Err (refused_at BadReport (report_number code) line)
-  unfolding read_as
-  replayed_refused code line e = replayed_by (Err (code, line)) e
-
--- ---- by the words
 
 module _ (words : List (List ℕ)) (number word : ℕ) (order : Option ℕ) (asks : AskReplay words number word order) (bytes : List ℕ) where
   asked_for : PointWord
   asked_for = record { point = number; word = word }
 
-  due_replayed : length bytes ≤ limit → due words bytes ≡ replay_asked asked_for order bytes
+  -- what is due for a text that is read so
+  abbrev read_as : Result ReportValue (ReportCode × ℕ) → Result Task Refusal
+  read_as x = refused_as BadReport report_number x >>= (λ r. replay_in r asked_for order)
+
+  due_replayed : length bytes ≤ limit → due words bytes ≡ read_as (report_of bytes)
   unfolding asked_for
   due_replayed short = due_command words bytes (command.Replay number word order) asks.is ∙ short_due (command.Replay number word order) bytes short
 
   of_report : (r : ReportValue) → IsTextOf r bytes → due words bytes ≡ replay_in r asked_for order
-  of_report r text = due_replayed text.short ∙ replayed_of asked_for order bytes r (ap report_of text.spelled ∙ report_again r text.valid)
+  of_report r text = due_replayed text.short ∙ ap read_as (ap report_of text.spelled ∙ report_again r text.valid)
 
   pub replayed_is_due : (r : ReportValue) (p : Part × PointValue) → IsTextOf r bytes → point_at r number ≡ Some p → due words bytes ≡ Ok (Write (shown_text number (shown_in r p) order))
   unfolding asked_for
@@ -58,7 +43,7 @@ module _ (words : List (List ℕ)) (number word : ℕ) (order : Option ℕ) (ask
   refused_text (Err (code, line)) e short none = record {
     code = code;
     line = line;
-    due = due_replayed short ∙ replayed_refused asked_for order bytes code line e;
+    due = due_replayed short ∙ ap read_as e;
     first = first_is_blamed bytes code line e;
   }
 

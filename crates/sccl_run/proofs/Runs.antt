@@ -1,11 +1,11 @@
 -- How a run ends, from what its answer says.
-use Rattle.std.proofs.Common.{◌≡◌, ◌≢◌, ◌⊎◌, ◌++◌, ◌+◌, ◌≤◌, ℕ, Bool, true, false, IsTrue, List, length, take, drop, inl, inr, refl, sym, subst, ap, ◌∙◌, arith}
+use Rattle.std.proofs.Common.{◌≡◌, ◌≢◌, ◌⊎◌, ◌++◌, ◌+◌, ◌≤◌, ℕ, Bool, true, false, IsTrue, List, length, take, drop, inl, inr, refl, sym, subst, ◌∙◌, arith}
 use Rattle.std.proofs.lemmas.List.{take_all}
 use Rattle.run_rules.specs.declared.{status.Status.{Status, TheVariants.{OutOfMemory, SourceFailed, SinkFailed, ShelfFailed}}, halt.Halt.Halt}
 use Rattle.run_rules.specs.{declared.halt.Halt.TheVariants.Shelf, Commands.{Ask, reads_source}, Tasks.{limit, due}}
 use Rattle.report_form.specs.Reading.{report_of}
 use Rattle.report_laws.proofs.Readings.{read_by_spelling}
-use Rattle.sccl_run.specs.{inner.Answering.{IsAnswerTo, IsHaltAt, files_of}, TopCall.{CountValue, IsTopCall, IsRun, LeftIsDue, RunValue, ToldValue}}
+use Rattle.sccl_run.specs.{inner.Answering.{IsAnswerTo, IsHaltAt, files_of}, TopCall.{CountValue, IsEnd, IsSilent, IsTopCall, IsRun, LeftIsDue, RunValue, ToldValue}}
 
 -- ---- what is left of the source
 
@@ -23,8 +23,8 @@ module _ (words : List (List ℕ)) (bytes left : List ℕ) where
 -- ---- what is written
 
 -- the text, as it stands in the answer
-pub appended_as : (before now text other : List ℕ) → now ≡ before ++ other → other ≡ text → now ≡ before ++ text
-appended_as before now text other appended same = subst (λ end. now ≡ before ++ end) same appended
+pub appended_as : (before now text other : List ℕ) → now ≡ before ++ other → other ≡ text → now ≡ before ++ take (length text) text
+appended_as before now text other appended same = subst (λ end. now ≡ before ++ end) (same ∙ sym (take_all (length text) text (omega arith))) appended
 
 -- and a part of it, where the sink tells what it took
 pub record IsPart (tells : Bool) (before now text : List ℕ) : Type 0 where
@@ -47,41 +47,14 @@ module _ (x : RunValue) (told : ToldValue) (source sink shelf : CountValue) (Sou
   abbrev Run : Type 0
   Run = IsRun x told source sink shelf SourceStays SinkStays ShelfStays
 
-  -- the answer was written
-  pub run_answered : (text : List ℕ) → Call → Left → IsAnswerTo x.words told.source x.bytes (files_of x told) x.status text → (IsTrue told.sink → x.now ≡ x.before ++ text) → Run
+  run_so : (came : List ℕ) → (IsTrue told.source → Ask reads_source x.words → came ≡ x.bytes) → Call → Left → IsEnd (due x.words came) x told → Run
   unfolding due
-  run_answered text call left to written = record {
-    call = call;
-    left = left;
-    came = to.came;
-    are = to.are;
-    read = report_of;
-    reads = read_by_spelling;
-    end = inl (record { status = x.status; text = text; answer = to.answer; count = length text; stands = inl (refl, omega arith); written = λ told. written told ∙ ap (λ all. x.before ++ all) (sym (take_all (length text) text (omega arith))) });
-  }
+  run_so came are call left end = record { call = call; left = left; came = came; are = are; read = report_of; reads = read_by_spelling; end = end }
 
-  -- a part of it was
-  pub run_cut_off : (status : Status) (text : List ℕ) (count : ℕ) → Call → Left → x.status ≡ SinkFailed → IsAnswerTo x.words told.source x.bytes (files_of x told) status text → (IsTrue told.sink → x.now ≡ x.before ++ take count text) → Run
-  unfolding due
-  run_cut_off status text count call left failed to written = record {
-    call = call;
-    left = left;
-    came = to.came;
-    are = to.are;
-    read = report_of;
-    reads = read_by_spelling;
-    end = inl (record { status = status; text = text; answer = to.answer; count = count; stands = inr failed; written = written });
-  }
+  -- the answer was written, or a part of it
+  pub run_answered : (status : Status) (text : List ℕ) (count : ℕ) → Call → Left → ((x.status ≡ status) × (length text ≤ count)) ⊎ (x.status ≡ SinkFailed) → IsAnswerTo x.words told.source x.bytes (files_of x told) status text → (IsTrue told.sink → x.now ≡ x.before ++ take count text) → Run
+  run_answered status text count call left stands to written = run_so to.came to.are call left (inl (record { status = status; text = text; answer = to.answer; count = count; stands = stands; written = written }))
 
   -- there is none
-  pub run_halted : (halt : Halt) → Call → Left → (x.status ≡ OutOfMemory) ⊎ ((x.status ≡ SourceFailed) ⊎ (x.status ≡ ShelfFailed)) → (x.status ≡ ShelfFailed → halt ≡ Shelf) → IsHaltAt x.words told.source x.bytes (files_of x told) halt → Run
-  unfolding due
-  run_halted halt call left silent same at = record {
-    call = call;
-    left = left;
-    came = at.came;
-    are = at.are;
-    read = report_of;
-    reads = read_by_spelling;
-    end = inr (record { silent = silent; shelf_last = λ e. at.last (same e); leaves = at.leaves });
-  }
+  pub run_halted : (halt : Halt) → Call → Left → IsSilent x.status → (x.status ≡ ShelfFailed → halt ≡ Shelf) → IsHaltAt x.words told.source x.bytes (files_of x told) halt → Run
+  run_halted halt call left silent same at = run_so at.came at.are call left (inr (record { silent = silent; shelf_last = λ e. at.last (same e); leaves = at.leaves }))

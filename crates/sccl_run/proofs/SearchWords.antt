@@ -34,11 +34,7 @@ kind_fits kind = any_named word_of every_kind (word_of kind) ∙ ap is_some (kin
 key_again : (v : Verb) (k : Key) (text : List ℕ) (i : ℕ) (had : List Given) → has_key v k ≡ true → is_given k had ≡ false → fits (key_row k).1 text ≡ true → is_refused v k text ≡ false
     → (refuse (not (has_key v k)) UnknownKey >>= (λ _. refuse (is_given k had) KeyTwice >>= (λ _. refuse (not (fits (key_row k).1 text)) BadValue >>= (λ _. refuse (is_refused v k text) BadValue >>= (λ _. Ok (record { key = k; text = text; word = i } ∷ had))))))
     ≡ Ok (record { key = k; text = text; word = i } ∷ had)
-key_again v k text i had has fresh fit taken =
-    ap (λ b. refuse (not b) UnknownKey >>= (λ _. refuse (is_given k had) KeyTwice >>= (λ _. refuse (not (fits (key_row k).1 text)) BadValue >>= (λ _. refuse (is_refused v k text) BadValue >>= (λ _. Ok (record { key = k; text = text; word = i } ∷ had)))))) has
-    ∙ ap (λ b. refuse b KeyTwice >>= (λ _. refuse (not (fits (key_row k).1 text)) BadValue >>= (λ _. refuse (is_refused v k text) BadValue >>= (λ _. Ok (record { key = k; text = text; word = i } ∷ had))))) fresh
-    ∙ ap (λ b. refuse (not b) BadValue >>= (λ _. refuse (is_refused v k text) BadValue >>= (λ _. Ok (record { key = k; text = text; word = i } ∷ had)))) fit
-    ∙ ap (λ b. refuse b BadValue >>= (λ _. Ok (record { key = k; text = text; word = i } ∷ had))) taken
+key_again v k text i had has fresh fit taken = rw (has, fresh, fit, taken) refl
 
 step : (v : Verb) (had more : List Given) (i : ℕ) (word : List ℕ) (rest : List (List ℕ)) → with_word v had i word ≡ Ok more → given_from v had i (word ∷ rest) ≡ given_from v more (i + 1) rest
 step v had more i word rest e = ap (λ x. at_word i x >>= (λ m. given_from v m (i + 1) rest)) e

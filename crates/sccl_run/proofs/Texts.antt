@@ -25,23 +25,27 @@ has_come words c is tells had None whole longer = let many = too_many tells had 
 
 -- ---- what is answered
 
-module _ (words : List (List ℕ)) (c : Command) (is : command_of words ≡ Ok c) (tells : Bool) (had : List ℕ) (text : Option (Vec ℕ Global)) (here : HasCome words tells had text) (files : FilesValue) (x : Result Answer Halt) where
-  pub answers_words : IfOk x (λ a. IsAnswer (due_for c here.came) files a.status a.text.items) → IfOk x (λ a. IsAnswerTo words tells had files a.status a.text.items)
-  answers_words answers =
-      IfOk-weaker x (λ a. IsAnswer (due_for c here.came) files a.status a.text.items) (λ a. IsAnswerTo words tells had files a.status a.text.items)
-      (λ a answer. record { came = here.came; are = here.are; answer = subst (λ d. IsAnswer d files a.status a.text.items) (sym (due_command words here.came c is)) answer }) answers
+module _ (words : List (List ℕ)) (c : Command) (is : command_of words ≡ Ok c) (tells : Bool) (had : List ℕ) (text : Option (Vec ℕ Global)) (whole : IsTrue tells → IsTrue (reads_source (Ok c)) → IfSome text (λ bytes. bytes.items ≡ had)) (longer : IsTrue tells → IfNone text (limit < length had)) (files : FilesValue) where
+  -- of any bytes that may have come
+  abbrev Came : (List ℕ → Type 0) → Type 0
+  Came P = (came : List ℕ) → IfSome text (λ bytes. came ≡ bytes.items) → IfNone text (limit < length came) → P came
 
-  halts_so : (y : Result Answer Halt) → (y ≡ Err Shelf → (r : Refusal) → due_for c here.came ≡ Err r → ⊥) → (IsTrue files.told → OnErr y (LeavesOff (due_for c here.came) files.before files.after)) → IfErr y (IsHaltAt words tells had files)
-  halts_so (Ok a) last leaves = tt
-  halts_so (Err h) last leaves = record {
+  here : HasCome words tells had text
+  here = has_come words c is tells had text whole longer
+
+  pub answers_words : (x : Result Answer Halt) → Came (λ came. IfOk x (λ a. IsAnswer (due_for c came) files a.status a.text.items)) → IfOk x (λ a. IsAnswerTo words tells had files a.status a.text.items)
+  answers_words x answers =
+      IfOk-weaker x (λ a. IsAnswer (due_for c here.came) files a.status a.text.items) (λ a. IsAnswerTo words tells had files a.status a.text.items)
+      (λ a answer. record { came = here.came; are = here.are; answer = subst (λ d. IsAnswer d files a.status a.text.items) (sym (due_command words here.came c is)) answer }) (answers here.came here.whole here.long)
+
+  pub halts_words : (x : Result Answer Halt) → Came (λ came. x ≡ Err Shelf → (r : Refusal) → due_for c came ≡ Err r → ⊥) → Came (λ came. IsTrue files.told → OnErr x (LeavesOff (due_for c came) files.before files.after)) → IfErr x (IsHaltAt words tells had files)
+  halts_words (Ok a) last leaves = tt
+  halts_words (Err h) last leaves = record {
     came = here.came;
     are = here.are;
-    last = λ e r refused. last (ap Err e) r (sym (due_command words here.came c is) ∙ refused);
-    leaves = λ told. subst (λ d. LeavesOff d files.before files.after) (sym (due_command words here.came c is)) (leaves told);
+    last = λ e r refused. last here.came here.whole here.long (ap Err e) r (sym (due_command words here.came c is) ∙ refused);
+    leaves = λ told. subst (λ d. LeavesOff d files.before files.after) (sym (due_command words here.came c is)) (leaves here.came here.whole here.long told);
   }
-
-  pub halts_words : (x ≡ Err Shelf → (r : Refusal) → due_for c here.came ≡ Err r → ⊥) → (IsTrue files.told → OnErr x (LeavesOff (due_for c here.came) files.before files.after)) → IfErr x (IsHaltAt words tells had files)
-  halts_words = halts_so x
 
 -- nothing was done before the source failed or memory ran out
 pub halts_before : (words : List (List ℕ)) (tells : Bool) (had : List ℕ) (files : FilesValue) (x : Result Answer Halt) → FilesStay files.before files.after → (x ≡ Err Shelf → ⊥) → IfErr x (IsHaltAt words tells had files)

@@ -17,14 +17,11 @@ use Rattle.frontier_audit.specs.OwedFiles.{Proves}
 use Rattle.run_rules.specs.{declared.status.Status.{Status, TheVariants.{OutOfMemory, SourceFailed, SinkFailed, ShelfFailed, BadReport}}, Commands.{Ask, reads_source}, Tasks.{Synthesise, due, limit}}
 use Rattle.run_rules.specs.{Refusals.{refusal_line, refused_at}, Answers.IsSearch}
 use Rattle.sccl_run.specs.{Laws.IsRightRun, Rows.{all_tell, done_search, failed_search, no_files, own_file, refused_check}, inner.Answering.files_of}
-use Rattle.sccl_run.specs.TopCall.{CountValue, IsEnd, IsSilent}
-use Rattle.sccl_run.proofs.{Ended.ended, FamilyRuns.differ, RightRuns.{answered, done_answered}}
+use Rattle.sccl_run.specs.TopCall.{CountValue, IsEnd}
+use Rattle.sccl_run.proofs.{Calls.spoken, Ended.ended, FamilyRuns.differ, RightRuns.{answered, done_answered}}
 
 some_name : ProofName
 some_name = record { kind = Cnf; part = Whole; s = 1; r = 1; c = 1 }
-
-something_there : (A : Type 0) (x : A) → Some x ≡ None → ⊥
-something_there A x e = absurd (cc)
 
 -- ---- a search that breaks off
 
@@ -40,8 +37,6 @@ unread_is_wrong a b c run = none-some _ (run.call.behind_source refl some_name)
 
 -- no file of the part that is joined belongs to a report of one part
 of_one_part : (q : Part → QuestionValue) (xs : List (Part × FrontierValue)) → map (λ x. x.0) xs ≡ Whole ∷ [] → Any (λ x. (x.0 ≡ Joined) × HasOwnFiles (q x.0) x.1 (record { s = 1; r = 1; c = 1 })) xs → ⊥
-of_one_part q [] e any = absurd (cc)
-of_one_part q (x ∷ y ∷ xs) e any = absurd (cc)
 of_one_part q (x ∷ []) e (zero, y, below, got, such) =
     let whole : x.0 ≡ Whole = cc in
     let same : x ≡ y = got in
@@ -49,6 +44,7 @@ of_one_part q (x ∷ []) e (zero, y, below, got, such) =
     let clash : Whole ≡ Joined = sym whole ∙ joined in
     absurd (cc)
 of_one_part q (x ∷ []) e (suc k, y, below, got, such) = absurd (omega (arith, below))
+of_one_part q xs e any = absurd (cc)
 
 joined_name : ProofName
 joined_name = record { kind = Cnf; part = Joined; s = 1; r = 1; c = 1 }
@@ -77,11 +73,6 @@ is_refused : due (refused_check []).words (refused_check []).bytes ≡ Err (refu
 unfolding due command_of report_of body_of digits
 is_refused = refl
 
-loud : IsSilent BadReport → ⊥
-loud (inl e) = absurd (cc)
-loud (inr (inl e)) = absurd (cc)
-loud (inr (inr e)) = absurd (cc)
-
 line : refusal_line (refused_at BadReport 1 1) ≡ codes "refused 7 1 1\n"
 unfolding digits
 line = refl
@@ -89,7 +80,7 @@ line = refl
 pub other_place_is_wrong : (a b c : CountValue) → IsRightRun (record (refused_check []) { now = codes "refused 7 1 2\n" }) a b c → ⊥
 other_place_is_wrong a b c run =
     let x = record (refused_check []) { now = codes "refused 7 1 2\n" } in
-    let end = answered (Err (refused_at BadReport 1 1)) x (ended x a b c _ run is_refused) (λ e. let f : BadReport ≡ SinkFailed = e in cc) loud in
+    let end = answered (Err (refused_at BadReport 1 1)) x (ended x a b c _ run is_refused) (λ e. let f : BadReport ≡ SinkFailed = e in cc) (spoken BadReport (λ e. cc) (λ e. cc) (λ e. cc)) in
     differ (bytes_eq (codes "refused 7 1 2\n")) (codes "refused 7 1 2\n") (codes "refused 7 1 1\n") refl refl (end.written refl ∙ end.answer.says.text ∙ line)
 
 check_reads : (left : List ℕ) → Ask reads_source (refused_check left).words
@@ -103,24 +94,18 @@ untaken_is_wrong a b c byte rest run =
     absurd (cc)
 
 pub changed_file_is_wrong : (a b c : CountValue) → IsRightRun (record (refused_check []) { files_after = λ name. Some [] }) a b c → ⊥
-changed_file_is_wrong a b c run = something_there _ _ (run.call.behind_refusals refl some_name)
+changed_file_is_wrong a b c run = none-some _ (sym (run.call.behind_refusals refl some_name))
 
 pub blamed_shelf_is_wrong : (a b c : CountValue) → IsRightRun (record (refused_check []) { status = ShelfFailed; now = [] }) a b c → ⊥
 blamed_shelf_is_wrong a b c run =
     let x = record (refused_check []) { status = ShelfFailed; now = [] } in
     elim (ended x a b c (Err (refused_at BadReport 1 1)) run is_refused) [
       | inl end ↦ elim end.stands [
-        | inl (same, all) ↦ other_status (same ∙ end.answer.says.status)
-        | inr failed ↦ not_cut failed
+        | inl (same, all) ↦ let e : ShelfFailed ≡ BadReport = same ∙ end.answer.says.status in cc
+        | inr failed ↦ let e : ShelfFailed ≡ SinkFailed = failed in cc
       ]
       | inr halt ↦ halt.shelf_last refl (refused_at BadReport 1 1) refl
     ]
-  where
-    other_status : ShelfFailed ≡ BadReport → ⊥
-    other_status e = absurd (cc)
-
-    not_cut : ShelfFailed ≡ SinkFailed → ⊥
-    not_cut e = absurd (cc)
 
 -- ---- a search that ends well
 

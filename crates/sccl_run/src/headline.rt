@@ -38,6 +38,7 @@ pub fn what_other_searches_print_is_true()
 {}
 
 /// Some search is asked for: that of a broadcast from the first of two nodes.
+#[tactic(auto, using(crate::proofs::Printed::small_asks))]
 pub fn a_small_search_is_asked_for()
     ensures { AsksSynth false (search (codes "collective=broadcast") (codes "root=n0" ∷ [])) two_nodes_text broadcast_report.words broadcast_report.topology }
 {}

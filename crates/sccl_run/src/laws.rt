@@ -51,6 +51,7 @@ pub fn what_a_search_wrote_is_verified()
 /// What is due for the words of a replay: where the bytes are the text of a valid report, that its
 /// point is replayed where there is one; and where they are that of none, a refusal at the first
 /// line at which they can no longer be one.
+#[tactic(auto, using(crate::proofs::ReplaysDue::no_report_is_refused, crate::proofs::ReplaysDue::replayed_is_due, crate::proofs::ReplaysDue::unknown_is_due))]
 pub fn replays_are_due()
     ensures replayed { (words : List (List ℕ)) (number word : ℕ) (order : Option ℕ) → AskReplay words number word order → (bytes : List ℕ) (r : ReportValue) (p : Part × PointValue)
         → IsTextOf r bytes → point_at r number ≡ Some p → due words bytes ≡ Ok (Write (shown_text number (shown_in r p) order)) }

@@ -1,7 +1,7 @@
 use Rattle.std.proofs.Common.{rules, refl, sym, ◌∙◌}
 use Rattle.command_words.specs.Words.{texts}
 use Rattle.run_rules.specs.Commands.{opens_shelf, reads_source}
-use Rattle.sccl_run.proofs.{Dues.{asks, asks_no_reading, refused_asks_nothing}, Texts.{HasCome, answers_words, halts_before, halts_words, has_come, refused_words}}
+use Rattle.sccl_run.proofs.{Dues.{asks, asks_no_reading, refused_asks_nothing}, Texts.{answers_words, halts_before, halts_words, refused_words}}
 use Rattle.sccl_run.proofs.toplevel.answer.Goals as goal
 
 pub returns-in_err-text-in-Ok-clause-halts : goal.returns-in_err-text-in-Ok-clause-halts
@@ -10,24 +10,13 @@ returns-in_err-text-in-Ok-clause-halts g c =
 
 pub returns-in_ok-text-in-Ok-clause-answers : goal.returns-in_ok-text-in-Ok-clause-answers
 returns-in_ok-text-in-Ok-clause-answers g c =
-    let words = texts c.args.words.now in
-    let is = sym c.in-Ok.ensures.read in
-    let text = c.in_ok-text-in-Ok.text in
-    let tells = g.I.Source.tells c.source_text.new.source in
-    let had = g.I.Source.left c.args.source.now in
-    let here : HasCome words tells had text = has_come words c.in-Ok.command is tells had text (λ told reads. c.in_ok-text-in-Ok.ensures.whole told (c.reads_source.ensures ∙ reads)) c.in_ok-text-in-Ok.ensures.longer in
-    answers_words words c.in-Ok.command is tells had text here _ c.text_answer.result (c.text_answer.ensures.answers here.came here.whole here.long)
+    answers_words (texts c.args.words.now) c.in-Ok.command (sym c.in-Ok.ensures.read) (g.I.Source.tells c.source_text.new.source) (g.I.Source.left c.args.source.now) c.in_ok-text-in-Ok.text
+    (λ told reads. c.in_ok-text-in-Ok.ensures.whole told (c.reads_source.ensures ∙ reads)) c.in_ok-text-in-Ok.ensures.longer _ c.text_answer.result c.text_answer.ensures.answers
 
 pub returns-in_ok-text-in-Ok-clause-halts : goal.returns-in_ok-text-in-Ok-clause-halts
 returns-in_ok-text-in-Ok-clause-halts g c =
-    let words = texts c.args.words.now in
-    let is = sym c.in-Ok.ensures.read in
-    let text = c.in_ok-text-in-Ok.text in
-    let tells = g.I.Source.tells c.source_text.new.source in
-    let had = g.I.Source.left c.args.source.now in
-    let here : HasCome words tells had text = has_come words c.in-Ok.command is tells had text (λ told reads. c.in_ok-text-in-Ok.ensures.whole told (c.reads_source.ensures ∙ reads)) c.in_ok-text-in-Ok.ensures.longer in
-    halts_words words c.in-Ok.command is tells had text here _ c.text_answer.result
-    (c.text_answer.ensures.last here.came here.whole here.long) (c.text_answer.ensures.leaves here.came here.whole here.long)
+    halts_words (texts c.args.words.now) c.in-Ok.command (sym c.in-Ok.ensures.read) (g.I.Source.tells c.source_text.new.source) (g.I.Source.left c.args.source.now) c.in_ok-text-in-Ok.text
+    (λ told reads. c.in_ok-text-in-Ok.ensures.whole told (c.reads_source.ensures ∙ reads)) c.in_ok-text-in-Ok.ensures.longer _ c.text_answer.result c.text_answer.ensures.last c.text_answer.ensures.leaves
 
 pub returns-in_ok-text-in-Ok-clause-unread : goal.returns-in_ok-text-in-Ok-clause-unread
 returns-in_ok-text-in-Ok-clause-unread g c = λ none.

@@ -1,22 +1,20 @@
-use Rattle.std.proofs.Common.{Err, ap, inl, inr, refl}
+use Rattle.std.proofs.Common.{Err, ap, arith, inl, inr, refl}
 use Rattle.command_words.specs.Words.{command_of, texts}
 use Rattle.run_rules.specs.declared.status.Status.TheVariants.{ShelfFailed, SinkFailed}
 use Rattle.sccl_run.proofs.Calls.{call_answered, call_cut_off, call_unread, call_unshelved, call_without_memory, given}
-use Rattle.sccl_run.proofs.Runs.{appended_as, left_read, left_unread, left_without_memory, part_of, run_answered, run_cut_off, run_halted}
+use Rattle.sccl_run.proofs.Runs.{appended_as, left_read, left_unread, left_without_memory, part_of, run_answered, run_halted}
 use Rattle.sccl_run.proofs.toplevel.run.Goals as goal
 
 pub returns-in-Ok-write_all-clause-run : goal.returns-in-Ok-write_all-clause-run
 returns-in-Ok-write_all-clause-run g c =
     let words = texts c.args.words.now in
     let a = c.in-Ok.ensures in
-    let before = g.O.Sink.written c.args.sink.now in
-    let now = g.O.Sink.written c.write_all.new.sink in
     let is = given (command_of words) c.in-Ok.answer.status a.ends in
-    run_answered _ _ _ _ _ _ _ _ c.in-Ok.answer.text.items
+    run_answered _ _ _ _ _ _ _ _ c.in-Ok.answer.status c.in-Ok.answer.text.items _
     (call_answered words _ _ _ _ _ _ c.in-Ok.answer.status a.ends (a.cause.stays (λ e. cc)) (c.in-Ok-write_all.ensures.cause.stays (λ e. cc)) (a.shelf_cause.stays (λ e. cc)) a.unread a.unopened a.behind_refusals)
     (λ told. left_read words _ _ c.in-Ok.answer.status is.memory is.source (a.read told))
-    a.answers
-    (λ told. appended_as before now c.in-Ok.answer.text.items _ (c.in-Ok-write_all.ensures.whole told) c.deref.ensures.value)
+    (inl (refl, omega arith)) a.answers
+    (λ told. appended_as _ _ c.in-Ok.answer.text.items _ (c.in-Ok-write_all.ensures.whole told) c.deref.ensures.value)
 
 pub returns-in-Ok-clause-run : goal.returns-in-Ok-clause-run
 returns-in-Ok-clause-run g c =
@@ -25,10 +23,10 @@ returns-in-Ok-clause-run g c =
     let before = g.O.Sink.written c.args.sink.now in
     let now = g.O.Sink.written c.write_all.new.sink in
     let part = part_of (g.O.Sink.tells c.write_all.new.sink) before now c.in-Ok.answer.text.items _ c.deref.ensures.value c.in-Err.ensures.prefix in
-    run_cut_off _ _ _ _ _ _ _ _ c.in-Ok.answer.status c.in-Ok.answer.text.items part.count
+    run_answered _ _ _ _ _ _ _ _ c.in-Ok.answer.status c.in-Ok.answer.text.items part.count
     (call_cut_off words _ _ _ _ _ _ (a.cause.stays (λ e. cc)) (c.in-Err.ensures.cause.rose refl) (a.shelf_cause.stays (λ e. cc)) a.unread a.unopened)
     (λ told. left_read words _ _ SinkFailed (λ e. cc) (λ e. cc) (a.read told))
-    refl a.answers part.written
+    (inr refl) a.answers part.written
 
 pub returns-in-Err-Memory-clause-run : goal.returns-in-Err-Memory-clause-run
 returns-in-Err-Memory-clause-run g c =
