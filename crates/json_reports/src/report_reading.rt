@@ -1,9 +1,8 @@
 //! The lines that a report's JSON stands for.
 
-ghost use Rattle.std.specs.Prelude.{◌≡◌, [], ◌∷◌, option_map, codes, is_some};
-ghost use Rattle.text_lines.specs.Text.{text_of};
+ghost use Rattle.std.specs.Prelude.{◌≡◌, [], ◌∷◌, codes, is_some};
 ghost use Rattle.serde_json.specs.{Find.get, View.view};
-ghost use Rattle.json_values.specs.{Shape.field, Appends.Appends, Forms.{says_word, word}};
+ghost use Rattle.json_values.specs.{Shape.field, Forms.{says_word, word}};
 ghost use Rattle.json_rules.specs.{ReportForm.{send, point, frontier, kinds, words}, ReportJson.report_in};
 
 use json_values::{

@@ -1,7 +1,7 @@
 //! Small reports as JSON.
 #![tactic(auto, unfolding(crate::proofs::OnLiterals::report_json_on_literals))]
 
-ghost use Rattle.std.specs.Prelude.{◌≡◌, true, false, ◌∷◌, [], codes, Ok, Err};
+ghost use Rattle.std.specs.Prelude.{◌≡◌, true, false, [], codes, Ok, Err};
 ghost use Rattle.report_form.specs.Rows.{broadcast_report, allreduce_report, pruned_report};
 ghost use Rattle.json_values.specs.{declared.fault.JsonCode.JsonCode, Json.printed};
 ghost use Rattle.json_rules.specs.{ReportJson.report_json, Answer.report_of_json};

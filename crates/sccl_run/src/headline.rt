@@ -1,6 +1,6 @@
 //! What is printed is right, in words that speak of no port, file, formula, proof or reading.
 
-ghost use Rattle.std.specs.Prelude.{◌≡◌, ◌∷◌, ◌++◌, ℕ, Bool, List, [], codes, false};
+ghost use Rattle.std.specs.Prelude.{◌≡◌, ◌∷◌, ◌++◌, ℕ, Bool, [], codes, false};
 ghost use Rattle.topology_text.specs.Value.{NamedTopologyValue};
 ghost use Rattle.report_form.specs.{Reports.{IsReport, ReportValue, WordsValue}, Rows.broadcast_report, Spelling.report_text};
 ghost use Rattle.frontier_audit.specs.Rights.{IsRight};
