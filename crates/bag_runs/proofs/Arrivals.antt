@@ -1,8 +1,7 @@
 -- What the sends of one step bring to a chunk of a node, and in which order.
-use Rattle.std.proofs.Common.{◌≡◌, ℕ, ◌≤◌, Bool, true, false, ◌&&◌, cond, max, List, [], ◌∷◌, map, refl, ap, ◌∙◌, arith, filter, fold, not, nat_le}
-use Rattle.std.{specs.List.{AllByRecursion, reduce}, proofs.lemmas.Bool.{Decides.nat_tests, and_parts, eqb-true}}
-use Rattle.schedule.specs.{declared.hop.Hop.Hop, Sends.hop_before, Bags.{Bag, Bags, held_at_2, is_empty}, Summing.{goes_to, summed_step}}
-use Rattle.schedule.specs.JoinedRuns.{copied_step, joined_step, replaced}
+use Rattle.std.proofs.{Common.{◌≡◌, ℕ, ◌≤◌, Bool, true, false, ◌&&◌, cond, max, List, [], ◌∷◌, map, refl, ap, ◌∙◌, arith, filter, fold, not, nat_le}, lemmas.Bool.{Decides.nat_tests, and_parts, eqb-true}}
+use Rattle.std.specs.List.{AllByRecursion, reduce}
+use Rattle.schedule.specs.{declared.hop.Hop.Hop, Sends.hop_before, Bags.{Bag, Bags, held_at_2, is_empty}, Summing.{goes_to, summed_step}, JoinedRuns.{copied_step, joined_step, replaced}}
 use Rattle.schedule.proofs.First.{InOrder, InOrder-filter, each_filter, each_passes}
 use Rattle.bag_runs.specs.declared.mode.Mode.TheVariants as mode
 use Rattle.bag_runs.{specs.Stores.{received, mode_at}, proofs.Merging.{Rises, adds_held, copied, copies_held}}

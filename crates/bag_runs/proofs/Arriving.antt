@@ -1,14 +1,10 @@
 -- A step of a store: its sends arrive one after the other.
-use Rattle.std.proofs.Common.{◌≡◌, ℕ, ◌+◌, ◌*◌, ◌<◌, ◌≤◌, Bool, true, false, ◌&&◌, cond, eqb, List, [], ◌∷◌, ◌++◌, length, get_or, take, inl, inr, refl, sym, ap, ◌∙◌, arith, filter, fold}
-use Rattle.std.{specs.List.AllByRecursion, proofs.lemmas.{Bool.{and_from, eq-eqb}, List.{length-set, take_all, take_more}}}
-use Rattle.std.proofs.lemmas.List.Elements.{All-filter, All-same, recursion_from_All}
-use Rattle.std.proofs.Math.Bool.{and-false}
-use Rattle.schedule.specs.{declared.hop.Hop.Hop, Sends.{IsInRange, IsSchedule, ScheduleValue, hop_before, is_hop_below}, Placed.same_pair, Summing.goes_to}
-use Rattle.schedule.specs.{Bags.{Bag, Bags, held_at_2}, JoinedRuns.joined_step}
+use Rattle.std.proofs.{Common.{◌≡◌, ℕ, ◌+◌, ◌*◌, ◌<◌, ◌≤◌, Bool, true, false, ◌&&◌, cond, eqb, List, [], ◌∷◌, ◌++◌, length, get_or, take, inl, inr, refl, sym, ap, ◌∙◌, arith, filter, fold}, lemmas.Bool.{and_from, eq-eqb}}
+use Rattle.std.{proofs.{lemmas.List.{length-set, take_all, take_more, Elements.{All-filter, All-same, recursion_from_All}}, Math.Bool.and-false}, specs.List.AllByRecursion}
+use Rattle.schedule.specs.{declared.hop.Hop.Hop, Sends.{IsInRange, IsSchedule, ScheduleValue, hop_before, is_hop_below}, Placed.same_pair, Summing.goes_to, Bags.{Bag, Bags, held_at_2}, JoinedRuns.joined_step}
 use Rattle.schedule.proofs.{First.{InOrder-from_pairs, each_filter, each_weaker}, Joining.{IsHopBelow, hop_below}}
 use Rattle.bag_runs.specs.{declared.mode.Mode.Mode, Stores.{mode_at, StoreValue, bag_in, received, stored, with_bag}}
-use Rattle.bag_runs.proofs.{Arrivals.{filter_both, fold_alike, merges}, Cells.{cell_below, cell_beside, cell_here, differ, same_or_not}}
-use Rattle.bag_runs.proofs.Tables.{same_table, table_cell, table_length}
+use Rattle.bag_runs.proofs.{Arrivals.{filter_both, fold_alike, merges}, Cells.{cell_below, cell_beside, cell_here, differ, same_or_not}, Tables.{same_table, table_cell, table_length}}
 
 module _ (how : Mode) (before : StoreValue) where
   -- what a send brings, of the bags before the step

@@ -1,11 +1,8 @@
 -- Where every step copies, the bags of a placement stay those of what is held.
-use Rattle.std.proofs.Common.{◌≡◌, ℕ, zero, suc, ◌+◌, ◌<◌, Bool, true, false, not, ◌&&◌, ◌||◌, cond, List, [], ◌∷◌, map, refl, sym, ap, ◌∙◌, arith, filter, max}
-use Rattle.std.{specs.List.{AllByRecursion, list_any, range_with_len, reduce}}
-use Rattle.std.proofs.lemmas.List.Elements.{recursion_from_All}
-use Rattle.schedule.specs.{declared.hop.Hop.Hop, Sends.{ScheduleValue, IsInRange, is_hop_below}, Placed.{PlacementValue, holds}, Summing.goes_to}
-use Rattle.schedule.specs.{Running.{after, brings}, Bags.{Bag, Bags, empty_bag, is_empty, of_placement, one_of}}
-use Rattle.schedule.specs.JoinedRuns.{copied_step, joined_after, replaced}
-use Rattle.schedule.proofs.{First.each_weaker, Joining.{IsHopBelow, hop_below}, Placing.{filter_alike, holds-placed}, Stepping.{chunks-after, nodes-after}}
+use Rattle.std.proofs.{Common.{◌≡◌, ℕ, zero, suc, ◌+◌, ◌<◌, Bool, true, false, not, ◌&&◌, ◌||◌, cond, List, [], ◌∷◌, map, refl, sym, ap, ◌∙◌, arith, filter, max}, lemmas.List.Elements.recursion_from_All}
+use Rattle.std.specs.List.{AllByRecursion, list_any, range_with_len, reduce}
+use Rattle.schedule.specs.{declared.hop.Hop.Hop, Sends.{ScheduleValue, IsInRange, is_hop_below}, Placed.{PlacementValue, holds}, Summing.goes_to, Running.{after, brings}, Bags.{Bag, Bags, empty_bag, is_empty, of_placement, one_of}}
+use Rattle.schedule.{specs.JoinedRuns.{copied_step, joined_after, replaced}, proofs.{First.each_weaker, Joining.{IsHopBelow, hop_below}, Placing.{filter_alike, holds-placed}, Stepping.{chunks-after, nodes-after}}}
 use Rattle.bag_runs.proofs.JoinedSteps.{greatest_has, step_copies}
 
 -- ---- which bags of a placement are empty

@@ -1,7 +1,6 @@
 -- Bags with places for 16 counts, and the counts of so many nodes that they stand for.
 use Rattle.std.proofs.Common.{◌≡◌, ℕ, zero, suc, ◌+◌, ◌<◌, ◌≤◌, Bool, true, ◌&&◌, cond, eqb, min, List, [], ◌∷◌, length, map, get_or, take, refl, sym, ap, ◌∙◌, arith, inl, inr, get_or-set_same, get_or-set_other}
-use Rattle.std.{specs.List.{list_all, range_with_len}, proofs.lemmas.{Bool.{cases_lt, eq-eqb}, List.{get_or_past, get_or-replicate, take_all}}}
-use Rattle.std.proofs.lemmas.List.FromFn.{get_or-map-range_with_len}
+use Rattle.std.{proofs.lemmas.{Bool.{cases_lt, eq-eqb}, List.{get_or_past, get_or-replicate, take_all, FromFn.get_or-map-range_with_len}}, specs.List.{list_all, range_with_len}}
 use Rattle.schedule.specs.Bags.{added, empty_bag, held_at_2, is_empty, one_of}
 use Rattle.bag_runs.{specs.Kept.{IsHeld, counted, counts_of, no_counts}, proofs.Cells.{differ, same_or_not}}
 

@@ -1,6 +1,5 @@
 -- Steps of joined runs: one that adds, one that copies, and what the greatest of its senders has.
-use Rattle.std.proofs.Common.{◌≡◌, ℕ, zero, suc, ◌+◌, ◌<◌, ◌≤◌, ◌⊎◌, List, [], ◌∷◌, refl, arith, fold, max}
-use Rattle.std.{specs.List.{AllByRecursion, reduce}}
+use Rattle.std.{proofs.Common.{◌≡◌, ℕ, zero, suc, ◌+◌, ◌<◌, ◌≤◌, ◌⊎◌, List, [], ◌∷◌, refl, arith, fold, max}, specs.List.{AllByRecursion, reduce}}
 use Rattle.schedule.specs.{Sends.ScheduleValue, Bags.{Bag, Bags}, Summing.summed_step, JoinedRuns.{copied_step, joined_after, replaced}}
 use Rattle.bag_runs.specs.Throughout.{AddsThroughout}
 

@@ -1,6 +1,5 @@
 -- Takes of one step, one after the other, on bags with counts held at 2: what they add, and what they copy.
-use Rattle.std.proofs.{Common.{◌≡◌, ℕ, ◌+◌, ◌≤◌, Bool, ◌&&◌, cond, eqb, min, max, List, [], ◌∷◌, map, refl, sym, ap, ◌∙◌, arith, filter, fold, not}, lemmas.Bool.Decides.nat_tests}
-use Rattle.std.specs.List.{AllByRecursion, reduce}
+use Rattle.std.{proofs.{Common.{◌≡◌, ℕ, ◌+◌, ◌≤◌, Bool, ◌&&◌, cond, eqb, min, max, List, [], ◌∷◌, map, refl, sym, ap, ◌∙◌, arith, filter, fold, not}, lemmas.Bool.Decides.nat_tests}, specs.List.{AllByRecursion, reduce}}
 use Rattle.schedule.specs.{declared.hop.Hop.Hop, Bags.{Bag, Bags, added, held_at_2, is_empty}, JoinedRuns.replaced}
 
 -- ---- counts held at 2

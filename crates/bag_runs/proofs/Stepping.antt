@@ -1,6 +1,5 @@
 -- The stores of a run step by step.
-use Rattle.std.{proofs.Common.{◌≡◌, ℕ, ◌+◌, List, [], ◌∷◌, ◌++◌, length, map, refl, sym, ◌∙◌, arith}, specs.List.range_with_len}
-use Rattle.std.proofs.lemmas.{List.FromFn.map-range_with_len_more, Simd.map-map}
+use Rattle.std.{proofs.{Common.{◌≡◌, ℕ, ◌+◌, List, [], ◌∷◌, ◌++◌, length, map, refl, sym, ◌∙◌, arith}, lemmas.{List.FromFn.map-range_with_len_more, Simd.map-map}}, specs.List.range_with_len}
 use Rattle.schedule.specs.{Bags.Bags, Sends.{IsInRange, ScheduleValue}, JoinedRuns.{joined_after, joined_run, joined_step}}
 use Rattle.bag_runs.specs.Stores.{StoreValue, stored}
 

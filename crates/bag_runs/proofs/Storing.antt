@@ -1,7 +1,6 @@
 -- Stores as lists of bags, a row of nodes for each chunk.
-use Rattle.std.proofs.Common.{◌≡◌, ℕ, ◌+◌, ◌*◌, ◌/◌, ◌%◌, ◌<◌, ◌≤◌, Bool, true, false, cond, eqb, List, [], ◌∷◌, length, map, get_or, set, refl, sym, ap, ◌∙◌, arith}
-use Rattle.std.{specs.List.range_with_len, proofs.lemmas.{List.Elements.{All-from_recursion, All-set, recursion_from_All}, Nat.{div-mul-add, mod-mul-add, mul-add-lt}}}
-use Rattle.std.proofs.lemmas.List.{get_or-map, length-map, length-set, map-set, FromFn.{get_or-map-range_with_len, length-map-range_with_len}}
+use Rattle.std.proofs.{Common.{◌≡◌, ℕ, ◌+◌, ◌*◌, ◌/◌, ◌%◌, ◌<◌, ◌≤◌, Bool, true, false, cond, eqb, List, [], ◌∷◌, length, map, get_or, set, refl, sym, ap, ◌∙◌, arith}, lemmas.List.Elements.{All-from_recursion, All-set, recursion_from_All}}
+use Rattle.std.{proofs.lemmas.{Nat.{div-mul-add, mod-mul-add, mul-add-lt}, List.{get_or-map, length-map, length-set, map-set, FromFn.{get_or-map-range_with_len, length-map-range_with_len}}}, specs.List.range_with_len}
 use Rattle.schedule.specs.{Placed.{PlacementValue, holds}, Bags.{Bag, contributions, empty_bag, held_at_2, of_placement, one_of}}
 use Rattle.bag_runs.specs.{declared.mode.Mode.Mode, Stores.{StoreValue, bag_in, bags_in, received, stored, with_bag}, Kept.{IsFilled, IsHeld, IsStore, counted, counts_of, counts_where}}
 use Rattle.bag_runs.proofs.{Tables.{column_below, same_table}, Counting.{counted_none, counted_one, few, held_one, none_at}}

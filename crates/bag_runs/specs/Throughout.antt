@@ -1,7 +1,6 @@
 -- Joined runs in which every step copies, and those in which every step adds (this project's own).
 use Rattle.std.specs.Prelude.{◌≡◌, ℕ, ◌<◌, ◌≤◌, not}
-use Rattle.schedule.specs.{Sends.{IsInRange, ScheduleValue}, Placed.{PlacementValue, holds}, Running.after, Bags.{Bags, is_empty, of_placement}}
-use Rattle.schedule.specs.{Summing.bags_after, JoinedRuns.joined_after}
+use Rattle.schedule.specs.{Sends.{IsInRange, ScheduleValue}, Placed.{PlacementValue, holds}, Running.after, Bags.{Bags, is_empty, of_placement}, Summing.bags_after, JoinedRuns.joined_after}
 
 -- from a placement, without a step that adds, each bag stays that of the run of the placement
 abbrev pub CopiesThroughout : Type 0

@@ -1,6 +1,5 @@
 -- Chunks that are alike: the test decides an equivalence, and chunks that are alike have one watch node.
-use Rattle.std.proofs.Common.{◌≡◌, ℕ, zero, suc, ◌+◌, ◌<◌, ◌≤◌, Bool, true, Some, refl, sym, ap, ◌∙◌, arith, ◌&&◌, not, find}
-use Rattle.std.{specs.{Cmp.booleans_Decides, List.{list_all, range_with_len}}, proofs.lemmas.Bool.{and_parts, and_from}}
+use Rattle.std.{proofs.{Common.{◌≡◌, ℕ, zero, suc, ◌+◌, ◌<◌, ◌≤◌, Bool, true, Some, refl, sym, ap, ◌∙◌, arith, ◌&&◌, not, find}, lemmas.Bool.{and_parts, and_from}}, specs.{Cmp.booleans_Decides, List.{list_all, range_with_len}}}
 use mathlib.Core.Bool.{beq}
 use Rattle.schedule.specs.Placed.{PlacementValue, holds, lacks}
 use Rattle.chunk_order.specs.Alike.{stand_alike, is_alike, watch_node}

@@ -1,11 +1,8 @@
 -- The clauses of the order hold exactly where, after each step, of two chunks that are alike the first is at the watch node where the second is.
-use Rattle.std.{proofs.Common.{◌≡◌, ℕ, ◌<◌, Bool, true, List, [], ◌∷◌, Some, None, refl, sym, ap, ◌∙◌, arith, Option, filter, flat_map}, specs.List.{AllByRecursion, range_with_len}}
-use Rattle.std.proofs.lemmas.List.Elements.{recursion_from_All}
+use Rattle.std.{proofs.{Common.{◌≡◌, ℕ, ◌<◌, Bool, true, List, [], ◌∷◌, Some, None, refl, sym, ap, ◌∙◌, arith, Option, filter, flat_map}, lemmas.List.Elements.recursion_from_All}, specs.List.{AllByRecursion, range_with_len}}
 use Rattle.schedule.{specs.{Placed.PlacementValue, Sends.IsStep}, proofs.First.each_weaker}
 use Rattle.cnf_formula.specs.Literals.{LitValue, negation, is_true, clause_holds, all_hold}
-use Rattle.send_encoding.specs.Variables.{SendMapValue, steps_of, arrival}
-use Rattle.send_encoding.proofs.{Everywhere.{by_recursion, From, in_range}, Complete.{passes_flat, passes_map, if_true}}
-use Rattle.send_encoding.proofs.Sound.{flat_passes, map_passes, at_range, said_if}
+use Rattle.send_encoding.{specs.Variables.{SendMapValue, steps_of, arrival}, proofs.{Everywhere.{by_recursion, From, in_range}, Complete.{passes_flat, passes_map, if_true}, Sound.{flat_passes, map_passes, at_range, said_if}}}
 use Rattle.chunk_order.specs.{Alike.{is_alike, watch_node}, Ordering.{is_least, class_of, next_pairs, pair_in_order, class_in_order, order_clauses}}
 use Rattle.chunk_order.proofs.{Alikeness.{alike_back, alike_both, watch_alike}, Classes.{IsNext, Leads, leads, nexts_of_class, filter_at, chained, later_at}}
 

@@ -1,11 +1,9 @@
 -- Classes of chunks that are alike: each has a least chunk, and its chunks ascend.
 use Rattle.std.proofs.Common.{◌≡◌, ℕ, zero, suc, ◌+◌, ◌-◌, ◌<◌, ◌≤◌, Bool, true, false, ltb, List, [], ◌∷◌, get_or, refl, sym, ap, ◌∙◌, subst, ⊎_elim, arith, filter}
+use Rattle.std.proofs.lemmas.{Bool.{false≢true, cases_Bool, cases_eq, false_from_ne_true, not_from_false, ltb-true, lt-ltb}, List.FromFn.{length-range_with_len, get_or-range_with_len}}
 use Rattle.std.specs.List.{list_any, range_with_len, AllByRecursion}
-use Rattle.std.proofs.lemmas.Bool.{false≢true, cases_Bool, cases_eq, false_from_ne_true, not_from_false, ltb-true, lt-ltb}
-use Rattle.std.proofs.lemmas.List.FromFn.{length-range_with_len, get_or-range_with_len}
 use Rattle.schedule.{specs.Placed.PlacementValue, proofs.First.{among_each, among_kept, Among-from_Contains, InOrder, InOrder-filter, each_weaker, each_filter, each_passes}}
-use Rattle.chunk_order.specs.{Alike.is_alike, Ordering.{is_least, class_of, next_pairs}}
-use Rattle.chunk_order.proofs.{Alikeness.{alike_itself, alike_back, alike_both}, Firsts.{first_from, first_no_later, first_passes}}
+use Rattle.chunk_order.{specs.{Alike.is_alike, Ordering.{is_least, class_of, next_pairs}}, proofs.{Alikeness.{alike_itself, alike_back, alike_both}, Firsts.{first_from, first_no_later, first_passes}}}
 
 -- ---- a range and what passes a test in it
 

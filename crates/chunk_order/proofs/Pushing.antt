@@ -1,10 +1,9 @@
 -- Loops that push the clauses of the order.
-use Rattle.std.proofs.Common.{◌≡◌, ℕ, zero, suc, ◌+◌, ◌-◌, ◌<◌, ◌≤◌, Bool, cond, List, [], ◌∷◌, ◌++◌, length, get_or, refl, sym, ap, ◌∙◌, subst, arith, All, filter, flat_map}
-use Rattle.std.{specs.List.range_with_len, proofs.lemmas.List.Elements.All-from_recursion}
+use Rattle.std.proofs.{Common.{◌≡◌, ℕ, zero, suc, ◌+◌, ◌-◌, ◌<◌, ◌≤◌, Bool, cond, List, [], ◌∷◌, ◌++◌, length, get_or, refl, sym, ap, ◌∙◌, subst, arith, All, filter, flat_map}, lemmas.List.Elements.All-from_recursion}
+use Rattle.std.specs.List.{range_with_len}
 use Rattle.schedule.{specs.Placed.PlacementValue, proofs.First.each_filter}
 use Rattle.send_encoding.specs.Variables.{arrivals, sends}
-use Rattle.round_encoding.specs.{declared.encoding.Encoding.Encoding, Frames.{frame_of, own_variables}, Rounding.{counts_in, encoding_of}}
-use Rattle.round_encoding.proofs.Counted.{more_variables}
+use Rattle.round_encoding.{specs.{declared.encoding.Encoding.Encoding, Frames.{frame_of, own_variables}, Rounding.{counts_in, encoding_of}}, proofs.Counted.more_variables}
 use Rattle.chunk_order.{specs.{Alike.is_alike, Ordering.{class_of, next_pairs}, Solutions.IsEncodingFor}, proofs.Classes.range_high}
 
 -- ---- next pairs by their places

@@ -1,14 +1,11 @@
 -- Chunks that are renamed: a schedule that solves still does, where each chunk gets the name of one that is alike.
 use Rattle.std.proofs.Common.{◌≡◌, ℕ, zero, suc, ◌+◌, ◌<◌, ◌≤◌, ◌*◌, Bool, true, false, ◌||◌, cond, eqb, ltb, List, [], ◌∷◌, length, get_or, map, refl, sym, ap, ◌∙◌, ⊎_elim, arith, ◌≢◌, ◌&&◌, IsPermutation}
-use Rattle.std.{specs.List.list_any, proofs.lemmas.{Bool.{and_parts, and_from, cases_Bool, eqb-true, eq-eqb, ltb-true, lt-ltb}, List.Folds.list_any_at}}
-use Rattle.std.proofs.lemmas.List.{Elements.{All-from_recursion, recursion_from_All}, Sums.sum_by-cons}
-use Rattle.std.proofs.lemmas.List.Sorted.{IsPermutation-refl, IsPermutation-cons, IsPermutation-append_comm, IsPermutation-append_left, IsPermutation-trans, sum_by-IsPermutation, list_any-IsPermutation}
+use Rattle.std.proofs.lemmas.{Bool.{and_parts, and_from, cases_Bool, eqb-true, eq-eqb, ltb-true, lt-ltb}, List.{Folds.list_any_at, Elements.{All-from_recursion, recursion_from_All}, Sums.sum_by-cons}}
+use Rattle.std.{proofs.lemmas.List.Sorted.{IsPermutation-refl, IsPermutation-cons, IsPermutation-append_comm, IsPermutation-append_left, IsPermutation-trans, sum_by-IsPermutation, list_any-IsPermutation}, specs.List.list_any}
 use Rattle.list_laws.proofs.{Tests.same_test, Each.each_map}
 use Rattle.schedule.specs.{declared.hop.Hop.Hop, Links.{GroupValue, TopologyValue, has_link, is_usable}, Placed.{PlacementValue, IsPlacement, holds, same_pair}}
-use Rattle.schedule.specs.{Sends.{ScheduleValue, IsSchedule, IsInRange, IsStep, hop_before, is_hop_below, link_of}, Running.{after, brings}, Solving.Solves}
-use Rattle.schedule.specs.{Fitting.{Fits, load, rounds_at}, Inverse.{with_hop, in_order}}
-use Rattle.schedule.proofs.{First.InOrder-from_pairs, HopOrder.{Apart, same_hop, each_in_order, ascends, ascending_apart}, Inverting.pairs_from_InOrder}
-use Rattle.schedule.proofs.{Placing.{pair_is, pair_itself, holds-placed}, Stepping.{chunks-after, nodes-after}}
+use Rattle.schedule.specs.{Sends.{ScheduleValue, IsSchedule, IsInRange, IsStep, hop_before, is_hop_below, link_of}, Running.{after, brings}, Solving.Solves, Fitting.{Fits, load, rounds_at}, Inverse.{with_hop, in_order}}
+use Rattle.schedule.proofs.{First.InOrder-from_pairs, HopOrder.{Apart, same_hop, each_in_order, ascends, ascending_apart}, Inverting.pairs_from_InOrder, Placing.{pair_is, pair_itself, holds-placed}, Stepping.{chunks-after, nodes-after}}
 use Rattle.send_encoding.proofs.{Members.member, Complete.any_alike, Tightened.pairs_below}
 use Rattle.chunk_order.{specs.Alike.is_alike, proofs.Alikeness.{alike_before, alike_after}}
 

@@ -1,12 +1,9 @@
 -- Where a schedule solves, one solves in which chunks that are alike come in the order of their numbers: chunk after chunk, the one of its class that comes first takes its place.
-use Rattle.std.proofs.Common.{◌≡◌, ℕ, zero, suc, ◌+◌, ◌-◌, ◌<◌, ◌≤◌, Bool, true, ◌||◌, length, Some, None, refl, sym, ap, ◌∙◌, subst, ⊎_elim, arith, Option}
-use Rattle.std.{specs.List.list_any, proofs.lemmas.Bool.{or_left, cases_eq, cases_lt, Decides.nat_tests}}
-use Rattle.schedule.specs.{Links.TopologyValue, Placed.{PlacementValue, IsPlacement, holds}, Sends.{ScheduleValue, IsInRange}, Running.{after, brings}}
-use Rattle.schedule.specs.Solving.{Solvable}
-use Rattle.schedule.proofs.{Placing.holds-placed, Stepping.{chunks-after, nodes-after}}
+use Rattle.std.proofs.{Common.{◌≡◌, ℕ, zero, suc, ◌+◌, ◌-◌, ◌<◌, ◌≤◌, Bool, true, ◌||◌, length, Some, None, refl, sym, ap, ◌∙◌, subst, ⊎_elim, arith, Option}, lemmas.Bool.{or_left, cases_eq, cases_lt, Decides.nat_tests}}
+use Rattle.std.specs.List.{list_any}
+use Rattle.schedule.{specs.{Links.TopologyValue, Placed.{PlacementValue, IsPlacement, holds}, Sends.{ScheduleValue, IsInRange}, Running.{after, brings}, Solving.Solvable}, proofs.{Placing.holds-placed, Stepping.{chunks-after, nodes-after}}}
 use Rattle.chunk_order.specs.Alike.{is_alike, watch_node, Ordered}
-use Rattle.chunk_order.proofs.{Alikeness.{alike_itself, alike_both, watch_alike, watch_below}, Exchanging.{exchanged, exchanges}}
-use Rattle.chunk_order.proofs.Renaming.{IsExchange, renamed, valid_renamed, range_renamed, after_renamed, solves_renamed}
+use Rattle.chunk_order.proofs.{Alikeness.{alike_itself, alike_both, watch_alike, watch_below}, Exchanging.{exchanged, exchanges}, Renaming.{IsExchange, renamed, valid_renamed, range_renamed, after_renamed, solves_renamed}}
 use Rattle.chunk_order.proofs.Firsts.{first_from, first_no_later, first_passes, first_alike, HasLeast, least_key}
 
 -- ---- when a chunk comes to its watch node

@@ -1,16 +1,10 @@
 -- Ordered schedules suffice: a candidate is solvable exactly where an ordered schedule that wastes no send solves it, and the formula with the clauses of the order is satisfiable exactly there.
-use Rattle.std.proofs.{Common.{◌≡◌, ℕ, zero, suc, ◌<◌, ◌≤◌, Bool, true, List, ◌++◌, refl, sym, ◌∙◌, arith, ◌↔◌, Some}}
-use Rattle.std.proofs.lemmas.List.Folds.{list_all-append}
-use Rattle.schedule.specs.{Links.TopologyValue, Placed.{PlacementValue, holds}, Sends.{ScheduleValue, IsSchedule, IsInRange}, Running.after}
-use Rattle.schedule.specs.Solving.{Solves, Solvable}
+use Rattle.std.proofs.{Common.{◌≡◌, ℕ, zero, suc, ◌<◌, ◌≤◌, Bool, true, List, ◌++◌, refl, sym, ◌∙◌, arith, ◌↔◌, Some}, lemmas.List.Folds.list_all-append}
+use Rattle.schedule.specs.{Links.TopologyValue, Placed.{PlacementValue, holds}, Sends.{ScheduleValue, IsSchedule, IsInRange}, Running.after, Solving.{Solves, Solvable}}
 use Rattle.cnf_formula.specs.{Literals.{LitValue, is_true, clause_holds, all_hold}, Formulas.{Satisfies, Satisfiable}}
-use Rattle.send_encoding.specs.{Variables.{SendMapValue, map_of, arrival, sent}, Sending.sending, Agreeing.SatisfiesAs}
-use Rattle.send_encoding.proofs.{Mapped.links_join, Sound.sending_says, Decoded.sends_tell, Running.run_is}
-use Rattle.round_encoding.specs.{Frames.{Frame, frame_of, own_variables}, Rounding.{counts_in, counters_after, extra_in_order, formula_of}, Decoding.decoded}
-use Rattle.round_encoding.specs.Candidates.{IsCandidate, IsTightSolution}
-use Rattle.round_encoding.proofs.Exactly.{sound, completely}
-use Rattle.chunk_order.specs.{Alike.{Ordered, is_alike, watch_node}, Ordering.{order_clauses, ordered_formula_of}}
-use Rattle.chunk_order.specs.Solutions.{IsOrderedSolution, HasOrderedSolution}
+use Rattle.send_encoding.{specs.{Variables.{SendMapValue, map_of, arrival, sent}, Sending.sending, Agreeing.SatisfiesAs}, proofs.{Mapped.links_join, Sound.sending_says, Decoded.sends_tell, Running.run_is}}
+use Rattle.round_encoding.{specs.{Frames.{Frame, frame_of, own_variables}, Rounding.{counts_in, counters_after, extra_in_order, formula_of}, Decoding.decoded, Candidates.{IsCandidate, IsTightSolution}}, proofs.Exactly.{sound, completely}}
+use Rattle.chunk_order.specs.{Alike.{Ordered, is_alike, watch_node}, Ordering.{order_clauses, ordered_formula_of}, Solutions.{IsOrderedSolution, HasOrderedSolution}}
 use Rattle.chunk_order.proofs.{Alikeness.{alike_before, watch_below}, Sorting.reordered, Chaining.{clauses_hold, they_follow}}
 
 module _ (t : TopologyValue) (pre post : PlacementValue) (steps rounds : ℕ) (candidate : IsCandidate t pre post steps rounds) where

@@ -6,8 +6,7 @@ ghost use Rattle.schedule.specs.declared.verdict.Verdict.TheVariants as verdict;
 ghost use Rattle.cnf_formula.specs.Literals.{yes, no};
 ghost use Rattle.send_encoding.specs.Variables.{map_of};
 ghost use Rattle.collective_spec.specs.{declared.kind.Kind.Kind, Collectives.instance_of, Patterns.copied, Rows.{instance_on_three, two_given}};
-ghost use Rattle.chunk_order.specs.{Alike.{Ordered, is_alike, watch_node}, Ordering.{class_of, is_least, next_pairs, order_clauses}};
-ghost use Rattle.chunk_order.specs.Rows.{in_turn, out_of_turn};
+ghost use Rattle.chunk_order.specs.{Alike.{Ordered, is_alike, watch_node}, Ordering.{class_of, is_least, next_pairs, order_clauses}, Rows.{in_turn, out_of_turn}};
 
 /// All chunks of a broadcast are alike, and node 1 is the first to get them.
 pub fn chunks_of_a_broadcast_are_alike()

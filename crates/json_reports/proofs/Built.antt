@@ -1,20 +1,17 @@
 -- The JSON of a report: its numbers are small, its texts are names and words, and what is printed of it is read back.
-use Rattle.std.proofs.Common.{◌≡◌, ◌⊎◌, inl, inr, ℕ, ◌^◌, ◌<◌, ◌≤◌, Bool, true, false, List, map, Some, option_map, refl, sym, ap, ◌∙◌, ltb-true, arith, Ok, All, codes, slice_index_or}
-use Rattle.std.proofs.lemmas.Bool.{and_parts}
+use Rattle.std.proofs.{Common.{◌≡◌, ◌⊎◌, inl, inr, ℕ, ◌^◌, ◌<◌, ◌≤◌, Bool, true, false, List, map, Some, option_map, refl, sym, ap, ◌∙◌, ltb-true, arith, Ok, All, codes, slice_index_or}, lemmas.Bool.and_parts}
 use Rattle.text_lines.specs.{Text.text_of, Check.◌>>=◌}
 use Rattle.outer_ports.specs.declared.part.Part.{Part}
 use Rattle.outer_ports.specs.declared.part.Part.TheVariants as part
 use Rattle.collective_spec.{specs.{Collectives.chunks_in, Kinds.{takes_root, word_of}, declared.kind.Kind.Kind}, proofs.Chunks.{FewBase, chunks_few}}
 use Rattle.collective_spec.specs.declared.kind.Kind.TheVariants as kind
-use Rattle.candidate_order.specs.{declared.{candidate.Candidate.Candidate, mark.Mark.Mark}, Ranges.IsLimits}
-use Rattle.candidate_order.specs.Frontiers.{QuestionValue, PointValue, FrontierValue, IsWithin}
+use Rattle.candidate_order.specs.{declared.{candidate.Candidate.Candidate, mark.Mark.Mark}, Ranges.IsLimits, Frontiers.{QuestionValue, PointValue, FrontierValue, IsWithin}}
 use Rattle.candidate_order.specs.declared.mark.Mark.TheVariants as mark
-use Rattle.topology_text.specs.{Names.is_name}
+use Rattle.topology_text.specs.Names.{is_name}
 use Rattle.report_form.specs.{Reports.{HasSchedule, IsFrontier, IsJoinedPoint, IsPrintedPoint, IsReport, ReportValue, question_of}, Reading.report_of, Spelling.{part_words, report_lines, report_text}}
 use Rattle.report_laws.proofs.{PointsAgain.base_of, ReportAgain.report_again}
 use Rattle.serde_json.specs.Data.{string}
-use Rattle.json_values.{specs.{Json.{array_of, count_of, printed}, Answer.{of_json, of_text}}, proofs.Built.{plain_name, plain_topology}}
-use Rattle.json_values.proofs.Plain.{Plain, deeper, plain_array, plain_count, plain_list, plain_object, plain_word, text_back}
+use Rattle.json_values.{specs.{Json.{array_of, count_of, printed}, Answer.{of_json, of_text}}, proofs.{Built.{plain_name, plain_topology}, Plain.{Plain, deeper, plain_array, plain_count, plain_list, plain_object, plain_word, text_back}}}
 use Rattle.json_rules.specs.{ReportForm.{frontier, point, send, words}, ReportJson.{report_json, report_text_in}, Answer.report_of_json}
 use Rattle.json_reports.{specs.Candidates.{refuted, unknown}, proofs.{Keys.words_with, ReportForm.report_form}}
 

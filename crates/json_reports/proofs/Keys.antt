@@ -1,6 +1,5 @@
 -- The words of a report, of which some may be left out: their keys and their JSON.
-use Rattle.std.proofs.Common.{◌≡◌, ℕ, Bool, true, false, List, Some, None, option_map, refl, ap, ◌∙◌, codes, if◌then◌else◌}
-use Rattle.std.specs.Prelude.{unwrap_or}
+use Rattle.std.{proofs.Common.{◌≡◌, ℕ, Bool, true, false, List, Some, None, option_map, refl, ap, ◌∙◌, codes, if◌then◌else◌}, specs.Prelude.unwrap_or}
 use Rattle.serde_json.specs.Data.{Data, null, object, string, Members, no_members, member, put}
 use Rattle.json_values.specs.Json.{count_of}
 

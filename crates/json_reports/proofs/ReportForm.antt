@@ -1,21 +1,19 @@
 -- The JSON of a report has the form, and stands for the report's text.
 use Rattle.std.proofs.Common.{◌≡◌, ◌≢◌, ℕ, ◌<◌, Bool, true, false, List, [], ◌∷◌, ◌++◌, map, length, Option, Some, None, refl, sym, ap, ap₂, ◌∙◌, subst, arith, append_assoc, codes, decimal, bytes_eq, nat_lt, if◌then◌else◌, option_map, slice_index_or, ◌&&◌}
-use Rattle.std.{specs.{Prelude.unwrap_or, List.{All, AllByRecursion, flat_map}}, proofs.lemmas.{List.Elements.recursion_from_All, Bool.{and_parts, ltb-true}}}
+use Rattle.std.{proofs.lemmas.{List.Elements.recursion_from_All, Bool.{and_parts, ltb-true}}, specs.{Prelude.unwrap_or, List.{All, AllByRecursion, flat_map}}}
 use Rattle.outer_ports.specs.declared.part.Part.{Part}
 use Rattle.outer_ports.specs.declared.part.Part.TheVariants as part
 use Rattle.schedule.{specs.{declared.hop.Hop.Hop, Links.GroupValue, Sends.is_hop_below}, proofs.First.each_weaker}
 use Rattle.collective_spec.specs.{declared.kind.Kind.Kind, Kinds.{word_of, takes_root}, Patterns.PatternValue, Collectives.chunks_in}
 use Rattle.collective_spec.specs.declared.kind.Kind.TheVariants as kind
-use Rattle.candidate_order.specs.declared.mark.Mark.{Mark}
-use Rattle.candidate_order.specs.Frontiers.{PointValue, FrontierValue, QuestionValue}
+use Rattle.candidate_order.specs.{declared.mark.Mark.Mark, Frontiers.{PointValue, FrontierValue, QuestionValue}}
 use Rattle.candidate_order.specs.declared.mark.Mark.TheVariants as mark
 use Rattle.topology_text.specs.{Names.AreNames, Spelling.{name_at, version_word}}
 use Rattle.report_form.specs.Reports.{WordsValue, ReportValue, IsReport, IsFrontier, IsPrintedPoint, IsJoinedPoint, HasSchedule, parts_of, question_of}
 use Rattle.report_form.specs.Spelling.{pruning_words, synth_words, point_lines, send_words, refuted_words, unknown_words, frontier_lines, joined_lines, report_lines}
 use Rattle.list_laws.proofs.Each.{each_always}
 use Rattle.serde_json.{specs.{Data.{Data, string}, Find.{as_array, get}}, proofs.Views.get_member-put}
-use Rattle.json_values.specs.{Shape.{◌>>=◌, ◌⊕◌, one, headed}, Forms.{count, each, name, row_read}, TopologyForm.version, TopologyJson.topology_json}
-use Rattle.json_values.proofs.TopologyForm.{each_one, each_some, name_there, topology_form}
+use Rattle.json_values.{specs.{Shape.{◌>>=◌, ◌⊕◌, one, headed}, Forms.{count, each, name, row_read}, TopologyForm.version, TopologyJson.topology_json}, proofs.TopologyForm.{each_one, each_some, name_there, topology_form}}
 use Rattle.json_reports.{specs.Candidates.{refuted, unknown}, proofs.Keys.{counts_with, words_with}}
 use Rattle.json_rules.specs.{ReportForm.{send, point, frontier, kinds, words}, ReportJson.{report_json, report_in}}
 

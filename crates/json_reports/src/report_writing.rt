@@ -1,12 +1,10 @@
 //! A report as JSON.
 
 ghost use Rattle.std.specs.Prelude.{◌≡◌, ℕ, List, [], ◌∷◌, Ok, Some, None, codes, map, if◌then◌else◌, option_map, unwrap_or, slice_index_or, IfOk, OnOk};
-ghost use Rattle.report_form.specs.Reports.{IsReport};
+ghost use Rattle.report_form.specs.{Reports.IsReport, Spelling.{mark_words, part_words}};
 ghost use Rattle.serde_json.specs.{Data.{Data, put, string}, View.{view, members_view}};
 ghost use Rattle.json_values.specs.Json.{printed, array_of, count_of, object_of};
-ghost use Rattle.report_form.specs.Spelling.{mark_words, part_words};
-ghost use Rattle.json_rules.specs.{ReportForm.{adding_in, send as send_form, point as point_form, frontier as frontier_form, words as words_form}, ReportJson.report_json};
-ghost use Rattle.json_rules.specs.Answer.{report_of_json};
+ghost use Rattle.json_rules.specs.{ReportForm.{adding_in, send as send_form, point as point_form, frontier as frontier_form, words as words_form}, ReportJson.report_json, Answer.report_of_json};
 ghost use Rattle.json_reports.specs.Candidates.{refuted as refuted_form, unknown as unknown_form};
 
 use candidate_order::{Candidate, Frontier, Mark, Point, Unknown};

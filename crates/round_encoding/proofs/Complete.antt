@@ -1,21 +1,17 @@
 -- Where a schedule solves, the formula has a satisfying assignment whose arrivals are what the schedule's run holds.
 use Rattle.std.proofs.Common.{◌≡◌, ℕ, zero, suc, ◌+◌, ◌-◌, ◌*◌, ◌<◌, ◌≤◌, Bool, true, false, List, [], ◌∷◌, ◌++◌, map, length, get_or, leb, sum, refl, sym, ap, ◌∙◌, subst, ⊎_elim, arith, flat_map, sum_by, All}
-use Rattle.std.{specs.List.range_with_len, proofs.lemmas.Bool.{leb-true, le-leb, cases_lt, Decides.nat_tests}}
-use Rattle.std.proofs.{lemmas.List.{get_or-append-add, map-append, append-nil}, Math.Nat.mul-le-mul_left}
-use Rattle.std.proofs.lemmas.List.FromFn.{get_or-map-range_with_len, length-map-range_with_len}
-use Rattle.schedule.specs.{Links.{TopologyValue, GroupValue, IsTopology}, Placed.PlacementValue, Sends.{ScheduleValue, IsSchedule, IsStep, IsInRange}}
-use Rattle.schedule.specs.{Fitting.rounds_at, Solving.Solves}
+use Rattle.std.proofs.{lemmas.{Bool.{leb-true, le-leb, cases_lt, Decides.nat_tests}, List.{get_or-append-add, map-append, append-nil, FromFn.{get_or-map-range_with_len, length-map-range_with_len}}}, Math.Nat.mul-le-mul_left}
+use Rattle.std.specs.List.{range_with_len}
+use Rattle.schedule.specs.{Links.{TopologyValue, GroupValue, IsTopology}, Placed.PlacementValue, Sends.{ScheduleValue, IsSchedule, IsStep, IsInRange}, Fitting.rounds_at, Solving.Solves}
 use Rattle.cnf_formula.{specs.{Literals.{LitValue, negation, is_true, clause_holds, all_hold}, Formulas.Satisfies}, proofs.Clauses.negation_is}
 use Rattle.cardinality.{specs.Counting.true_inputs, proofs.{Ranges.hold_both, Wider.{clauses_same, old_is_same}}}
 use Rattle.send_encoding.specs.{Variables.{SendMapValue, map_of, steps_of, arrival, sent, arrivals, sends, link_number}, Sending.sending, Leading.{had, brought}}
 use Rattle.send_encoding.specs.Assigning.{arrival_values, send_values, extra_values, has_more_rounds, assigned}
-use Rattle.send_encoding.proofs.{Everywhere.{From, in_range}, About.IsStepOf, Mapped.links_join, Grid.{rows_at, rows_length}}
-use Rattle.send_encoding.proofs.{Assigned.{assigned_length, arrival_value, sent_value, own_length}, Scheduled.schedule_moves}
+use Rattle.send_encoding.proofs.{Everywhere.{From, in_range}, About.IsStepOf, Mapped.links_join, Grid.{rows_at, rows_length}, Assigned.{assigned_length, arrival_value, sent_value, own_length}, Scheduled.schedule_moves}
 use Rattle.send_encoding.proofs.Complete.{sending_holds, if_true, passes_flat, passes_map, count_alike}
-use Rattle.round_encoding.specs.Frames.{Frame, frame_of, extra_round, own_variables}
-use Rattle.round_encoding.specs.Rounding.{count_of_rounds, count_of_group, counts_in, counters_after, extra_in_order, formula_of}
-use Rattle.round_encoding.proofs.{Extras.{sending_about, order_about, extra_about, arrival_about}, Counted.{all_counts, of_counts}, Counting.{Allows, counters_extend}}
-use Rattle.round_encoding.proofs.{Loaded.{table_loads, cells, good_cells, Good}, Rounds.{count_rounds, count_flat, beyond, no_fewer, one_step}}
+use Rattle.round_encoding.specs.{Frames.{Frame, frame_of, extra_round, own_variables}, Rounding.{count_of_rounds, count_of_group, counts_in, counters_after, extra_in_order, formula_of}}
+use Rattle.round_encoding.proofs.{Extras.{sending_about, order_about, extra_about, arrival_about}, Counted.{all_counts, of_counts}, Counting.{Allows, counters_extend}, Loaded.{table_loads, cells, good_cells, Good}}
+use Rattle.round_encoding.proofs.Rounds.{count_rounds, count_flat, beyond, no_fewer, one_step}
 
 pub map_cells : {X Y : Type 0} (g : ℕ × X → Y) (xs : List X) (a n : ℕ) → flat_map (λ c. map (λ l. g (c, l)) xs) (range_with_len a n) ≡ map g (flat_map (λ c. map (λ l. (c, l)) xs) (range_with_len a n))
 map_cells g xs a zero = refl

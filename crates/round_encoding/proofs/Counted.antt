@@ -1,17 +1,13 @@
 -- A candidate's formula is about its own variables and those of its counters.
-use Rattle.std.proofs.Common.{◌≡◌, ℕ, ◌+◌, ◌*◌, ◌<◌, ◌≤◌, Bool, true, false, List, [], ◌∷◌, ◌++◌, length, map, get_or, refl, ◌∙◌, arith, if◌then◌else◌, flat_map, nat_lt, All}
-use Rattle.std.{specs.List.{list_any, range_with_len}, proofs.lemmas.{Bool.ltb-true, List.Elements.{All-nil, All-cons, All-head, All-tail, All-append}}}
-use Rattle.std.proofs.{lemmas.List.{Folds.list_any_at, FromFn.length-map-range_with_len}, Math.Nat.mul-le-mul_left}
-use Rattle.std.proofs.lemmas.Bool.Decides.{nat_tests}
-use Rattle.schedule.specs.{Links.{GroupValue, TopologyValue, IsTopology, IsBelow, is_usable, usable_links}, Placed.{PlacementValue, same_pair}}
-use Rattle.schedule.proofs.Placing.{holds-placed, pair_itself}
+use Rattle.std.proofs.{Common.{◌≡◌, ℕ, ◌+◌, ◌*◌, ◌<◌, ◌≤◌, Bool, true, false, List, [], ◌∷◌, ◌++◌, length, map, get_or, refl, ◌∙◌, arith, if◌then◌else◌, flat_map, nat_lt, All}, lemmas.Bool.ltb-true}
+use Rattle.std.proofs.{lemmas.{List.{Elements.{All-nil, All-cons, All-head, All-tail, All-append}, Folds.list_any_at, FromFn.length-map-range_with_len}, Bool.Decides.nat_tests}, Math.Nat.mul-le-mul_left}
+use Rattle.std.specs.List.{list_any, range_with_len}
+use Rattle.schedule.{specs.{Links.{GroupValue, TopologyValue, IsTopology, IsBelow, is_usable, usable_links}, Placed.{PlacementValue, same_pair}}, proofs.Placing.{holds-placed, pair_itself}}
 use Rattle.cnf_formula.{specs.{Literals.{LitValue, negation}, Formulas.{IsAbout, IsClause, IsFormula}}, proofs.Clauses.negation_about}
 use Rattle.cardinality.{specs.{Counting.output, Totalizers.totalizer_of}, proofs.{Totals.totalizer_is_counter, Wider.{clauses_more, clause_more, about_more}}}
 use Rattle.send_encoding.specs.{Variables.{SendMapValue, map_of, steps_of, sent, link_number}, Sending.sending}
-use Rattle.send_encoding.proofs.{Everywhere.{in_map, in_flat, From, in_range, some_in_flat, place_below}, Mapped.links_join}
-use Rattle.send_encoding.proofs.About.{one, two, only_clause, IsStepOf}
-use Rattle.round_encoding.specs.Frames.{Frame, frame_of, extra_round, own_variables}
-use Rattle.round_encoding.specs.Rounding.{Count, count_of_rounds, count_of_group, counts_in, counters_after, formula_of, extra_in_order}
+use Rattle.send_encoding.proofs.{Everywhere.{in_map, in_flat, From, in_range, some_in_flat, place_below}, Mapped.links_join, About.{one, two, only_clause, IsStepOf}}
+use Rattle.round_encoding.specs.{Frames.{Frame, frame_of, extra_round, own_variables}, Rounding.{Count, count_of_rounds, count_of_group, counts_in, counters_after, formula_of, extra_in_order}}
 use Rattle.round_encoding.proofs.Extras.{sent_about, extra_about, sending_about, order_about}
 
 -- ---- counts in a row

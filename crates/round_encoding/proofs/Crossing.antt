@@ -1,13 +1,10 @@
 -- The sends that an assignment says load a group no more than its counter counts.
-use Rattle.std.proofs.Common.{◌≡◌, ℕ, ◌<◌, ◌≤◌, Bool, true, List, map, eqb, refl, sym, ap, ◌∙◌, arith, ◌&&◌, flat_map, count_by, All, AllPairs}
-use Rattle.std.{specs.List.{list_any, range_with_len}, proofs.lemmas.Bool.{and_parts, and_from, eqb-true, eq-eqb}}
-use Rattle.schedule.specs.{declared.hop.Hop.Hop, Links.{GroupValue, has_link}, Placed.same_pair, Sends.{hop_before, link_of}, Fitting.load}
-use Rattle.schedule.proofs.Placing.{pair_is}
+use Rattle.std.{proofs.{Common.{◌≡◌, ℕ, ◌<◌, ◌≤◌, Bool, true, List, map, eqb, refl, sym, ap, ◌∙◌, arith, ◌&&◌, flat_map, count_by, All, AllPairs}, lemmas.Bool.{and_parts, and_from, eqb-true, eq-eqb}}, specs.List.{list_any, range_with_len}}
+use Rattle.schedule.{specs.{declared.hop.Hop.Hop, Links.{GroupValue, has_link}, Placed.same_pair, Sends.{hop_before, link_of}, Fitting.load}, proofs.Placing.pair_is}
 use Rattle.cnf_formula.specs.Literals.{LitValue, is_true}
 use Rattle.cardinality.specs.Counting.{true_inputs}
 use Rattle.send_encoding.specs.{Variables.{SendMapValue, sent, link_number}, Sent.sends_of, Moving.JoinsNodes, Telling.IsTold}
-use Rattle.send_encoding.proofs.{Members.{member, any_weaker, count_weaker}, Complete.{any_alike, count_alike}, Decoded.{any_range, sends_tell}}
-use Rattle.send_encoding.proofs.{Orders.apart_once, Ascending.{LinkBefore, place_is, never_twice, sends_ascend}}
+use Rattle.send_encoding.proofs.{Members.{member, any_weaker, count_weaker}, Complete.{any_alike, count_alike}, Decoded.{any_range, sends_tell}, Orders.apart_once, Ascending.{LinkBefore, place_is, never_twice, sends_ascend}}
 use Rattle.round_encoding.{specs.{Frames.Frame, Rounding.count_of_group}, proofs.{Twice.any_count, Complete.map_cells}}
 
 module _ (f : Frame) (values : List Bool) (links : All (JoinsNodes f.map) f.map.links) (ascend : AllPairs LinkBefore f.map.links) (k : ℕ) (group : GroupValue) where

@@ -2,8 +2,7 @@
 use Rattle.std.proofs.Common.{◌≡◌, ℕ, ◌≤◌, Bool, List, length, sym, ap, subst, arith}
 use Rattle.schedule.specs.{Links.TopologyValue, Placed.PlacementValue}
 use Rattle.cnf_formula.specs.Formulas.{Satisfies}
-use Rattle.round_encoding.specs.{declared.encoding.Encoding.Encoding, Frames.{Frame, frame_of, own_variables}, Rounding.formula_of}
-use Rattle.round_encoding.specs.{Decoding.decoded, Candidates.{IsEncodingOf, IsTightSolution}}
+use Rattle.round_encoding.specs.{declared.encoding.Encoding.Encoding, Frames.{Frame, frame_of, own_variables}, Rounding.formula_of, Decoding.decoded, Candidates.{IsEncodingOf, IsTightSolution}}
 use Rattle.round_encoding.proofs.{Counted.more_variables, Exactly.sound}
 
 module _ (t : TopologyValue) (pre post : PlacementValue) (steps rounds : ℕ) (e : Encoding) (encodes : IsEncodingOf t pre post steps rounds e) (values : List Bool) (satisfies : Satisfies values e.formula) where

@@ -2,9 +2,7 @@
 use Rattle.std.proofs.Common.{arith, ◌≡◌, ℕ, ◌+◌, ◌-◌, ◌++◌}
 use Rattle.schedule.specs.{Links.TopologyValue, Placed.PlacementValue}
 use Rattle.cnf_formula.specs.Formulas.{FormulaValue}
-use Rattle.round_encoding.specs.{Frames.own_variables, inner.Counts.with_counts}
-use Rattle.round_encoding.specs.Rounding.{extra_in_order, counts_in, encoding_of}
-use Rattle.round_encoding.proofs.Countings.{counted_is}
+use Rattle.round_encoding.{specs.{Frames.own_variables, inner.Counts.with_counts, Rounding.{extra_in_order, counts_in, encoding_of}}, proofs.Countings.counted_is}
 use Rattle.send_encoding.specs.{Variables.{SendMapValue, map_of, arrivals, sends}, Sending.sending}
 
 pub encoded : (t : TopologyValue) (pre post : PlacementValue) (steps rounds : ℕ) (m : SendMapValue) (v : ℕ) (f1 f2 : FormulaValue) → m ≡ map_of t pre steps

@@ -1,11 +1,9 @@
 -- A candidate's formula is satisfiable exactly where the candidate is solvable.
-use Rattle.std.proofs.Common.{arith}
-use Rattle.std.specs.Prelude.{ℕ, Bool, List}
+use Rattle.std.{proofs.Common.arith, specs.Prelude.{ℕ, Bool, List}}
 use Rattle.schedule.specs.{Links.TopologyValue, Placed.PlacementValue, Sends.{ScheduleValue, IsSchedule, IsInRange}, Solving.{Solves, Solvable}}
 use Rattle.send_encoding.specs.{Variables.map_of, Agreeing.SatisfiesAs}
 use Rattle.cnf_formula.specs.Formulas.{Satisfies, Satisfiable}
-use Rattle.round_encoding.specs.{Frames.frame_of, Rounding.formula_of, Decoding.decoded, Candidates.{IsCandidate, IsTightSolution}}
-use Rattle.round_encoding.proofs.{Complete.complete, Sound.{sound_schedule, sound_range, sound_solves, sound_tight}}
+use Rattle.round_encoding.{specs.{Frames.frame_of, Rounding.formula_of, Decoding.decoded, Candidates.{IsCandidate, IsTightSolution}}, proofs.{Complete.complete, Sound.{sound_schedule, sound_range, sound_solves, sound_tight}}}
 
 pub sound : (t : TopologyValue) (pre post : PlacementValue) (steps rounds : ℕ) (values : List Bool) → IsCandidate t pre post steps rounds → Satisfies values (formula_of t pre post steps rounds)
     → IsTightSolution t pre post (decoded (frame_of t pre steps rounds) values) steps rounds

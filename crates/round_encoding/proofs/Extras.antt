@@ -2,8 +2,7 @@
 use Rattle.std.{proofs.Common.{ℕ, ◌+◌, ◌-◌, ◌<◌, ◌≤◌, List, [], ◌∷◌, length, map, arith, All}, specs.List.range_with_len}
 use Rattle.schedule.specs.{Placed.PlacementValue, Sends.IsStep}
 use Rattle.cnf_formula.{specs.{Literals.{LitValue, negation}, Formulas.{IsAbout, IsClause}}, proofs.Clauses.negation_about}
-use Rattle.send_encoding.specs.{Variables.{SendMapValue, arrival, arrivals, sent, sends, steps_of}, Sending.sending, Moving.JoinsNodes}
-use Rattle.send_encoding.proofs.{Everywhere.{in_map, in_flat, From, in_range, slot}, About.{IsStepOf, two}}
+use Rattle.send_encoding.{specs.{Variables.{SendMapValue, arrival, arrivals, sent, sends, steps_of}, Sending.sending, Moving.JoinsNodes}, proofs.{Everywhere.{in_map, in_flat, From, in_range, slot}, About.{IsStepOf, two}}}
 use Rattle.send_encoding.proofs.About as base
 use Rattle.cardinality.proofs.Wider.{clauses_more, about_more}
 use Rattle.round_encoding.specs.{Frames.{Frame, extra_round, own_variables}, Rounding.extra_in_order}

@@ -1,15 +1,13 @@
 -- The formula of a candidate whose size is within the limit is small.
-use Rattle.std.{proofs.Common.{◌≡◌, ℕ, ◌+◌, ◌-◌, ◌*◌, ◌<◌, ◌≤◌, List, [], ◌∷◌, ◌++◌, map, length, ap, arith, length-append, All}, specs.List.range_with_len}
-use Rattle.std.proofs.lemmas.{List.FromFn.{length-range_with_len, length-map-range_with_len}, Nat.mul-le}
+use Rattle.std.proofs.{Common.{◌≡◌, ℕ, ◌+◌, ◌-◌, ◌*◌, ◌<◌, ◌≤◌, List, [], ◌∷◌, ◌++◌, map, length, ap, arith, length-append, All}, lemmas.{List.FromFn.{length-range_with_len, length-map-range_with_len}, Nat.mul-le}}
+use Rattle.std.specs.List.{range_with_len}
 use Rattle.schedule.specs.{Links.TopologyValue, Placed.PlacementValue}
 use Rattle.cnf_formula.specs.Literals.{LitValue, negation}
 use Rattle.cardinality.proofs.Lengths.{flat_length}
 use Rattle.send_encoding.specs.{Variables.{steps_of, sends}, Sending.sending}
 use Rattle.send_encoding.proofs.FewClauses as base
-use Rattle.round_encoding.specs.{Candidates.{IsCandidate, size_of, size_limit}, Frames.{Frame, frame_of, own_variables, extra_round}}
-use Rattle.round_encoding.specs.Rounding.{counts_in, counters_after, extra_in_order, formula_of}
-use Rattle.round_encoding.proofs.{FewCounters.{counts_space, counts_low}, LowCounts.{IsLow, counted_variables, counted_clauses}}
-use Rattle.round_encoding.proofs.Sizes.{cells, few_counted, few_variables, all_groups}
+use Rattle.round_encoding.specs.{Candidates.{IsCandidate, size_of, size_limit}, Frames.{Frame, frame_of, own_variables, extra_round}, Rounding.{counts_in, counters_after, extra_in_order, formula_of}}
+use Rattle.round_encoding.proofs.{FewCounters.{counts_space, counts_low}, LowCounts.{IsLow, counted_variables, counted_clauses}, Sizes.{cells, few_counted, few_variables, all_groups}}
 
 order_few : (f : Frame) → length (extra_in_order f) ≤ f.map.steps * f.extra
 order_few f =

@@ -1,13 +1,10 @@
 -- The counters of a candidate are small.
-use Rattle.std.proofs.lemmas.Bool.Decides.{nat_tests}
-use Rattle.std.proofs.lemmas.Grind.{common_steps}
+use Rattle.std.proofs.lemmas.{Bool.Decides.nat_tests, Grind.common_steps}
 use Rattle.std.proofs.Common.{◌≡◌, ℕ, zero, suc, ◌+◌, ◌*◌, ◌<◌, ◌≤◌, Bool, true, false, List, [], ◌∷◌, map, get_or, refl, ap, arith, length-append, if◌then◌else◌, flat_map, nat_lt, sum_by, All}
-use Rattle.std.{specs.List.range_with_len, proofs.{Math.Nat.{mul-le-mul_left, mul-le-mul_right}, lemmas.List.FromFn.length-map-range_with_len}}
-use Rattle.std.proofs.lemmas.{List.Sums.{sum_by-cons, sum_by-append}, Nat.mul-le}
+use Rattle.std.{proofs.{Math.Nat.{mul-le-mul_left, mul-le-mul_right}, lemmas.{List.{FromFn.length-map-range_with_len, Sums.{sum_by-cons, sum_by-append}}, Nat.mul-le}}, specs.List.range_with_len}
 use Rattle.schedule.specs.Links.{GroupValue, TopologyValue, IsGroup}
 use Rattle.send_encoding.{specs.Variables.steps_of, proofs.Grid.rows_length}
-use Rattle.round_encoding.specs.{inner.Counts.room, Frames.{Frame, extra_round}, Rounding.{Count, count_of_rounds, count_of_group, counts_in}}
-use Rattle.round_encoding.proofs.{Carried.inputs_length, Counted.{rounds_counted, of_counts}, LowCounts.{space, IsLow}}
+use Rattle.round_encoding.{specs.{inner.Counts.room, Frames.{Frame, extra_round}, Rounding.{Count, count_of_rounds, count_of_group, counts_in}}, proofs.{Carried.inputs_length, Counted.{rounds_counted, of_counts}, LowCounts.{space, IsLow}}}
 
 module _ (f : Frame) (few : f.extra ≤ 8) where
   rounds_low : 0 < f.map.steps → 0 < f.extra → IsLow (count_of_rounds f)

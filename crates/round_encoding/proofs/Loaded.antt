@@ -1,9 +1,8 @@
 -- The sends of a schedule's table load no group more than the schedule does.
-use Rattle.std.proofs.Common.{◌≡◌, ℕ, ◌-◌, ◌<◌, ◌≤◌, true, List, map, length, get_or, eqb, ap, ◌∙◌, arith, ◌&&◌, flat_map, count_by, All}
-use Rattle.std.{specs.List.{list_any, range_with_len}, proofs.lemmas.{Bool.{and_parts, and_from}, List.Folds.list_any_at}}
-use Rattle.schedule.specs.{declared.hop.Hop.Hop, Links.{TopologyValue, GroupValue, IsTopology, has_link, is_usable, usable_links}, Fitting.load, Solving.Solves}
-use Rattle.schedule.specs.{Placed.{PlacementValue, same_pair}, Sends.{ScheduleValue, IsStep, IsInRange, link_of}}
-use Rattle.schedule.proofs.Placing.{pair_is, pair_itself, holds-placed}
+use Rattle.std.proofs.{Common.{◌≡◌, ℕ, ◌-◌, ◌<◌, ◌≤◌, true, List, map, length, get_or, eqb, ap, ◌∙◌, arith, ◌&&◌, flat_map, count_by, All}, lemmas.{Bool.{and_parts, and_from}, List.Folds.list_any_at}}
+use Rattle.std.specs.List.{list_any, range_with_len}
+use Rattle.schedule.specs.{declared.hop.Hop.Hop, Links.{TopologyValue, GroupValue, IsTopology, has_link, is_usable, usable_links}, Fitting.load, Solving.Solves, Placed.{PlacementValue, same_pair}}
+use Rattle.schedule.{specs.Sends.{ScheduleValue, IsStep, IsInRange, link_of}, proofs.Placing.{pair_is, pair_itself, holds-placed}}
 use Rattle.send_encoding.specs.{Variables.{SendMapValue, map_of, link_number}, Moving.{IsLinkOf, JoinsNodes}, Leading.{had, brought}}
 use Rattle.send_encoding.proofs.{Everywhere.{in_map, in_flat, From, in_range, place_below}, Members.{passes_at, member, count_weaker}, Scheduled.first}
 use Rattle.round_encoding.proofs.Twice.{any_count, meets_once}

@@ -1,11 +1,9 @@
 -- The counter of extra rounds, in the order in which it is made.
-use Rattle.std.proofs.{Common.{◌≡◌, ℕ, ◌+◌, ◌*◌, ◌<◌, ◌≤◌, List, length, map, arith}, lemmas.List.FromFn.length-map-range_with_len}
-use Rattle.std.specs.List.{range_with_len}
+use Rattle.std.{proofs.{Common.{◌≡◌, ℕ, ◌+◌, ◌*◌, ◌<◌, ◌≤◌, List, length, map, arith}, lemmas.List.FromFn.length-map-range_with_len}, specs.List.range_with_len}
 use Rattle.cnf_formula.specs.{Literals.LitValue, Formulas.IsClause}
 use Rattle.cardinality.proofs.Wider.{clause_more}
 use Rattle.send_encoding.proofs.Grid.{rows_length}
-use Rattle.round_encoding.specs.{Frames.{Frame, extra_round, own_variables}, Rounding.count_of_rounds}
-use Rattle.round_encoding.proofs.Counted.{rounds_counted}
+use Rattle.round_encoding.{specs.{Frames.{Frame, extra_round, own_variables}, Rounding.count_of_rounds}, proofs.Counted.rounds_counted}
 
 module _ (f : Frame) where
   pub extra_length : length (count_of_rounds f).inputs ≡ f.map.steps * f.extra

@@ -1,6 +1,5 @@
 -- A candidate whose size is within the limit has few variables.
-use Rattle.std.proofs.{Common.{◌≡◌, ℕ, ◌+◌, ◌-◌, ◌*◌, ◌<◌, ◌≤◌, List, [], ◌∷◌, arith, sum_by}, lemmas.{List.Sums.sum_by-cons, Nat.mul-le}}
-use Rattle.std.proofs.Math.Nat.{mul-add, mul_comm, mul_assoc}
+use Rattle.std.proofs.{Common.{◌≡◌, ℕ, ◌+◌, ◌-◌, ◌*◌, ◌<◌, ◌≤◌, List, [], ◌∷◌, arith, sum_by}, lemmas.{List.Sums.sum_by-cons, Nat.mul-le}, Math.Nat.{mul-add, mul_comm, mul_assoc}}
 use Rattle.schedule.specs.{Links.{GroupValue, TopologyValue}, Placed.PlacementValue}
 use Rattle.send_encoding.specs.Variables.{map_of, arrivals, sends}
 use Rattle.round_encoding.specs.{Frames.{Frame, frame_of, own_variables}, inner.Counts.room, Candidates.{IsCandidate, group_size, size_of}}

@@ -1,18 +1,16 @@
 -- What an assignment that satisfies the formula says is a tight schedule that solves the candidate.
 use Rattle.std.proofs.Common.{◌≡◌, ℕ, ◌+◌, ◌-◌, ◌*◌, ◌<◌, ◌≤◌, Bool, true, List, [], ◌∷◌, map, length, get_or, ltb, refl, sym, ap, ◌∙◌, subst, ⊎_elim, arith, if◌then◌else◌, flat_map, nat_lt, All}
-use Rattle.std.{specs.List.range_with_len, proofs.lemmas.{Bool.{false≢true, and_from, cases_lt, lt-ltb}, List.Elements.All-head}}
-use Rattle.std.proofs.{lemmas.List.{Sums.count_by-le-length, FromFn.{length-range_with_len, length-map-range_with_len}}, Math.Nat.mul-le-mul_left}
-use Rattle.schedule.specs.{Links.{TopologyValue, GroupValue, IsTopology, is_usable, usable_links}, Placed.{PlacementValue, IsPlacement, all_pairs}}
-use Rattle.schedule.specs.{Sends.{ScheduleValue, IsSchedule, IsStep, IsInRange}, Fitting.{Fits, load, rounds_at}, Solving.{Solves, Tight}}
+use Rattle.std.proofs.{lemmas.{Bool.{false≢true, and_from, cases_lt, lt-ltb}, List.{Elements.All-head, Sums.count_by-le-length, FromFn.{length-range_with_len, length-map-range_with_len}}}, Math.Nat.mul-le-mul_left}
+use Rattle.std.specs.List.{range_with_len}
+use Rattle.schedule.specs.{Links.{TopologyValue, GroupValue, IsTopology, is_usable, usable_links}, Placed.{PlacementValue, IsPlacement, all_pairs}, Sends.{ScheduleValue, IsSchedule, IsStep, IsInRange}, Fitting.{Fits, load, rounds_at}}
+use Rattle.schedule.specs.Solving.{Solves, Tight}
 use Rattle.cnf_formula.{specs.{Literals.{negation, is_true, clause_holds, all_hold}, Formulas.Satisfies}, proofs.Clauses.negation_is}
 use Rattle.cardinality.{specs.Counting.true_inputs, proofs.Ranges.both_hold}
 use Rattle.send_encoding.specs.{Variables.{SendMapValue, map_of, steps_of, arrival, sent}, Sending.sending, Moving.Moves, Telling.Tells}
-use Rattle.send_encoding.proofs.{Mapped.links_join, Grid.rows_length, Members.kept, Decoded.sends_tell, Ascending.{links_ascend, sends_ascend}}
-use Rattle.send_encoding.proofs.{Sound.{sending_says, flat_passes, map_passes, at_range, said_if}, Tightened.{is_tight, delivers}}
-use Rattle.round_encoding.specs.{Frames.{Frame, frame_of, extra_round, own_variables}, Decoding.decoded}
-use Rattle.round_encoding.specs.Rounding.{count_of_rounds, count_of_group, counts_in, counters_after, extra_in_order, formula_of}
-use Rattle.round_encoding.proofs.{Counted.all_counts, ExtraRounds.{extra_said, first_unused, rounds_many, rounds_sum, rounds_each, rounds_at_least}}
-use Rattle.round_encoding.proofs.{Obeyed.{Obeys, counters_obeyed, all_split, all_flat, all_map}, Crossing.load_counted}
+use Rattle.send_encoding.proofs.{Mapped.links_join, Grid.rows_length, Members.kept, Decoded.sends_tell, Ascending.{links_ascend, sends_ascend}, Sound.{sending_says, flat_passes, map_passes, at_range, said_if}}
+use Rattle.send_encoding.proofs.Tightened.{is_tight, delivers}
+use Rattle.round_encoding.specs.{Frames.{Frame, frame_of, extra_round, own_variables}, Decoding.decoded, Rounding.{count_of_rounds, count_of_group, counts_in, counters_after, extra_in_order, formula_of}}
+use Rattle.round_encoding.proofs.{Counted.all_counts, ExtraRounds.{extra_said, first_unused, rounds_many, rounds_sum, rounds_each, rounds_at_least}, Obeyed.{Obeys, counters_obeyed, all_split, all_flat, all_map}, Crossing.load_counted}
 
 module _ (t : TopologyValue) (pre post : PlacementValue) (steps rounds : ℕ) (values : List Bool) (ok : IsTopology t) (nodes : pre.nodes ≡ t.nodes) (chunks : 0 < pre.chunks)
     (some : 0 < steps) (satisfied : Satisfies values (formula_of t pre post steps rounds)) where

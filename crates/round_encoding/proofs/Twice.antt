@@ -1,8 +1,6 @@
 -- Counting pairs that meet, from either side.
-use Rattle.std.proofs.lemmas.Grind.{common_steps}
-use Rattle.std.proofs.Common.{◌≡◌, ◌≢◌, ℕ, ◌+◌, ◌<◌, ◌≤◌, Bool, true, false, cond, eqb, List, [], ◌∷◌, map, get_or, refl, sym, ap, ◌∙◌, arith, ◌||◌, ◌&&◌, flat_map, count_by, AllPairs}
-use Rattle.std.{specs.List.{list_any, range_with_len}, proofs.lemmas.Bool.{false≢true, false_from_ne_true, Decides.nat_tests}}
-use Rattle.std.proofs.lemmas.List.{Folds.list_any_at, Sums.sum_by-cons}
+use Rattle.std.proofs.{lemmas.Grind.common_steps, Common.{◌≡◌, ◌≢◌, ℕ, ◌+◌, ◌<◌, ◌≤◌, Bool, true, false, cond, eqb, List, [], ◌∷◌, map, get_or, refl, sym, ap, ◌∙◌, arith, ◌||◌, ◌&&◌, flat_map, count_by, AllPairs}}
+use Rattle.std.{proofs.lemmas.{Bool.{false≢true, false_from_ne_true, Decides.nat_tests}, List.{Folds.list_any_at, Sums.sum_by-cons}}, specs.List.{list_any, range_with_len}}
 use Rattle.schedule.{specs.Placed.same_pair, proofs.Placing.pair_is}
 use Rattle.send_encoding.proofs.{Everywhere.in_map, Members.none_of, Orders.{apart_once, flat_pairs, map_pairs, range_pairs}}
 

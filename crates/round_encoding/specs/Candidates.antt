@@ -1,7 +1,6 @@
 -- Candidates: how many steps and rounds a schedule for an instance is to have, and what solves one.
 use Rattle.std.specs.Prelude.{◌≡◌, ℕ, ◌+◌, ◌-◌, ◌*◌, ◌<◌, ◌≤◌, length, sum_by}
-use Rattle.schedule.specs.{Links.{GroupValue, TopologyValue, IsTopology, usable_links}, Placed.{PlacementValue, IsPlacement}, Solving.{Solves, Tight}}
-use Rattle.schedule.specs.Sends.{ScheduleValue, IsSchedule, IsInRange}
+use Rattle.schedule.specs.{Links.{GroupValue, TopologyValue, IsTopology, usable_links}, Placed.{PlacementValue, IsPlacement}, Solving.{Solves, Tight}, Sends.{ScheduleValue, IsSchedule, IsInRange}}
 use Rattle.round_encoding.specs.{declared.encoding.Encoding.Encoding, Rounding.encoding_of}
 
 -- placements of the topology's nodes and 1 to 256 chunks, 1 to 16 steps, and at most 8 rounds more than steps

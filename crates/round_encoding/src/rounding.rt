@@ -2,8 +2,7 @@
 
 ghost use Rattle.std.specs.Prelude.{◌≡◌, ◌+◌, ◌*◌, ◌<◌, ◌≤◌, ◌∷◌, [], if◌then◌else◌, nat_lt, OnOk, IfOk};
 ghost use Rattle.cnf_formula.specs.Formulas.{with_clauses};
-ghost use Rattle.round_encoding.specs.{Frames.own_variables, Rounding.{extra_in_order, count_of_rounds, with_count}};
-ghost use Rattle.round_encoding.specs.inner.Counts.{with_counts};
+ghost use Rattle.round_encoding.specs.{Frames.own_variables, Rounding.{extra_in_order, count_of_rounds, with_count}, inner.Counts.with_counts};
 
 use crate::OutOfMemory;
 use crate::extra::extra_round;

@@ -3,8 +3,7 @@
 ghost use Rattle.std.specs.Prelude.{◌≡◌, ◌+◌, ◌==◌, ◌≤◌, ℕ, if◌then◌else◌, length, IfOk};
 ghost use Rattle.schedule.specs.{Links.TopologyValue, Placed.PlacementValue, Sends.IsStep};
 ghost use Rattle.cnf_formula.specs.{Literals.is_true, Formulas.Satisfies};
-ghost use Rattle.round_encoding.specs.{Frames.{extra_round, own_variables}, Decoding.{rounds_said, rounds_of, decoded, total_said}};
-ghost use Rattle.round_encoding.specs.Candidates.{IsEncoding, IsEncodingOf, IsTightSolution};
+ghost use Rattle.round_encoding.specs.{Frames.{extra_round, own_variables}, Decoding.{rounds_said, rounds_of, decoded, total_said}, Candidates.{IsEncoding, IsEncodingOf, IsTightSolution}};
 
 use crate::OutOfMemory;
 use crate::encoding::Encoding;

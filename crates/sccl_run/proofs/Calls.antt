@@ -4,8 +4,7 @@ use Rattle.outer_ports.specs.Port.{Rose}
 use Rattle.command_words.specs.declared.command.JsonWhat.TheVariants as what
 use Rattle.command_words.specs.{declared.{command.Command.Command, fault.WordFault.WordFault}, Words.command_of}
 use Rattle.command_words.specs.declared.command.Command.TheVariants as command
-use Rattle.run_rules.specs.{declared.status.Status.{Status, TheVariants.{OutOfMemory, BadWords, SourceFailed, SinkFailed, ShelfFailed}}}
-use Rattle.run_rules.specs.{Commands.{Ask, IsOneOf, IsRefusal, opens_shelf, reads_source}, Ends.answers_of}
+use Rattle.run_rules.specs.{declared.status.Status.{Status, TheVariants.{OutOfMemory, BadWords, SourceFailed, SinkFailed, ShelfFailed}}, Commands.{Ask, IsOneOf, IsRefusal, opens_shelf, reads_source}, Ends.answers_of}
 use Rattle.sccl_run.specs.{inner.Answering.Answers, TopCall.{CountValue, EndsIfItFails, IsTopCall, IsSilent}}
 
 -- ---- an answer

@@ -1,10 +1,8 @@
 -- What is due, by the command that the words ask for and the bytes that came.
-use Rattle.std.proofs.Common.{◌≡◌, ◌<◌, ◌≤◌, ◌+◌, ℕ, Bool, true, false, IsTrue, nat_lt, length, drop, List, [], replicate, Result, Ok, Err, refl, sym, subst, ap, arith}
-use Rattle.std.proofs.lemmas.{Bool.lt-ltb, List.{drop_all, length-replicate}}
+use Rattle.std.proofs.{Common.{◌≡◌, ◌<◌, ◌≤◌, ◌+◌, ℕ, Bool, true, false, IsTrue, nat_lt, length, drop, List, [], replicate, Result, Ok, Err, refl, sym, subst, ap, arith}, lemmas.{Bool.lt-ltb, List.{drop_all, length-replicate}}}
 use Rattle.text_lines.specs.Check.{◌>>=◌}
 use Rattle.command_words.specs.{declared.{command.Command.Command, fault.WordFault.WordFault}, Words.command_of}
-use Rattle.run_rules.specs.{declared.status.Status.TheVariants.TooLong, Commands.{Ask, reads_source}, Refusals.{refused_at, refused_word}, Steps.whole_text}
-use Rattle.run_rules.specs.Tasks.{due, limit, task_of, words_asked}
+use Rattle.run_rules.specs.{declared.status.Status.TheVariants.TooLong, Commands.{Ask, reads_source}, Refusals.{refused_at, refused_word}, Steps.whole_text, Tasks.{due, limit, task_of, words_asked}}
 use Rattle.json_command.proofs.ComesBack.{short_whole}
 use Rattle.sccl_run.specs.inner.Answering.{due_for}
 

@@ -8,11 +8,9 @@ use Rattle.report_form.specs.{Answer.report_number, Reports.ReportValue, Spellin
 use Rattle.report_laws.{specs.Shapes.ReadsAs, proofs.Readings.only_read_as}
 use Rattle.json_values.specs.{Answer.json_number, Json.printed}
 use Rattle.json_rules.{proofs.ReadJson.readers_alike, specs.ReportForm.report as report_form}
-use Rattle.run_rules.specs.{declared.status.Status.TheVariants.{BadJson, BadReport}, Commands.{Ask, reads_source}, Refusals.{Refusal, refused_as}}
-use Rattle.run_rules.specs.Tasks.{Task, Write, Reader, due, due_by, json_programs_in, report_by, task_by, words_asked}
+use Rattle.run_rules.specs.{declared.status.Status.TheVariants.{BadJson, BadReport}, Commands.{Ask, reads_source}, Refusals.{Refusal, refused_as}, Tasks.{Task, Write, Reader, due, due_by, json_programs_in, report_by, task_by, words_asked}}
 use Rattle.run_rules.specs.Steps.{audit_in, degrade_in, programs_in, replay_in, whole_text}
-use Rattle.sccl_run.specs.{inner.Answering.due_for, Laws.IsRightRun, Rows.all_tell, TopCall.{CountValue, IsEnd, RunValue}}
-use Rattle.sccl_run.proofs.Dues.{asks, due_command, due_refused}
+use Rattle.sccl_run.{specs.{inner.Answering.due_for, Laws.IsRightRun, Rows.all_tell, TopCall.{CountValue, IsEnd, RunValue}}, proofs.Dues.{asks, due_command, due_refused}}
 
 -- what is not read decides nothing
 same_for : (c : Command) (bytes came : List ℕ) → (IsTrue (reads_source (Ok c)) → came ≡ bytes) → due_for c came ≡ due_for c bytes

@@ -1,15 +1,12 @@
 -- Runs whose words ask for a family.
-use Rattle.std.proofs.Common.{arith, ◌≡◌, ◌≢◌, ◌==◌, ℕ, suc, zero, Bool, true, false, IsTrue, List, [], ◌∷◌, length, take, inl, inr, Ok, refl, sym, subst, ap, ◌∙◌, codes, bytes_eq}
-use Rattle.std.specs.Fmt.{digits}
+use Rattle.std.{proofs.Common.{arith, ◌≡◌, ◌≢◌, ◌==◌, ℕ, suc, zero, Bool, true, false, IsTrue, List, [], ◌∷◌, length, take, inl, inr, Ok, refl, sym, subst, ap, ◌∙◌, codes, bytes_eq}, specs.Fmt.digits}
 use Rattle.topology_text.specs.{declared.family_kind.FamilyKind.TheVariants.Line, Family.family_of, Spelling.spelling}
-use Rattle.command_words.specs.{Words.command_of}
+use Rattle.command_words.specs.Words.{command_of}
 use Rattle.command_words.specs.declared.command.Command.TheVariants as command
 use Rattle.report_form.specs.Reading.{report_of}
 use Rattle.report_laws.proofs.Readings.{read_by_spelling}
-use Rattle.run_rules.specs.{declared.status.Status.TheVariants.{Done, SourceFailed, SinkFailed, ShelfFailed}, Commands.{Ask, opens_shelf, reads_source}}
-use Rattle.run_rules.specs.{Tasks.{Write, due}, Rows.two_nodes_text}
-use Rattle.sccl_run.specs.{Laws.IsRightRun, Rows.{all_tell, family_run}, TopCall.{CountValue, IsEnd}}
-use Rattle.sccl_run.proofs.{Calls.{quiet, spoken}, Dues.asks_one, Ended.ended, RightRuns.{done_answered, done_not_silent}}
+use Rattle.run_rules.specs.{declared.status.Status.TheVariants.{Done, SourceFailed, SinkFailed, ShelfFailed}, Commands.{Ask, opens_shelf, reads_source}, Tasks.{Write, due}, Rows.two_nodes_text}
+use Rattle.sccl_run.{specs.{Laws.IsRightRun, Rows.{all_tell, family_run}, TopCall.{CountValue, IsEnd}}, proofs.{Calls.{quiet, spoken}, Dues.asks_one, Ended.ended, RightRuns.{done_answered, done_not_silent}}}
 
 is_asked : command_of family_run.words ≡ Ok (command.Family Line 2)
 unfolding command_of digits

@@ -1,7 +1,7 @@
 -- What the other searches print is right, and no schedule is below the floor.
 use Rattle.std.proofs.Common.{◌≡◌, ◌≢◌, ◌<◌, ◌≤◌, ◌*◌, ◌++◌, inl, inr, ℕ, Bool, true, false, not, nat_lt, Option, None, Some, Ok, refl, sym, subst, ap, ◌∙◌, arith, if◌then◌else◌, slice_get}
 use Rattle.text_lines.specs.Check.{◌>>=◌, need, refuse}
-use Rattle.outer_ports.specs.{declared.part.Part.TheVariants.Whole}
+use Rattle.outer_ports.specs.declared.part.Part.TheVariants.{Whole}
 use Rattle.schedule.specs.{Links.{GroupValue, reversed_of}, Sends.ScheduleValue}
 use Rattle.collective_spec.specs.declared.kind.Kind.TheVariants as kind
 use Rattle.collective_spec.{specs.{Collectives.{IsSpec, adds_up, kind_in}, Kinds.allows}, proofs.Sized.fitting_spec}
@@ -15,12 +15,9 @@ use Rattle.report_laws.proofs.ReportAgain.{report_again}
 use Rattle.node_cuts.{specs.{declared.{floor.Floor.Floor, sets.Sets.Sets}, Floors.floor_of}, proofs.Flooring.floor_bounds}
 use Rattle.cut_bounds.proofs.{Bounded.sums_bound, Turned.floor_same}
 use Rattle.run_rules.specs.{declared.status.Status.TheVariants.{Done, BadReport}, Degraded.{IsNewSearch, left_topology}, Refusals.{Refusal, refused_as}}
-use Rattle.run_rules.specs.{Tasks.{Task, Bound, Order, Degrade, due, fault_in, given_sets, read_report, searchable, task_of}, Steps.whole_question}
-use Rattle.run_rules.proofs.Denied.{accepted_of, done_of, right_of}
-use Rattle.sccl_run.specs.{Headline.{AsksBound, AsksDegraded, AsksOrdered, PrintsBound, PrintsDegraded, PrintsOrdered}, Laws.IsRightRun}
-use Rattle.sccl_run.specs.TopCall.{CountValue, RunValue}
-use Rattle.sccl_run.proofs.{Ended.ended, Printed.{IsJustOr, behind, due_of_done, due_or, found_one, passed, searchable_or, searches_or, unless}}
-use Rattle.sccl_run.proofs.{RightRuns.done_answered, SearchWords.{bound_asked, degrade_asked, ordered_asked, root_word}}
+use Rattle.run_rules.{specs.{Tasks.{Task, Bound, Order, Degrade, due, fault_in, given_sets, read_report, searchable, task_of}, Steps.whole_question}, proofs.Denied.{accepted_of, done_of, right_of}}
+use Rattle.sccl_run.specs.{Headline.{AsksBound, AsksDegraded, AsksOrdered, PrintsBound, PrintsDegraded, PrintsOrdered}, Laws.IsRightRun, TopCall.{CountValue, RunValue}}
+use Rattle.sccl_run.proofs.{Ended.ended, Printed.{IsJustOr, behind, due_of_done, due_or, found_one, passed, searchable_or, searches_or, unless}, RightRuns.done_answered, SearchWords.{bound_asked, degrade_asked, ordered_asked, root_word}}
 
 -- ---- the floor
 

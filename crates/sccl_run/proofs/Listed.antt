@@ -1,16 +1,13 @@
 -- With which statuses a run ends: with those that are listed for its words, whatever the ports tell.
-use Rattle.std.proofs.Common.{◌≡◌, ◌⊎◌, ◌≤◌, ◌==◌, ◌||◌, ◌++◌, ℕ, Bool, true, false, IsTrue, List, [], ◌∷◌, inl, inr, Result, Ok, Err, refl, sym, subst, if◌then◌else◌, nat_lt, length}
-use Rattle.std.specs.{Prelude.⊤, List.list_any}
+use Rattle.std.{proofs.Common.{◌≡◌, ◌⊎◌, ◌≤◌, ◌==◌, ◌||◌, ◌++◌, ℕ, Bool, true, false, IsTrue, List, [], ◌∷◌, inl, inr, Result, Ok, Err, refl, sym, subst, if◌then◌else◌, nat_lt, length}, specs.{Prelude.⊤, List.list_any}}
 use Rattle.text_lines.specs.Check.{◌>>=◌, refuse}
 use Rattle.command_words.specs.declared.command.JsonWhat.TheVariants as what
 use Rattle.command_words.specs.{declared.{command.Command.Command, fault.WordFault.WordFault}, Words.command_of}
 use Rattle.command_words.specs.declared.command.Command.TheVariants as command
-use Rattle.run_rules.specs.{declared.status.Status.{Status, TheVariants.{OutOfMemory, BadWords, SourceFailed, SinkFailed, ShelfFailed, TooLong}}, Statuses.status_number}
-use Rattle.run_rules.specs.{Commands.{IsOneOf, opens_shelf, reads_source}, Ends.{answers_of, ends_of}, Said.{FilesValue, IsSaid}, Answers.IsAnswer}
-use Rattle.run_rules.specs.{Refusals.{Refusal, refusal_line, refused_at, refused_word}, Steps.whole_text, Tasks.{due, limit, task_of}}
+use Rattle.run_rules.specs.{declared.status.Status.{Status, TheVariants.{OutOfMemory, BadWords, SourceFailed, SinkFailed, ShelfFailed, TooLong}}, Statuses.status_number, Commands.{IsOneOf, opens_shelf, reads_source}}
+use Rattle.run_rules.specs.{Ends.{answers_of, ends_of}, Said.{FilesValue, IsSaid}, Answers.IsAnswer, Refusals.{Refusal, refusal_line, refused_at, refused_word}, Steps.whole_text, Tasks.{due, limit, task_of}}
 use Rattle.run_rules.proofs.Ends.{With, command_ends}
-use Rattle.sccl_run.specs.{inner.Answering.{Answers, due_for}, TopCall.{CountValue, IsEnd, IsRun, IsSilent, RunValue, ToldValue}}
-use Rattle.sccl_run.proofs.{Dues.{due_command, due_refused}, Ended.same_reading}
+use Rattle.sccl_run.{specs.{inner.Answering.{Answers, due_for}, TopCall.{CountValue, IsEnd, IsRun, IsSilent, RunValue, ToldValue}}, proofs.{Dues.{due_command, due_refused}, Ended.same_reading}}
 
 -- ---- lists of statuses
 

@@ -1,26 +1,21 @@
 -- What is printed is right: a run that is done was due what its words and its bytes ask for.
-use Rattle.std.proofs.Common.{◌≡◌, ◌⊎◌, inl, inr, ◌<◌, ℕ, Bool, true, false, nat_lt, List, [], ◌∷◌, ◌++◌, length, None, Some, Result, Ok, Err, refl, sym, subst, ap, ◌∙◌, All, codes, if◌then◌else◌}
-use Rattle.std.{proofs.lemmas.List.{append_cancel_left, Elements.All-contains}, specs.Fmt.digits}
+use Rattle.std.proofs.{Common.{◌≡◌, ◌⊎◌, inl, inr, ◌<◌, ℕ, Bool, true, false, nat_lt, List, [], ◌∷◌, ◌++◌, length, None, Some, Result, Ok, Err, refl, sym, subst, ap, ◌∙◌, All, codes, if◌then◌else◌}, lemmas.List.append_cancel_left}
+use Rattle.std.{proofs.lemmas.List.Elements.All-contains, specs.Fmt.digits}
 use Rattle.list_laws.proofs.Each.{all_contained}
 use Rattle.outer_ports.specs.declared.part.Part.{Part}
 use Rattle.text_lines.specs.Check.{◌>>=◌, need, refuse}
 use Rattle.collective_spec.specs.Kinds.{takes_root}
-use Rattle.topology_text.specs.{Names.AreNames, Value.{NamedTopologyValue, IsNamed}, Answer.topology_number, Reading.topology_of}
-use Rattle.topology_text.specs.Spelling.{name_at, spelling}
-use Rattle.topology_text.proofs.{Laws.all_again, Links.node_again}
+use Rattle.topology_text.{specs.{Names.AreNames, Value.{NamedTopologyValue, IsNamed}, Answer.topology_number, Reading.topology_of, Spelling.{name_at, spelling}}, proofs.{Laws.all_again, Links.node_again}}
 use Rattle.candidate_formula.specs.Sizes.{size_of}
 use Rattle.candidate_order.{specs.Frontiers.{QuestionValue, FrontierValue, IsWithin, RightFrontier, Searched}, proofs.Frontiers.stands_alone}
 use Rattle.command_words.specs.{declared.{command.{Command.Command, SearchWords.SearchWords}, fault.WordCode.TheVariants.UnknownRoot}, Words.command_of}
 use Rattle.command_words.specs.declared.command.Command.TheVariants as command
-use Rattle.report_form.specs.{declared.fault.ReportCode.ReportCode, Answer.report_number, Spelling.report_text, Reading.report_of}
-use Rattle.report_form.specs.{Reports.{ReportValue, WordsValue, IsFrontier, IsWords, IsReport, question_of}, Rows.broadcast_report}
+use Rattle.report_form.specs.{declared.fault.ReportCode.ReportCode, Answer.report_number, Spelling.report_text, Reading.report_of, Reports.{ReportValue, WordsValue, IsFrontier, IsWords, IsReport, question_of}, Rows.broadcast_report}
 use Rattle.report_form.proofs.{Blamed.broadcast_valid, ReportTaken.report_take}
 use Rattle.report_laws.proofs.ReportAgain.{report_again}
 use Rattle.frontier_audit.specs.{Rights.{IsRight, IsSearched}, Parts.{IsRightPart, IsSearchedPart}}
-use Rattle.run_rules.specs.{declared.status.Status.TheVariants.{Done, BadTopology, BadReport}, Commands.reads_source, Rows.{search, two_nodes_text}}
-use Rattle.run_rules.specs.{Refusals.{Refusal, refused_as, refused_at, refused_word}, Steps.{audit_in, whole_question, whole_text}}
-use Rattle.run_rules.specs.Tasks.{Task, Write, Synthesise, Audit, Try, due, limit, root_in, search_asked, searchable, task_of}
-use Rattle.run_rules.proofs.Denied.{right_where_done}
+use Rattle.run_rules.specs.{declared.status.Status.TheVariants.{Done, BadTopology, BadReport}, Commands.reads_source, Rows.{search, two_nodes_text}, Refusals.{Refusal, refused_as, refused_at, refused_word}}
+use Rattle.run_rules.{specs.{Steps.{audit_in, whole_question, whole_text}, Tasks.{Task, Write, Synthesise, Audit, Try, due, limit, root_in, search_asked, searchable, task_of}}, proofs.Denied.right_where_done}
 use Rattle.sccl_run.specs.{Headline.{Asks, AsksSynth, Prints, SearchedFrontier, Verifies, search_words}, Laws.IsRightRun, TopCall.{CountValue, RunValue}}
 use Rattle.sccl_run.proofs.{Dues.due_command, Ended.ended, RightRuns.{done_answered, refused_not_done}, SearchWords.{root_word, synth_asked}, Verified.checks}
 

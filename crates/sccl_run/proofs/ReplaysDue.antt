@@ -5,13 +5,10 @@ use Rattle.outer_ports.specs.declared.part.Part.{Part}
 use Rattle.candidate_order.specs.Frontiers.{PointValue}
 use Rattle.command_words.specs.declared.command.Command.TheVariants as command
 use Rattle.command_words.specs.declared.{command.PointWord.PointWord, fault.WordCode.TheVariants.UnknownPoint}
-use Rattle.report_form.specs.{declared.fault.ReportCode.ReportCode, Answer.report_number, Reports.{ReportValue, IsReport}, Spelling.report_text}
-use Rattle.report_form.specs.{Numbered.point_at, Reading.report_of}
-use Rattle.report_form.proofs.ReportTaken.{report_take}
+use Rattle.report_form.{specs.{declared.fault.ReportCode.ReportCode, Answer.report_number, Reports.{ReportValue, IsReport}, Spelling.report_text, Numbered.point_at, Reading.report_of}, proofs.ReportTaken.report_take}
 use Rattle.report_laws.proofs.{ReportAgain.report_again, FirstBlamed.first_is_blamed}
 use Rattle.replay_text.specs.Showing.{shown_in, shown_text}
-use Rattle.run_rules.specs.{declared.status.Status.TheVariants.BadReport, Refusals.{Refusal, refused_as, refused_word}, Steps.replay_in}
-use Rattle.run_rules.specs.Tasks.{Task, Write, due, limit}
+use Rattle.run_rules.specs.{declared.status.Status.TheVariants.BadReport, Refusals.{Refusal, refused_as, refused_word}, Steps.replay_in, Tasks.{Task, Write, due, limit}}
 use Rattle.report_commands.proofs.Pointed.{no_point, some_point}
 use Rattle.sccl_run.{specs.Laws.{AskReplay, IsRefusedText, IsTextOf}, proofs.Dues.{due_command, short_due}}
 

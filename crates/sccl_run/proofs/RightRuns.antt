@@ -1,25 +1,21 @@
 -- What a right run says, drawn out.
-use Rattle.std.proofs.Common.{◌≡◌, ◌⊎◌, ◌≤◌, ◌++◌, ℕ, Bool, true, false, IsTrue, length, List, [], inl, inr, Result, Ok, Err, refl, sym, subst, ap, ◌∙◌}
-use Rattle.std.proofs.lemmas.List.{take_all, Elements.All-contains}
+use Rattle.std.proofs.{Common.{◌≡◌, ◌⊎◌, ◌≤◌, ◌++◌, ℕ, Bool, true, false, IsTrue, length, List, [], inl, inr, Result, Ok, Err, refl, sym, subst, ap, ◌∙◌}, lemmas.List.{take_all, Elements.All-contains}}
 use Rattle.text_lines.specs.Check.{◌>>=◌, need}
 use Rattle.topology_text.specs.{Answer.topology_number, Reading.topology_of, Value.NamedTopologyValue}
 use Rattle.json_values.specs.{Answer.json_number, Reading.read_json, TopologyForm.topology as topology_form}
-use Rattle.json_rules.specs.ReportForm.{report as report_form}
+use Rattle.json_rules.specs.ReportForm.report as report_form
 use Rattle.outer_ports.specs.Shelf.{FilesStay}
 use Rattle.candidate_order.{specs.Frontiers.{RightFrontier, IsSolvable}, proofs.Frontiers.better_refuted}
 use Rattle.report_form.specs.{Reading.report_of, Reports.{WordsValue, ReportValue, question_of}}
 use Rattle.frontier_audit.specs.{Rights.IsRight, Parts.IsRightPart}
-use Rattle.command_words.specs.declared.{fault.WordFault.WordFault, command.{Command.Command, SearchWords.SearchWords}}
-use Rattle.command_words.specs.Words.{command_of}
+use Rattle.command_words.specs.{declared.{fault.WordFault.WordFault, command.{Command.Command, SearchWords.SearchWords}}, Words.command_of}
 use Rattle.run_rules.specs.{declared.status.Status.Status, Commands.{Ask, IsOneOf, reads_source}, Ends.{changes_files, refusals_of}, Answers.IsAnswer, Refusals.{Refusal, refused_as}}
 use Rattle.run_rules.specs.declared.status.Status.TheVariants.{Done, BadWords, BadTopology, BadJson, TooLong, SinkFailed}
-use Rattle.run_rules.specs.Tasks.{Task, Synthesise, Try, Bound, Degrade, due, fault_in, point_in, read_report, root_in, search_asked, searchable, task_of, words_asked}
-use Rattle.run_rules.specs.Steps.{fitting, whole_question, whole_text, words_for}
+use Rattle.run_rules.specs.{Tasks.{Task, Synthesise, Try, Bound, Degrade, due, fault_in, point_in, read_report, root_in, search_asked, searchable, task_of, words_asked}, Steps.{fitting, whole_question, whole_text, words_for}}
 use Rattle.run_rules.proofs.Ends.{With, refused_with}
 use Rattle.command_words.specs.declared.command.JsonWhat.TheVariants as what
 use Rattle.command_words.specs.declared.command.Command.TheVariants as command
-use Rattle.sccl_run.specs.{Laws.{IsRightRun, WritesWith, NoneIsBetter}, TopCall.{CountValue, IsEnd, IsSilent, RunValue}, Rows.all_tell, inner.Answering.{IsWholeAnswer, files_of}}
-use Rattle.sccl_run.proofs.{Calls.spoken, Ended.ended, Listed.whole_with}
+use Rattle.sccl_run.{specs.{Laws.{IsRightRun, WritesWith, NoneIsBetter}, TopCall.{CountValue, IsEnd, IsSilent, RunValue}, Rows.all_tell, inner.Answering.{IsWholeAnswer, files_of}}, proofs.{Calls.spoken, Ended.ended, Listed.whole_with}}
 
 -- ---- a run that is done
 

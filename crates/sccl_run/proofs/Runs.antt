@@ -1,8 +1,6 @@
 -- How a run ends, from what its answer says.
-use Rattle.std.proofs.Common.{◌≡◌, ◌≢◌, ◌⊎◌, ◌++◌, ◌+◌, ◌≤◌, ℕ, Bool, true, false, IsTrue, List, length, take, drop, inl, inr, refl, sym, subst, ◌∙◌, arith}
-use Rattle.std.proofs.lemmas.List.{take_all}
-use Rattle.run_rules.specs.declared.{status.Status.{Status, TheVariants.{OutOfMemory, SourceFailed, SinkFailed, ShelfFailed}}, halt.Halt.Halt}
-use Rattle.run_rules.specs.{declared.halt.Halt.TheVariants.Shelf, Commands.{Ask, reads_source}, Tasks.{limit, due}}
+use Rattle.std.proofs.{Common.{◌≡◌, ◌≢◌, ◌⊎◌, ◌++◌, ◌+◌, ◌≤◌, ℕ, Bool, true, false, IsTrue, List, length, take, drop, inl, inr, refl, sym, subst, ◌∙◌, arith}, lemmas.List.take_all}
+use Rattle.run_rules.specs.{declared.{status.Status.{Status, TheVariants.{OutOfMemory, SourceFailed, SinkFailed, ShelfFailed}}, halt.Halt.{Halt, TheVariants.Shelf}}, Commands.{Ask, reads_source}, Tasks.{limit, due}}
 use Rattle.report_form.specs.Reading.{report_of}
 use Rattle.report_laws.proofs.Readings.{read_by_spelling}
 use Rattle.sccl_run.specs.{inner.Answering.{IsAnswerTo, IsHaltAt, files_of}, TopCall.{CountValue, IsEnd, IsSilent, IsTopCall, IsRun, LeftIsDue, RunValue, ToldValue}}

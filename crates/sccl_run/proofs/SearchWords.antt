@@ -1,19 +1,16 @@
 -- The words of a search ask for it.
 use Rattle.std.proofs.Common.{◌≡◌, ◌≢◌, ◌≤◌, ◌<◌, ◌+◌, ◌^◌, ◌&&◌, ℕ, Bool, true, false, not, nat_le, List, [], ◌∷◌, ◌++◌, length, drop, is_some, Option, None, Some, Result, Ok, refl, sym, ap, ◌∙◌, arith, codes, decimal, if◌then◌else◌}
-use Rattle.std.{specs.Str.Parse.digits_value, proofs.lemmas.{Bool.Decides.nat_tests, List.Elements.All-get_or}}
+use Rattle.std.{proofs.lemmas.{Bool.Decides.nat_tests, List.Elements.All-get_or}, specs.Str.Parse.digits_value}
 use Rattle.text_lines.{specs.Check.{◌>>=◌, refuse}, proofs.Numbers.{up_to_some, value_of_decimal}}
 use Rattle.collective_spec.specs.{declared.kind.Kind.{Kind, TheVariants.Allreduce}, Kinds.{word_of, every_kind, takes_root}}
 use Rattle.candidate_order.specs.{declared.pruning.Pruning.Pruning, Ranges.{LimitsValue, IsLimits, unpruned}}
 use Rattle.topology_text.specs.{Names.{AreNames, is_name}, Spelling.name_at}
 use Rattle.report_form.specs.{Reports.{WordsValue, IsWords}, Spelling.{pruning_words, root_words, synth_words, word_if}}
-use Rattle.command_words.specs.declared.{command.{Command.Command, RootWord.RootWord}, fault.WordCode.TheVariants.{BadValue, UnknownKey, KeyTwice}, key.Key.Key}
-use Rattle.command_words.specs.{declared.{fault.WordFault.WordFault, verb.Verb.Verb}, Commands.command_from, Tables.{has_key, key_row, Number}}
-use Rattle.command_words.specs.Words.{at_word, command_of, fits, given_from, is_refused, with_word}
-use Rattle.command_words.proofs.{Naming.{any_named, kind_found}, Proper.untaken}
+use Rattle.command_words.specs.{declared.{command.{Command.Command, RootWord.RootWord}, fault.{WordCode.TheVariants.{BadValue, UnknownKey, KeyTwice}, WordFault.WordFault}, key.Key.Key, verb.Verb.Verb}, Commands.command_from}
+use Rattle.command_words.{specs.{Tables.{has_key, key_row, Number}, Words.{at_word, command_of, fits, given_from, is_refused, with_word}, Given.{Given, is_given}}, proofs.{Naming.{any_named, kind_found}, Proper.untaken}}
 use Rattle.command_words.specs.declared.command.Command.TheVariants as command
 use Rattle.command_words.specs.declared.key.Key.TheVariants as key
 use Rattle.command_words.specs.declared.verb.Verb.TheVariants as verb
-use Rattle.command_words.specs.Given.{Given, is_given}
 use Rattle.sccl_run.specs.Headline.{search_words}
 
 -- ---- single values

@@ -1,12 +1,9 @@
 -- From what came of the source to what is answered for the words.
-use Rattle.std.proofs.Common.{◌≡◌, ◌<◌, ℕ, Bool, IsTrue, List, Option, None, Some, Result, Ok, Err, IfOk, IfErr, IfSome, IfNone, OnErr, Vec, Global, length, refl, sym, subst, ap, ◌∙◌}
-use Rattle.std.proofs.lemmas.Result.{IfOk-weaker}
+use Rattle.std.proofs.{Common.{◌≡◌, ◌<◌, ℕ, Bool, IsTrue, List, Option, None, Some, Result, Ok, Err, IfOk, IfErr, IfSome, IfNone, OnErr, Vec, Global, length, refl, sym, subst, ap, ◌∙◌}, lemmas.Result.IfOk-weaker}
 use Rattle.outer_ports.specs.Shelf.{FilesStay}
 use Rattle.command_words.specs.{declared.{command.Command.Command, fault.WordFault.WordFault}, Words.command_of}
-use Rattle.run_rules.specs.declared.{answer.Answer.Answer, halt.Halt.{Halt, TheVariants.Shelf}, status.Status.{Status, TheVariants.BadWords}}
-use Rattle.run_rules.specs.{Answers.{FilesValue, IsAnswer, LeavesOff, Says, Stay}, Commands.{Ask, reads_source}, Refusals.{Refusal, refusal_line, refused_word}}
-use Rattle.run_rules.specs.Tasks.{due, limit}
-use Rattle.run_rules.proofs.Answered.{nothing_left_off, refused_answers}
+use Rattle.run_rules.specs.{declared.{answer.Answer.Answer, halt.Halt.{Halt, TheVariants.Shelf}, status.Status.{Status, TheVariants.BadWords}}, Answers.{FilesValue, IsAnswer, LeavesOff, Says, Stay}, Commands.{Ask, reads_source}}
+use Rattle.run_rules.{specs.{Refusals.{Refusal, refusal_line, refused_word}, Tasks.{due, limit}}, proofs.Answered.{nothing_left_off, refused_answers}}
 use Rattle.sccl_run.{specs.inner.Answering.{IsAnswerTo, IsHaltAt, due_for}, proofs.Dues.{asks_one, due_command, due_refused, too_many}}
 
 -- ---- what came

@@ -1,7 +1,6 @@
 -- What a search wrote, checked over the files that it left.
-use Rattle.std.proofs.Common.{◌≡◌, ◌⊎◌, ◌≤◌, ◌++◌, inl, inr, ℕ, Bool, List, [], ◌∷◌, length, Ok, codes, map, refl, append-nil, sym, subst, ap, ◌∙◌}
-use Rattle.std.{proofs.lemmas.List.{append_cancel_left, Elements.All-contains}, specs.Fmt.digits}
-use Rattle.text_lines.specs.{Check.{◌>>=◌}, Text.line}
+use Rattle.std.{proofs.{Common.{◌≡◌, ◌⊎◌, ◌≤◌, ◌++◌, inl, inr, ℕ, Bool, List, [], ◌∷◌, length, Ok, codes, map, refl, append-nil, sym, subst, ap, ◌∙◌}, lemmas.List.{append_cancel_left, Elements.All-contains}}, specs.Fmt.digits}
+use Rattle.text_lines.specs.{Check.◌>>=◌, Text.line}
 use Rattle.outer_ports.specs.{declared.part.Part.Part, Files.Files, Shelf.FilesStay}
 use Rattle.outer_ports.specs.declared.part.Part.TheVariants as part
 use Rattle.collective_spec.specs.declared.kind.Kind.TheVariants as kind
@@ -12,14 +11,10 @@ use Rattle.command_words.specs.Words.{command_of}
 use Rattle.command_words.specs.declared.command.Command.TheVariants as command
 use Rattle.report_form.specs.{Answer.report_number, Reports.{ReportValue, WordsValue, parts_of}, Reading.report_of, Spelling.report_text}
 use Rattle.report_laws.proofs.ReportAgain.{report_again}
-use Rattle.frontier_audit.specs.{Shelves.ShelfRight, Rights.{AreJoined, IsRight}, Parts.{IsRightPart, is_reduce, is_gather, points_of}, OwedFiles.Proves}
-use Rattle.frontier_audit.proofs.{Proved.proves_right, Right.right_verified}
-use Rattle.run_rules.specs.{declared.status.Status.TheVariants.{Done, SinkFailed, BadReport}, Refusals.refused_as}
-use Rattle.run_rules.{specs.Said.Says, proofs.Denied.done_of}
-use Rattle.run_rules.specs.{Ends.changes_files, Steps.whole_question, Audits.{audited, not_denied}}
-use Rattle.run_rules.specs.Tasks.{Synthesise, Audit, due, limit, searchable}
-use Rattle.sccl_run.specs.{Laws.IsRightRun, TopCall.{CountValue, IsEnd, IsSilent, RunValue}, Rows.all_tell}
-use Rattle.sccl_run.proofs.{Dues.{due_command, short_due}, Ended.ended, RightRuns.{Fits, Holds, done_answered, due_fits}}
+use Rattle.frontier_audit.{specs.{Shelves.ShelfRight, Rights.{AreJoined, IsRight}, Parts.{IsRightPart, is_reduce, is_gather, points_of}, OwedFiles.Proves}, proofs.{Proved.proves_right, Right.right_verified}}
+use Rattle.run_rules.specs.{declared.status.Status.TheVariants.{Done, SinkFailed, BadReport}, Refusals.refused_as, Said.Says, Ends.changes_files, Steps.whole_question, Audits.{audited, not_denied}}
+use Rattle.run_rules.{specs.Tasks.{Synthesise, Audit, due, limit, searchable}, proofs.Denied.done_of}
+use Rattle.sccl_run.{specs.{Laws.IsRightRun, TopCall.{CountValue, IsEnd, IsSilent, RunValue}, Rows.all_tell}, proofs.{Dues.{due_command, short_due}, Ended.ended, RightRuns.{Fits, Holds, done_answered, due_fits}}}
 
 -- ---- the check of its report
 

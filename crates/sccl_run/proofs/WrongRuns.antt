@@ -1,23 +1,18 @@
 -- Runs that are not right.
-use Rattle.std.proofs.Common.{◌≡◌, ◌+◌, ℕ, drop, false, zero, suc, Any, map, ap, arith, subst, List, [], ◌∷◌, None, Some, Ok, Err, inl, inr, refl, sym, ◌∙◌, codes, bytes_eq}
-use Rattle.std.{specs.Fmt.digits, proofs.lemmas.{Option.none-some, List.drop_all}}
-use Rattle.outer_ports.specs.declared.{part.Part.{Part, TheVariants.{Whole, Joined}}, proof_name.{FileKind.TheVariants.{Cnf, Lrat}, ProofName.ProofName}}
-use Rattle.outer_ports.specs.Files.{Files}
+use Rattle.std.{proofs.{Common.{◌≡◌, ◌+◌, ℕ, drop, false, zero, suc, Any, map, ap, arith, subst, List, [], ◌∷◌, None, Some, Ok, Err, inl, inr, refl, sym, ◌∙◌, codes, bytes_eq}, lemmas.{Option.none-some, List.drop_all}}, specs.Fmt.digits}
+use Rattle.outer_ports.specs.{declared.{part.Part.{Part, TheVariants.{Whole, Joined}}, proof_name.{FileKind.TheVariants.{Cnf, Lrat}, ProofName.ProofName}}, Files.Files}
 use Rattle.topology_text.specs.{declared.family_kind.FamilyKind.TheVariants.Line, Family.family_of, Reading.{pattern_at, topology_of, topology_at, named_at}}
 use Rattle.collective_spec.specs.declared.kind.Kind.TheVariants.{Broadcast}
 use Rattle.command_words.specs.Words.{command_of}
 use Rattle.candidate_order.specs.{Frontiers.{FrontierValue, QuestionValue}, Ranges.unpruned, declared.mark.Mark.TheVariants.Optimal}
 use Rattle.schedule.specs.Rows.{send}
-use Rattle.report_form.specs.{Reports.{WordsValue, parts_of, question_of}, Rows.{broadcast_report, one_point, point}, Spelling.report_text}
-use Rattle.report_form.specs.Reading.{body_of, report_of}
-use Rattle.report_form.proofs.Blamed.{broadcast_read}
+use Rattle.report_form.{specs.{Reports.{WordsValue, parts_of, question_of}, Rows.{broadcast_report, one_point, point}, Spelling.report_text, Reading.{body_of, report_of}}, proofs.Blamed.broadcast_read}
 use Rattle.report_laws.proofs.ReportAgain.{report_again}
 use Rattle.candidate_formula.specs.{Files.FrontierFiles, Pruned.HasOwnFiles}
 use Rattle.frontier_audit.specs.OwedFiles.{Proves}
-use Rattle.run_rules.specs.{declared.status.Status.{Status, TheVariants.{OutOfMemory, SourceFailed, SinkFailed, ShelfFailed, BadReport}}, Commands.{Ask, reads_source}, Tasks.{Synthesise, due, limit}}
-use Rattle.run_rules.specs.{Refusals.{refusal_line, refused_at}, Answers.IsSearch}
-use Rattle.sccl_run.specs.{Laws.IsRightRun, Rows.{all_tell, done_search, failed_search, no_files, own_file, refused_check}, inner.Answering.files_of}
-use Rattle.sccl_run.specs.TopCall.{CountValue, IsEnd}
+use Rattle.run_rules.specs.{declared.status.Status.{Status, TheVariants.{OutOfMemory, SourceFailed, SinkFailed, ShelfFailed, BadReport}}, Commands.{Ask, reads_source}, Tasks.{Synthesise, due, limit}, Refusals.{refusal_line, refused_at}}
+use Rattle.run_rules.specs.Answers.{IsSearch}
+use Rattle.sccl_run.specs.{Laws.IsRightRun, Rows.{all_tell, done_search, failed_search, no_files, own_file, refused_check}, inner.Answering.files_of, TopCall.{CountValue, IsEnd}}
 use Rattle.sccl_run.proofs.{Calls.spoken, Ended.ended, FamilyRuns.differ, RightRuns.{answered, done_answered}}
 
 some_name : ProofName

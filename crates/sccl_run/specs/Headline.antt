@@ -3,14 +3,12 @@ use Rattle.std.specs.Prelude.{◌≡◌, ◌≢◌, ◌⊎◌, ℕ, ◌*◌, ◌
 use Rattle.outer_ports.specs.declared.part.Part.TheVariants.{Whole}
 use Rattle.schedule.specs.Sends.{ScheduleValue}
 use Rattle.collective_spec.specs.{declared.kind.Kind.TheVariants.Allreduce, Collectives.{adds_up, kind_in, fits_kind}, Kinds.allows}
-use Rattle.candidate_order.specs.{declared.candidate.Candidate.Candidate, Ranges.unpruned, Costs.{NoWorse, Before}}
-use Rattle.candidate_order.specs.Frontiers.{QuestionValue, PointValue, FrontierValue, solved, given_up, Achieves, IsWithin, RightFrontier, WastesNothing}
+use Rattle.candidate_order.specs.{declared.candidate.Candidate.Candidate, Ranges.unpruned, Costs.{NoWorse, Before}, Frontiers.{QuestionValue, PointValue, FrontierValue, solved, given_up, Achieves, IsWithin, RightFrontier, WastesNothing}}
 use Rattle.topology_text.specs.{Value.{NamedTopologyValue, IsNamed}, Spelling.spelling}
 use Rattle.report_form.specs.{Reports.{WordsValue, ReportValue, IsWords, IsReport, question_of}, Spelling.{report_text, synth_words, word_if}}
 use Rattle.node_cuts.specs.declared.floor.Floor.{Floor}
 use Rattle.frontier_audit.specs.Rights.{IsRight}
-use Rattle.run_rules.specs.{Tasks.given_sets, Bounds.{bound_lines, bound_text, floor_words}, Orders.ordered_text}
-use Rattle.run_rules.specs.Degraded.{degraded_text, left_topology, old_refuted}
+use Rattle.run_rules.specs.{Tasks.given_sets, Bounds.{bound_lines, bound_text, floor_words}, Orders.ordered_text, Degraded.{degraded_text, left_topology, old_refuted}}
 
 -- ---- what is asked for
 

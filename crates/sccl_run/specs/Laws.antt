@@ -1,12 +1,10 @@
 -- What follows for the reader of a report, and what is due for the words of a replay, in words of reports and their texts.
 use Rattle.std.specs.Prelude.{◌≡◌, ◌≤◌, ◌++◌, ℕ, List, length, Contains, Option, Ok, Err}
 use Rattle.outer_ports.specs.{declared.part.Part.Part, Shelf.FilesStay}
-use Rattle.candidate_order.specs.{declared.{candidate.Candidate.Candidate, mark.Mark.TheVariants.Optimal}, Costs.Better}
-use Rattle.candidate_order.specs.Frontiers.{PointValue, FrontierValue, IsSolvable, IsWithin}
+use Rattle.candidate_order.specs.{declared.{candidate.Candidate.Candidate, mark.Mark.TheVariants.Optimal}, Costs.Better, Frontiers.{PointValue, FrontierValue, IsSolvable, IsWithin}}
 use Rattle.command_words.specs.declared.command.Command.TheVariants as command
 use Rattle.command_words.specs.Words.{command_of}
-use Rattle.report_form.specs.{declared.fault.ReportCode.ReportCode, Answer.report_number, Reports.{ReportValue, IsReport, question_of}, Spelling.report_text}
-use Rattle.report_form.specs.First.{FailsFirstAt}
+use Rattle.report_form.specs.{declared.fault.ReportCode.ReportCode, Answer.report_number, Reports.{ReportValue, IsReport, question_of}, Spelling.report_text, First.FailsFirstAt}
 use Rattle.run_rules.specs.{declared.status.Status.TheVariants.BadReport, Refusals.refused_at, Tasks.{due, limit}}
 use Rattle.sccl_run.specs.{TopCall.{CountValue, IsRun, RunValue}, Rows.all_tell}
 

@@ -3,8 +3,7 @@ use Rattle.std.specs.Prelude.{ℕ, true, List, [], ◌∷◌, None, Some, codes}
 use Rattle.outer_ports.specs.{declared.{part.Part.TheVariants.Whole, proof_name.{FileKind.FileKind, ProofName.ProofName}}, Files.Files}
 use Rattle.report_form.specs.{Reports.question_of, Rows.{broadcast_report, relay_report}, Spelling.report_text}
 use Rattle.candidate_formula.specs.Files.{HasRefutation, file_of}
-use Rattle.run_rules.specs.declared.status.Status.{Status, TheVariants.{Done, BadReport}}
-use Rattle.run_rules.specs.Rows.{two_nodes_text, search}
+use Rattle.run_rules.specs.{declared.status.Status.{Status, TheVariants.{Done, BadReport}}, Rows.{two_nodes_text, search}}
 use Rattle.sccl_run.specs.TopCall.{RunValue, ToldValue}
 
 -- a shelf without files

@@ -3,8 +3,7 @@
 ghost use Rattle.std.specs.Prelude.{◌≡◌, ◌≢◌, ◌<◌, ◌≤◌, ℕ, List, length, IsTrue, IfOk, IfSome, IfNone, OnErr, Ok, Err};
 ghost use Rattle.outer_ports.specs.Port.{HasCause, Tells};
 ghost use Rattle.command_words.specs.Commands.{IsProper};
-ghost use Rattle.run_rules.specs.{Answers.{IsAnswer, LeavesOff}, Commands.{IsOneOf, IsRefusal, opens_shelf, reads_source}, Ends.answers_of, Refusals.Refusal};
-ghost use Rattle.run_rules.specs.Tasks.{limit, task_of};
+ghost use Rattle.run_rules.specs.{Answers.{IsAnswer, LeavesOff}, Commands.{IsOneOf, IsRefusal, opens_shelf, reads_source}, Ends.answers_of, Refusals.Refusal, Tasks.{limit, task_of}};
 ghost use Rattle.sccl_run.specs.inner.Answering.{due_for};
 
 use crate::family::family_answer;

@@ -5,8 +5,7 @@ ghost use Rattle.topology_text.specs.Value.{NamedTopologyValue};
 ghost use Rattle.report_form.specs.{Reports.{IsReport, ReportValue, WordsValue}, Rows.broadcast_report, Spelling.report_text};
 ghost use Rattle.frontier_audit.specs.Rights.{IsRight};
 ghost use Rattle.run_rules.specs.Rows.{search, two_nodes_text};
-ghost use Rattle.sccl_run.specs.{TopCall.{CountValue, RunValue}, Laws.IsRightRun};
-ghost use Rattle.sccl_run.specs.Headline.{AsksBound, AsksDegraded, AsksOrdered, AsksSynth, Prints, PrintsBound, PrintsDegraded, PrintsOrdered, Verifies};
+ghost use Rattle.sccl_run.specs.{TopCall.{CountValue, RunValue}, Laws.IsRightRun, Headline.{AsksBound, AsksDegraded, AsksOrdered, AsksSynth, Prints, PrintsBound, PrintsDegraded, PrintsOrdered, Verifies}};
 
 use run_rules::Status;
 

@@ -1,12 +1,10 @@
 -- The literals of arrivals and sends are about their own variables.
-use Rattle.std.proofs.Common.{ℕ, ◌+◌, ◌-◌, ◌*◌, ◌<◌, ◌≤◌, Bool, true, false, List, [], ◌∷◌, length, map, arith, if◌then◌else◌, All}
+use Rattle.std.proofs.{Common.{ℕ, ◌+◌, ◌-◌, ◌*◌, ◌<◌, ◌≤◌, Bool, true, false, List, [], ◌∷◌, length, map, arith, if◌then◌else◌, All}, lemmas.List.Elements.{All-nil, All-cons, All-head, All-tail, All-append, All-filter}}
 use Rattle.std.specs.List.{enumerate_from}
-use Rattle.std.proofs.lemmas.List.Elements.{All-nil, All-cons, All-head, All-tail, All-append, All-filter}
 use Rattle.schedule.specs.{Placed.{PlacementValue, holds}, Sends.IsStep}
 use Rattle.cnf_formula.{specs.{Literals.{LitValue, negation}, Formulas.{IsAbout, IsClause}}, proofs.Clauses.negation_about}
 use Rattle.cardinality.specs.Counting.{at_most_one_of}
-use Rattle.send_encoding.specs.Variables.{SendMapValue, links_into, arrival, arrivals, sent, sends}
-use Rattle.send_encoding.specs.{Sending.{send_over, sends_into, sending}, Moving.{IsLinkOf, JoinsNodes}}
+use Rattle.send_encoding.specs.{Variables.{SendMapValue, links_into, arrival, arrivals, sent, sends}, Sending.{send_over, sends_into, sending}, Moving.{IsLinkOf, JoinsNodes}}
 use Rattle.send_encoding.proofs.{Everywhere.{in_map, From, slot}, Clauses.{numbered_are, all_of_each}}
 
 -- ---- clauses of a few literals

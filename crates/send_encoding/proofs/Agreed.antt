@@ -1,7 +1,6 @@
 -- Where the clauses of arrivals and sends hold, the run of a schedule of the sends that are true holds the arrivals.
 use Rattle.std.proofs.Common.{◌≡◌, ℕ, ◌≤◌, Bool, true, List, ◌∙◌, arith, sym, ◌<◌, All, AllPairs}
-use Rattle.schedule.specs.{Placed.{PlacementValue, IsPlacement}, Sends.ScheduleValue, Running.after, Solving.Tight}
-use Rattle.schedule.proofs.{Placing.{same_placement, placement-placed, holds-placed}, Stepping.{chunks-after, nodes-after, placement-after}}
+use Rattle.schedule.{specs.{Placed.{PlacementValue, IsPlacement}, Sends.ScheduleValue, Running.after, Solving.Tight}, proofs.{Placing.{same_placement, placement-placed, holds-placed}, Stepping.{chunks-after, nodes-after, placement-after}}}
 use Rattle.cnf_formula.specs.Literals.{is_true, all_hold}
 use Rattle.send_encoding.specs.{Variables.{SendMapValue, arrival, sent}, Sending.sending, Sent.{sends_of, arrived}, Moving.JoinsNodes}
 use Rattle.send_encoding.proofs.{Sound.sending_says, Decoded.sends_tell, Running.run_is, Ascending.{LinkBefore, sends_ascend}, Tightened.is_tight}

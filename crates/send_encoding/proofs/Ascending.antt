@@ -1,15 +1,12 @@
 -- The usable links ascend, and so do the sends that an assignment says.
-use Rattle.std.proofs.Common.{◌≡◌, ℕ, ◌<◌, Bool, true, false, List, [], ◌∷◌, map, length, get_or, refl, sym, ap, ◌∙◌, subst, ◌⊎◌, inl, inr, ⊎_elim, arith, if◌then◌else◌, flat_map, All, AllPairs}
-use Rattle.std.specs.List.{enumerate_from}
-use Rattle.std.{specs.List.{list_any, range_with_len, position_or_len}, proofs.lemmas.List.{Elements.{All-nil, All-cons}, Folds.list_any_at}}
-use Rattle.std.proofs.lemmas.{Bool.{and_from, or_left, or_right, lt-ltb, eq-eqb, cases_lt, Decides.nat_tests}, List.Kept.AllPairs-filter}
+use Rattle.std.proofs.{Common.{◌≡◌, ℕ, ◌<◌, Bool, true, false, List, [], ◌∷◌, map, length, get_or, refl, sym, ap, ◌∙◌, subst, ◌⊎◌, inl, inr, ⊎_elim, arith, if◌then◌else◌, flat_map, All, AllPairs}, lemmas.List.Elements.{All-nil, All-cons}}
+use Rattle.std.{proofs.lemmas.{List.{Folds.list_any_at, Kept.AllPairs-filter}, Bool.{and_from, or_left, or_right, lt-ltb, eq-eqb, cases_lt, Decides.nat_tests}}, specs.List.{enumerate_from, list_any, range_with_len, position_or_len}}
 use Rattle.list_laws.proofs.Pairs.{no_pairs}
 use Rattle.schedule.specs.{declared.hop.Hop.Hop, Links.{TopologyValue, is_usable, usable_links}, Placed.{all_pairs, same_pair}, Sends.{hop_before, link_of}}
 use Rattle.schedule.proofs.{Placing.{pair_is, pair_itself}, HopOrder.same_hop, Verdicts.sends_one_way}
 use Rattle.cnf_formula.specs.Literals.{is_true}
 use Rattle.send_encoding.specs.{Variables.{SendMapValue, steps_of, sent}, Sent.{hop_over, sends_of}}
-use Rattle.send_encoding.proofs.{Everywhere.{in_map, in_flat, place_below}, Members.passes_at}
-use Rattle.send_encoding.proofs.Orders.{one_pairs, flat_pairs, map_pairs, range_pairs, numbered_pairs}
+use Rattle.send_encoding.proofs.{Everywhere.{in_map, in_flat, place_below}, Members.passes_at, Orders.{one_pairs, flat_pairs, map_pairs, range_pairs, numbered_pairs}}
 
 -- by the first number, and then the second
 abbrev pub LinkBefore : ℕ × ℕ → ℕ × ℕ → Type 0

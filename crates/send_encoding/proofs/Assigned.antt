@@ -1,10 +1,8 @@
 -- The assignment that gives each arrival and each send its value.
-use Rattle.std.proofs.Common.{◌≡◌, ℕ, ◌+◌, ◌-◌, ◌*◌, ◌<◌, ◌≤◌, Bool, false, List, ◌++◌, length, get_or, ap, ◌∙◌, arith, length-append}
-use Rattle.std.proofs.lemmas.List.{get_or-append-add, get_or_append_left}
+use Rattle.std.proofs.{Common.{◌≡◌, ℕ, ◌+◌, ◌-◌, ◌*◌, ◌<◌, ◌≤◌, Bool, false, List, ◌++◌, length, get_or, ap, ◌∙◌, arith, length-append}, lemmas.List.{get_or-append-add, get_or_append_left}}
 use Rattle.schedule.specs.Sends.{IsStep}
 use Rattle.cnf_formula.specs.Literals.{is_true}
-use Rattle.send_encoding.specs.{Variables.{SendMapValue, arrival, arrivals, sent, sends}, Assigning.{arrival_values, send_values, assigned}}
-use Rattle.send_encoding.proofs.{Everywhere.slot, Grid.{cube_length, cube_at}}
+use Rattle.send_encoding.{specs.{Variables.{SendMapValue, arrival, arrivals, sent, sends}, Assigning.{arrival_values, send_values, assigned}}, proofs.{Everywhere.slot, Grid.{cube_length, cube_at}}}
 
 module _ (m : SendMapValue) (a x : ℕ → ℕ → ℕ → Bool) (rest : List Bool) where
   held_length : length (arrival_values m a) ≡ arrivals m

@@ -1,12 +1,11 @@
 -- What holds of each clause of arrivals and sends holds of all of them.
-use Rattle.std.proofs.Common.{◌≡◌, ℕ, ◌+◌, ◌-◌, ◌<◌, true, List, [], ◌∷◌, ◌++◌, length, get_or, sym, ap, ◌∙◌, arith, if◌then◌else◌, flat_map, filter, All}
-use Rattle.std.{specs.List.{range_with_len, enumerate_from}, proofs.lemmas.List.{get_or_default, Elements.All-append, FromFn.{length-enumerate_from, get_or-enumerate_from}}}
+use Rattle.std.proofs.{Common.{◌≡◌, ℕ, ◌+◌, ◌-◌, ◌<◌, true, List, [], ◌∷◌, ◌++◌, length, get_or, sym, ap, ◌∙◌, arith, if◌then◌else◌, flat_map, filter, All}, lemmas.List.{get_or_default, Elements.All-append}}
+use Rattle.std.{proofs.lemmas.List.FromFn.{length-enumerate_from, get_or-enumerate_from}, specs.List.{range_with_len, enumerate_from}}
 use Rattle.schedule.{specs.{Placed.{all_pairs, PlacementValue, holds}, Sends.IsStep}, proofs.{Placing.all_below, First.{Among, Among-from_Contains}}}
 use Rattle.cnf_formula.specs.Literals.{LitValue, negation}
 use Rattle.cardinality.specs.Counting.{at_most_one_of}
 use Rattle.send_encoding.specs.{Variables.{SendMapValue, steps_of, arrival}, Moving.{IsLinkOf, JoinsNodes}, inner.Parts.{node_keeps, node_arrives, node_once}}
-use Rattle.send_encoding.specs.Sending.{at_start, keeps, at_end, send_over, sends_arrive, sends_into, arrives_by_sends, arrives_once, sending}
-use Rattle.send_encoding.proofs.{Everywhere.{by_recursion, in_map, in_flat, in_numbers, From, in_range}, Members.kept}
+use Rattle.send_encoding.{specs.Sending.{at_start, keeps, at_end, send_over, sends_arrive, sends_into, arrives_by_sends, arrives_once, sending}, proofs.{Everywhere.{by_recursion, in_map, in_flat, in_numbers, From, in_range}, Members.kept}}
 
 abbrev pub InGrid : SendMapValue → ℕ × ℕ → Type 0
 InGrid m pair = (pair.0 < m.chunks) × (pair.1 < m.nodes)

@@ -1,15 +1,11 @@
 -- Where the tables move chunks, the clauses of arrivals and sends hold.
-use Rattle.std.proofs.lemmas.Grind.{common_steps}
-use Rattle.std.proofs.Common.{◌≡◌, ℕ, ◌-◌, ◌<◌, ◌≤◌, Bool, true, false, List, [], ◌∷◌, map, length, refl, sym, ap, ◌∙◌, ⊎_elim, arith, ◌||◌, if◌then◌else◌, flat_map, count_by, All}
-use Rattle.std.specs.List.{enumerate_from}
-use Rattle.std.{specs.List.{list_any, list_all}, proofs.lemmas.Bool.{and_from, or_left, or_right, cases_Bool, not_from_false, Decides.nat_tests}}
-use Rattle.std.proofs.lemmas.List.{Elements.{All-head, All-tail, All-filter}, Sums.{sum_by-cons, AllPass-from_list_all, list_all-from_AllPass}}
+use Rattle.std.proofs.{lemmas.Grind.common_steps, Common.{◌≡◌, ℕ, ◌-◌, ◌<◌, ◌≤◌, Bool, true, false, List, [], ◌∷◌, map, length, refl, sym, ap, ◌∙◌, ⊎_elim, arith, ◌||◌, if◌then◌else◌, flat_map, count_by, All}}
+use Rattle.std.proofs.lemmas.{Bool.{and_from, or_left, or_right, cases_Bool, not_from_false, Decides.nat_tests}, List.{Elements.{All-head, All-tail, All-filter}, Sums.{sum_by-cons, AllPass-from_list_all, list_all-from_AllPass}}}
+use Rattle.std.specs.List.{enumerate_from, list_any, list_all}
 use Rattle.schedule.specs.{Placed.{PlacementValue, holds}, Sends.IsStep}
 use Rattle.cnf_formula.{specs.Literals.{LitValue, negation, is_true, clause_holds, all_hold}, proofs.Clauses.negation_is}
 use Rattle.cardinality.{specs.Counting.at_most_one_of, proofs.Pairs.pairs_decide}
-use Rattle.send_encoding.specs.Variables.{SendMapValue, links_into, arrival, sent}
-use Rattle.send_encoding.specs.Sending.{send_over, sends_into, sending}
-use Rattle.send_encoding.specs.Moving.{IsLinkOf, Moves, JoinsNodes}
+use Rattle.send_encoding.specs.{Variables.{SendMapValue, links_into, arrival, sent}, Sending.{send_over, sends_into, sending}, Moving.{IsLinkOf, Moves, JoinsNodes}}
 use Rattle.send_encoding.proofs.{Everywhere.{in_map, in_flat}, Clauses.{numbered_are, all_of_each}}
 
 -- ---- clauses, everywhere

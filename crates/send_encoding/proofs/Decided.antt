@@ -2,10 +2,8 @@
 use Rattle.std.proofs.Common.{◌≡◌, ℕ, ◌+◌, Bool, true, List, [], refl, ◌∙◌, arith}
 use Rattle.schedule.specs.{Links.TopologyValue, Placed.{PlacementValue, IsPlacement}, Sends.{ScheduleValue, IsInRange}, Solving.Solves}
 use Rattle.cnf_formula.specs.Literals.{all_hold}
-use Rattle.send_encoding.specs.{Variables.{map_of, arrivals, sends}, Sending.sending, Assigning.assigned, Leading.{had, brought}}
-use Rattle.send_encoding.specs.Agreeing.{IsTightRun, SatisfiesAs}
-use Rattle.send_encoding.proofs.{Mapped.links_join, Ascending.links_ascend, Agreed.{sent_tightly, run_arrives}, Complete.sending_holds}
-use Rattle.send_encoding.proofs.{Assigned.{assigned_length, arrival_value, sent_value}, Scheduled.schedule_moves}
+use Rattle.send_encoding.specs.{Variables.{map_of, arrivals, sends}, Sending.sending, Assigning.assigned, Leading.{had, brought}, Agreeing.{IsTightRun, SatisfiesAs}}
+use Rattle.send_encoding.proofs.{Mapped.links_join, Ascending.links_ascend, Agreed.{sent_tightly, run_arrives}, Complete.sending_holds, Assigned.{assigned_length, arrival_value, sent_value}, Scheduled.schedule_moves}
 
 pub tight_run : (t : TopologyValue) (pre post : PlacementValue) (steps : ℕ) (values : List Bool) → IsPlacement pre → pre.nodes ≡ t.nodes
     → all_hold values (sending (map_of t pre steps) pre post) ≡ true → IsTightRun (map_of t pre steps) pre values

@@ -1,13 +1,10 @@
 -- The sends of an assignment tell its table.
-use Rattle.std.proofs.Common.{◌≡◌, ℕ, ◌+◌, ◌<◌, ◌≤◌, Bool, true, false, List, [], ◌∷◌, eqb, refl, ap, ◌∙◌, arith, ◌&&◌, ◌||◌, if◌then◌else◌, flat_map, All}
-use Rattle.std.specs.List.{enumerate_from}
-use Rattle.std.{specs.List.{list_any, range_with_len}, proofs.lemmas.{Bool.{and_from, or_left, eq-eqb}, List.Elements.{All-nil, All-cons}}}
-use Rattle.std.proofs.lemmas.List.Folds.{list_any-append}
+use Rattle.std.proofs.{Common.{◌≡◌, ℕ, ◌+◌, ◌<◌, ◌≤◌, Bool, true, false, List, [], ◌∷◌, eqb, refl, ap, ◌∙◌, arith, ◌&&◌, ◌||◌, if◌then◌else◌, flat_map, All}, lemmas.{Bool.{and_from, or_left, eq-eqb}, List.Elements.{All-nil, All-cons}}}
+use Rattle.std.{proofs.lemmas.List.Folds.list_any-append, specs.List.{enumerate_from, list_any, range_with_len}}
 use Rattle.list_laws.proofs.Ranges.{any_at}
 use Rattle.schedule.{specs.{declared.hop.Hop.Hop, Placed.same_pair, Sends.{IsStep, link_of}}, proofs.{Placing.pair_itself, First.any_among}}
 use Rattle.cnf_formula.specs.Literals.{is_true}
-use Rattle.send_encoding.specs.{Variables.{SendMapValue, steps_of, sent}, Sent.{hop_over, sends_of}, Moving.{IsLinkOf, JoinsNodes}}
-use Rattle.send_encoding.specs.Telling.{IsTold, Tells}
+use Rattle.send_encoding.specs.{Variables.{SendMapValue, steps_of, sent}, Sent.{hop_over, sends_of}, Moving.{IsLinkOf, JoinsNodes}, Telling.{IsTold, Tells}}
 use Rattle.send_encoding.proofs.{Everywhere.{From, in_range, in_flat}, Clauses.{numbered_are, link_listed}}
 
 flat_any : {X A : Type 0} (p : A → Bool) (g : X → List A) (xs : List X) → list_any p (flat_map g xs) ≡ list_any (λ x. list_any p (g x)) xs

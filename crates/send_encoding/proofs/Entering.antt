@@ -1,7 +1,6 @@
 -- No more links lead into a node than there are nodes.
-use Rattle.std.proofs.Common.{◌≡◌, ◌==◌, ℕ, zero, suc, ◌+◌, ◌<◌, ◌≤◌, Bool, cond, List, [], ◌∷◌, length, map, refl, sym, ap, ◌∙◌, arith, flat_map, count_by, not}
-use Rattle.std.{specs.List.{range_with_len, enumerate_from}, proofs.lemmas.{Bool.eqb-true, List.Filters.sum_by-filter_both}}
-use Rattle.std.proofs.lemmas.List.Sums.{length-filter, sum_by-cons, sum_by-append}
+use Rattle.std.proofs.{Common.{◌≡◌, ◌==◌, ℕ, zero, suc, ◌+◌, ◌<◌, ◌≤◌, Bool, cond, List, [], ◌∷◌, length, map, refl, sym, ap, ◌∙◌, arith, flat_map, count_by, not}, lemmas.{Bool.eqb-true, List.Filters.sum_by-filter_both}}
+use Rattle.std.{proofs.lemmas.List.Sums.{length-filter, sum_by-cons, sum_by-append}, specs.List.{range_with_len, enumerate_from}}
 use Rattle.schedule.specs.{Links.{TopologyValue, is_usable, usable_links}, Placed.{PlacementValue, all_pairs}}
 use Rattle.send_encoding.{specs.Variables.{map_of, links_into}, proofs.Orders.{apart_once, map_pairs, range_pairs}}
 

@@ -1,8 +1,7 @@
 -- What holds of each element of a list that is made of others.
-use Rattle.std.proofs.Common.{◌≡◌, ℕ, zero, suc, ◌+◌, ◌*◌, ◌<◌, ◌≤◌, Bool, true, List, [], ◌∷◌, length, length-append, map, arith, flat_map, All}
-use Rattle.std.{specs.List.{list_any, range_with_len, enumerate_from, position_or_len, AllByRecursion}, proofs.lemmas.Bool.Decides.nat_tests}
-use Rattle.std.proofs.lemmas.List.{Sums.{fails_before_first, passes_at_first}, Folds.{list_any_at, list_any_none}, FromFn.{length-range_with_len, get_or-range_with_len}}
-use Rattle.std.proofs.{lemmas.List.Elements.{All-nil, All-cons, All-head, All-tail, All-append, All-map, All-weaker, All-from_recursion}, Math.Nat.mul-le-mul_right}
+use Rattle.std.proofs.{Common.{◌≡◌, ℕ, zero, suc, ◌+◌, ◌*◌, ◌<◌, ◌≤◌, Bool, true, List, [], ◌∷◌, length, length-append, map, arith, flat_map, All}, lemmas.{Bool.Decides.nat_tests, List.Sums.{fails_before_first, passes_at_first}}}
+use Rattle.std.proofs.lemmas.List.{Folds.{list_any_at, list_any_none}, FromFn.{length-range_with_len, get_or-range_with_len}, Elements.{All-nil, All-cons, All-head, All-tail, All-append, All-map, All-weaker, All-from_recursion}}
+use Rattle.std.{proofs.Math.Nat.mul-le-mul_right, specs.List.{list_any, range_with_len, enumerate_from, position_or_len, AllByRecursion}}
 
 pub by_recursion : {X : Type 0} (P : X → Type 0) (xs : List X) → AllByRecursion P xs → All P xs
 by_recursion P xs a = All-from_recursion P xs a

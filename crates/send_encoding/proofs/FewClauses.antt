@@ -1,12 +1,10 @@
 -- Arrivals and sends have few clauses.
-use Rattle.std.{proofs.Common.{◌≡◌, ℕ, ◌+◌, ◌*◌, ◌≤◌, List, ◌++◌, length, map, ap, sym, ◌∙◌, arith, length-append, flat_map}, specs.List.{range_with_len, enumerate_from}}
-use Rattle.std.proofs.{Math.Nat.{mul_assoc, mul-add}, lemmas.{List.{length-map, Sums.{length-filter, count_by-le-length}}, Nat.mul-le}}
-use Rattle.std.proofs.lemmas.List.FromFn.{length-range_with_len, length-map-range_with_len, length-enumerate_from}
+use Rattle.std.proofs.{Common.{◌≡◌, ℕ, ◌+◌, ◌*◌, ◌≤◌, List, ◌++◌, length, map, ap, sym, ◌∙◌, arith, length-append, flat_map}, Math.Nat.{mul_assoc, mul-add}, lemmas.{List.{length-map, Sums.{length-filter, count_by-le-length}}, Nat.mul-le}}
+use Rattle.std.{proofs.lemmas.List.FromFn.{length-range_with_len, length-map-range_with_len, length-enumerate_from}, specs.List.{range_with_len, enumerate_from}}
 use Rattle.schedule.specs.{Links.TopologyValue, Placed.{all_pairs, PlacementValue}}
 use Rattle.cnf_formula.specs.Literals.{LitValue}
 use Rattle.cardinality.{specs.Counting.at_most_one_of, proofs.{FewClauses.pairs_are_few, Lengths.flat_length}}
-use Rattle.send_encoding.specs.Variables.{SendMapValue, map_of, steps_of, links_into, sends}
-use Rattle.send_encoding.specs.Sending.{at_start, keeps, at_end, send_over, sends_arrive, sends_into, arrives_by_sends, arrives_once, sending}
+use Rattle.send_encoding.specs.{Variables.{SendMapValue, map_of, steps_of, links_into, sends}, Sending.{at_start, keeps, at_end, send_over, sends_arrive, sends_into, arrives_by_sends, arrives_once, sending}}
 use Rattle.send_encoding.proofs.{Entering.few_enter, Grid.rows_length}
 
 six_lists : {X : Type 0} (a b c d e f : List X) → length (a ++ b ++ c ++ d ++ e ++ f) ≡ length a + length b + length c + length d + length e + length f

@@ -1,7 +1,6 @@
 -- The first of a numbered list that passes a test.
-use Rattle.std.proofs.Common.{◌≡◌, ℕ, ◌<◌, ◌≤◌, Bool, true, false, cond, ◌||◌, eqb, List, [], ◌∷◌, inl, inr, refl, sym, ap, ◌∙◌, ⊎_elim, arith, filter, count_by, All, AllPairs}
-use Rattle.std.{specs.List.{list_any, enumerate_from}, proofs.lemmas.Bool.{false≢true, cases_Bool, eqb-true, eq-eqb, Decides.nat_tests}}
-use Rattle.std.proofs.lemmas.List.{Elements.All-contains, Kept.AllPairs-filter, FromFn.{length-enumerate_from, get_or-enumerate_from}}
+use Rattle.std.proofs.{Common.{◌≡◌, ℕ, ◌<◌, ◌≤◌, Bool, true, false, cond, ◌||◌, eqb, List, [], ◌∷◌, inl, inr, refl, sym, ap, ◌∙◌, ⊎_elim, arith, filter, count_by, All, AllPairs}, lemmas.Bool.{false≢true, cases_Bool, eqb-true, eq-eqb}}
+use Rattle.std.{proofs.lemmas.{Bool.Decides.nat_tests, List.{Elements.All-contains, Kept.AllPairs-filter, FromFn.{length-enumerate_from, get_or-enumerate_from}}}, specs.List.{list_any, enumerate_from}}
 use Rattle.schedule.proofs.First.{Among, any_among, Contains-from_Among}
 use Rattle.send_encoding.{specs.Leading.leads, proofs.Orders.apart_once}
 

@@ -1,7 +1,6 @@
 -- Values in rows of one length: a cell is found by its row and its place.
-use Rattle.std.proofs.Common.{◌≡◌, ℕ, zero, suc, ◌+◌, ◌*◌, ◌<◌, List, map, length, get_or, refl, ap, ◌∙◌, arith, length-append, flat_map}
-use Rattle.std.{specs.List.range_with_len, proofs.lemmas.List.{get_or-append-add, get_or_append_left}}
-use Rattle.std.proofs.lemmas.List.FromFn.{get_or-map-range_with_len, length-map-range_with_len}
+use Rattle.std.proofs.{Common.{◌≡◌, ℕ, zero, suc, ◌+◌, ◌*◌, ◌<◌, List, map, length, get_or, refl, ap, ◌∙◌, arith, length-append, flat_map}, lemmas.List.{get_or-append-add, get_or_append_left}}
+use Rattle.std.{proofs.lemmas.List.FromFn.{get_or-map-range_with_len, length-map-range_with_len}, specs.List.range_with_len}
 use Rattle.send_encoding.{proofs.Everywhere.slot, specs.Assigning.cube}
 
 pub rows_length : {X : Type 0} (g : ℕ → List X) (m a n : ℕ) → ((k : ℕ) → length (g k) ≡ m) → length (flat_map g (range_with_len a n)) ≡ n * m

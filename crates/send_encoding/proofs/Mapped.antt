@@ -1,9 +1,7 @@
 -- The links of a topology make a map of arrivals and sends.
-use Rattle.std.{proofs.{Common.{◌≡◌, ℕ, ◌+◌, ◌*◌, ◌<◌, ◌≤◌, List, map, length, arith, All}, lemmas.List.Elements.All-filter}, specs.List.range_with_len}
-use Rattle.std.proofs.lemmas.{List.FromFn.length-map-range_with_len, Nat.mul-le}
+use Rattle.std.{proofs.{Common.{◌≡◌, ℕ, ◌+◌, ◌*◌, ◌<◌, ◌≤◌, List, map, length, arith, All}, lemmas.{List.{Elements.All-filter, FromFn.length-map-range_with_len}, Nat.mul-le}}, specs.List.range_with_len}
 use Rattle.list_laws.proofs.Tests.{few_kept}
-use Rattle.schedule.specs.{Links.{TopologyValue, IsTopology, is_usable, usable_links}, Placed.{PlacementValue, all_pairs, empty_placement}}
-use Rattle.schedule.proofs.Placing.{all_below}
+use Rattle.schedule.{specs.{Links.{TopologyValue, IsTopology, is_usable, usable_links}, Placed.{PlacementValue, all_pairs, empty_placement}}, proofs.Placing.all_below}
 use Rattle.send_encoding.{specs.{Variables.{map_of, IsSendMap, arrivals, sends}, Moving.JoinsNodes}, proofs.{Everywhere.by_recursion, Grid.rows_length}}
 
 pub links_join : (t : TopologyValue) (pre : PlacementValue) (steps : ℕ) → All (JoinsNodes (map_of t pre steps)) (usable_links t)

@@ -1,7 +1,6 @@
 -- Lists made of others whose elements stand in an order.
-use Rattle.std.proofs.Common.{◌≡◌, ℕ, ◌+◌, ◌<◌, ◌≤◌, Bool, true, cond, List, [], ◌∷◌, ◌++◌, map, length, get_or, ap, ◌∙◌, ⊎_elim, arith, flat_map, count_by, All, AllPairs}
-use Rattle.std.{specs.List.{range_with_len, enumerate_from}, proofs.lemmas.{Bool.{cases_Bool, false_from_ne_true}, List.{Kept.AllPairs-cons, Sums.sum_by-cons}}}
-use Rattle.std.proofs.lemmas.List.{Elements.{All-append, All-head, All-tail}, FromFn.{length-range_with_len, get_or-range_with_len}}
+use Rattle.std.proofs.{Common.{◌≡◌, ℕ, ◌+◌, ◌<◌, ◌≤◌, Bool, true, cond, List, [], ◌∷◌, ◌++◌, map, length, get_or, ap, ◌∙◌, ⊎_elim, arith, flat_map, count_by, All, AllPairs}, lemmas.Bool.{cases_Bool, false_from_ne_true}}
+use Rattle.std.{proofs.lemmas.List.{Kept.AllPairs-cons, Sums.sum_by-cons, Elements.{All-append, All-head, All-tail}, FromFn.{length-range_with_len, get_or-range_with_len}}, specs.List.{range_with_len, enumerate_from}}
 use Rattle.list_laws.proofs.Pairs.{no_pairs, pairs_tail, pairs_head}
 use Rattle.send_encoding.proofs.{Everywhere.{in_map, in_flat, in_numbers}, Members.none_of}
 

@@ -1,6 +1,5 @@
 -- A table of the numbers of links.
-use Rattle.std.{proofs.Common.{◌≡◌, ℕ, ◌+◌, ◌*◌, ◌/◌, ◌%◌, ◌<◌, List, get_or, map, ap, ◌∙◌, arith}, specs.List.{position_or_len, range_with_len}}
-use Rattle.std.proofs.lemmas.{Nat.{div-mul-add, mod-mul-add}, List.FromFn.get_or-map-range_with_len}
+use Rattle.std.{proofs.{Common.{◌≡◌, ℕ, ◌+◌, ◌*◌, ◌/◌, ◌%◌, ◌<◌, List, get_or, map, ap, ◌∙◌, arith}, lemmas.{Nat.{div-mul-add, mod-mul-add}, List.FromFn.get_or-map-range_with_len}}, specs.List.{position_or_len, range_with_len}}
 use Rattle.schedule.specs.Placed.{same_pair}
 use Rattle.send_encoding.specs.Variables.{numbers_among}
 

@@ -1,11 +1,9 @@
 -- Where the tables move the chunks, the run of a schedule that tells the sends holds what the arrivals say.
-use Rattle.std.{proofs.Common.{◌≡◌, ℕ, zero, suc, ◌+◌, ◌-◌, ◌<◌, ◌≤◌, Bool, true, eqb, sym, ap, ◌∙◌, ⊎_elim, arith, ◌&&◌, ◌||◌, All}, specs.List.{list_any, enumerate_from}}
-use Rattle.std.proofs.lemmas.Bool.{and_parts, and_from, or_left, or_right, or_cases, cases_Bool, eqb-true, eq-eqb}
+use Rattle.std.proofs.{Common.{◌≡◌, ℕ, zero, suc, ◌+◌, ◌-◌, ◌<◌, ◌≤◌, Bool, true, eqb, sym, ap, ◌∙◌, ⊎_elim, arith, ◌&&◌, ◌||◌, All}, lemmas.Bool.{and_parts, and_from, or_left, or_right, or_cases, cases_Bool, eqb-true, eq-eqb}}
+use Rattle.std.specs.List.{list_any, enumerate_from}
 use Rattle.list_laws.proofs.Tests.{same_test}
-use Rattle.schedule.specs.{declared.hop.Hop.Hop, Placed.{PlacementValue, holds, same_pair}, Sends.{ScheduleValue, IsStep, link_of}, Running.{after, brings}}
-use Rattle.schedule.proofs.{Placing.{pair_is, holds-placed}, Stepping.{chunks-after, nodes-after}}
-use Rattle.send_encoding.specs.{Variables.{SendMapValue, links_into}, Moving.{IsLinkOf, JoinsNodes, Moves}, Telling.{IsTold, Tells}}
-use Rattle.send_encoding.proofs.{Members.{member, any_weaker, kept}, Clauses.numbered_are}
+use Rattle.schedule.{specs.{declared.hop.Hop.Hop, Placed.{PlacementValue, holds, same_pair}, Sends.{ScheduleValue, IsStep, link_of}, Running.{after, brings}}, proofs.{Placing.{pair_is, holds-placed}, Stepping.{chunks-after, nodes-after}}}
+use Rattle.send_encoding.{specs.{Variables.{SendMapValue, links_into}, Moving.{IsLinkOf, JoinsNodes, Moves}, Telling.{IsTold, Tells}}, proofs.{Members.{member, any_weaker, kept}, Clauses.numbered_are}}
 
 module _ (m : SendMapValue) (pre post : PlacementValue) (a x : ℕ → ℕ → ℕ → Bool) (s : ScheduleValue) (chunks : pre.chunks ≡ m.chunks) (nodes : pre.nodes ≡ m.nodes) (links : All (JoinsNodes m) m.links)
     (moves : Moves m pre post a x) (tells : Tells m x s.sends) where

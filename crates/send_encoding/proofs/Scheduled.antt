@@ -1,14 +1,10 @@
 -- The tables of a schedule that solves move the chunks.
 use Rattle.std.proofs.Common.{◌≡◌, ℕ, ◌-◌, ◌<◌, ◌≤◌, Bool, true, false, length, get_or, eqb, ltb, refl, sym, ap, ◌∙◌, subst, ⊎_elim, arith, ◌&&◌, ◌||◌, not, count_by, All}
-use Rattle.std.specs.List.{enumerate_from, list_any}
-use Rattle.std.proofs.lemmas.Bool.{false≢true, and_parts, and_from, or_left, or_cases, not-true, not_from_false, eqb-true, eq-eqb, ltb-true}
-use Rattle.schedule.specs.{Links.{TopologyValue, is_usable, usable_links}, Placed.{PlacementValue, holds, same_pair}, Running.{after, brings}, Solving.Solves}
-use Rattle.schedule.specs.Sends.{ScheduleValue, IsStep, IsInRange, link_of, is_hop_below}
+use Rattle.std.{proofs.lemmas.Bool.{false≢true, and_parts, and_from, or_left, or_cases, not-true, not_from_false, eqb-true, eq-eqb, ltb-true}, specs.List.{enumerate_from, list_any}}
+use Rattle.schedule.specs.{Links.{TopologyValue, is_usable, usable_links}, Placed.{PlacementValue, holds, same_pair}, Running.{after, brings}, Solving.Solves, Sends.{ScheduleValue, IsStep, IsInRange, link_of, is_hop_below}}
 use Rattle.schedule.proofs.{Placing.{pair_is, holds-placed}, Stepping.{chunks-after, nodes-after}}
-use Rattle.send_encoding.specs.{Variables.{SendMapValue, map_of, links_into}, Moving.{IsLinkOf, JoinsNodes, Moves}}
-use Rattle.send_encoding.specs.Leading.{leads, had, carried, brought}
-use Rattle.send_encoding.proofs.{First.{some_leads, leader, one_leads, passes_once}, Members.{member, any_weaker, numbered_any, filter_any, kept, count_weaker}}
-use Rattle.send_encoding.proofs.Clauses.{numbered_are}
+use Rattle.send_encoding.specs.{Variables.{SendMapValue, map_of, links_into}, Moving.{IsLinkOf, JoinsNodes, Moves}, Leading.{leads, had, carried, brought}}
+use Rattle.send_encoding.proofs.{First.{some_leads, leader, one_leads, passes_once}, Members.{member, any_weaker, numbered_any, filter_any, kept, count_weaker}, Clauses.numbered_are}
 
 module _ (t : TopologyValue) (pre post : PlacementValue) (s : ScheduleValue) (steps rounds : ℕ) (nodes : pre.nodes ≡ t.nodes) (links : All (JoinsNodes (map_of t pre steps)) (usable_links t))
     (range : IsInRange pre.chunks pre.nodes s) (solves : Solves t pre post s steps rounds) where

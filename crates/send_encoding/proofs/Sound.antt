@@ -1,16 +1,12 @@
 -- Where the clauses of arrivals and sends hold, the tables of an assignment move the chunks.
 use Rattle.std.proofs.Common.{◌≡◌, ℕ, ◌+◌, ◌-◌, ◌<◌, ◌≤◌, Bool, true, false, List, [], ◌∷◌, ◌++◌, map, get_or, refl, sym, ap, ◌∙◌, subst, ⊎_elim, arith, if◌then◌else◌, flat_map, filter, All}
-use Rattle.std.specs.List.{enumerate_from}
-use Rattle.std.{specs.List.{list_any, list_all, range_with_len}, proofs.lemmas.Bool.{false≢true, and_parts, or_cases, not-true, Decides.nat_tests}}
-use Rattle.std.proofs.lemmas.List.{Elements.{All-nil, All-cons, All-contains}, Folds.{list_all-append, list_all-map}, Sums.AllPass-from_list_all}
-use Rattle.std.proofs.lemmas.List.FromFn.{length-range_with_len, get_or-range_with_len}
+use Rattle.std.proofs.lemmas.{Bool.{false≢true, and_parts, or_cases, not-true, Decides.nat_tests}, List.{Elements.{All-nil, All-cons, All-contains}, Folds.{list_all-append, list_all-map}, Sums.AllPass-from_list_all}}
+use Rattle.std.{proofs.lemmas.List.FromFn.{length-range_with_len, get_or-range_with_len}, specs.List.{enumerate_from, list_any, list_all, range_with_len}}
 use Rattle.schedule.{specs.{Placed.{all_pairs, PlacementValue, holds, same_pair}, Sends.IsStep}, proofs.{Placing.{pair_is, among_all}, First.Contains-from_Among}}
 use Rattle.cnf_formula.{specs.Literals.{LitValue, negation, is_true, clause_holds, all_hold}, proofs.Clauses.negation_is}
 use Rattle.cardinality.{specs.Counting.at_most_one_of, proofs.Pairs.pairs_decide}
-use Rattle.send_encoding.specs.{Variables.{SendMapValue, steps_of, links_into, arrival, sent}, Moving.{IsLinkOf, Moves}}
-use Rattle.send_encoding.specs.inner.Parts.{node_arrives}
-use Rattle.send_encoding.specs.Sending.{at_start, keeps, at_end, send_over, sends_arrive, sends_into, arrives_by_sends, arrives_once, sending}
-use Rattle.send_encoding.proofs.{Members.{member, filter_any}, Complete.{any_alike, count_alike}, Clauses.link_listed}
+use Rattle.send_encoding.specs.{Variables.{SendMapValue, steps_of, links_into, arrival, sent}, Moving.{IsLinkOf, Moves}, inner.Parts.node_arrives}
+use Rattle.send_encoding.{specs.Sending.{at_start, keeps, at_end, send_over, sends_arrive, sends_into, arrives_by_sends, arrives_once, sending}, proofs.{Members.{member, filter_any}, Complete.{any_alike, count_alike}, Clauses.link_listed}}
 
 -- ---- what holds everywhere holds at each
 

@@ -1,13 +1,9 @@
 -- Where tables move the chunks, a schedule that tells the sends in ascending order wastes none of them, and delivers.
-use Rattle.std.proofs.Common.{◌≡◌, ℕ, zero, suc, ◌+◌, ◌-◌, ◌<◌, ◌≤◌, Bool, true, false, cond, List, [], ◌∷◌, length, get_or, eqb, sym, ap, ◌∙◌, subst, ⊎_elim, arith, count_by, All, AllPairs}
-use Rattle.std.specs.List.{enumerate_from}
-use Rattle.std.proofs.lemmas.List.{Elements.All-filter, Folds.list_any_at, Sums.{sum_by-cons, get_or-le-sum_by}}
-use Rattle.std.proofs.lemmas.Bool.{false≢true, false_from_ne_true, cases_lt, eq-eqb, Decides.nat_tests}
-use Rattle.schedule.specs.{declared.hop.Hop.Hop, Placed.{PlacementValue, IsPlacement, holds, same_pair, all_pairs}, Sends.{ScheduleValue, IsStep, hop_before}}
-use Rattle.schedule.specs.{Running.after, Solving.Tight}
+use Rattle.std.proofs.{Common.{◌≡◌, ℕ, zero, suc, ◌+◌, ◌-◌, ◌<◌, ◌≤◌, Bool, true, false, cond, List, [], ◌∷◌, length, get_or, eqb, sym, ap, ◌∙◌, subst, ⊎_elim, arith, count_by, All, AllPairs}, lemmas.List.Elements.All-filter}
+use Rattle.std.{proofs.lemmas.{List.{Folds.list_any_at, Sums.{sum_by-cons, get_or-le-sum_by}}, Bool.{false≢true, false_from_ne_true, cases_lt, eq-eqb, Decides.nat_tests}}, specs.List.enumerate_from}
+use Rattle.schedule.specs.{declared.hop.Hop.Hop, Placed.{PlacementValue, IsPlacement, holds, same_pair, all_pairs}, Sends.{ScheduleValue, IsStep, hop_before}, Running.after, Solving.Tight}
 use Rattle.schedule.proofs.{Placing.{IsBelow, pair_is, pair_itself, all_below}, Steps.steps_ordered, First.{Among, Contains-from_Among, among_kept}}
-use Rattle.send_encoding.specs.{Variables.{SendMapValue, links_into}, Moving.{IsLinkOf, JoinsNodes, Moves}, Telling.Tells}
-use Rattle.send_encoding.proofs.{Everywhere.by_recursion, Clauses.link_listed, Running.run_is, Ascending.never_twice}
+use Rattle.send_encoding.{specs.{Variables.{SendMapValue, links_into}, Moving.{IsLinkOf, JoinsNodes, Moves}, Telling.Tells}, proofs.{Everywhere.by_recursion, Clauses.link_listed, Running.run_is, Ascending.never_twice}}
 
 some_counted : {X : Type 0} (p : X → Bool) (x : X) (xs : List X) → Among x xs → p x ≡ true → 1 ≤ count_by p xs
 some_counted p x xs among t = grind (arith, nat_tests, Contains-from_Among, get_or-le-sum_by)

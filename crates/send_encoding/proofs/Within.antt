@@ -3,8 +3,7 @@ use Rattle.std.proofs.{Common.{ℕ, ◌+◌, ◌-◌, ◌<◌, ◌≤◌, ◌∷
 use Rattle.cnf_formula.{specs.{Literals.negation, Formulas.IsClause}, proofs.Clauses.negation_about}
 use Rattle.schedule.specs.Sends.{IsStep}
 use Rattle.cardinality.proofs.Wider.{clause_more}
-use Rattle.send_encoding.specs.{Variables.{SendMapValue, IsSendMap, arrival, arrivals, sent, sends}, Sending.sends_into}
-use Rattle.send_encoding.proofs.About.{arrival_about, sent_about, into_about}
+use Rattle.send_encoding.{specs.{Variables.{SendMapValue, IsSendMap, arrival, arrivals, sent, sends}, Sending.sends_into}, proofs.About.{arrival_about, sent_about, into_about}}
 
 pub arrival_within : (m : SendMapValue) (c n s : ℕ) → c < m.chunks → n < m.nodes → s ≤ m.steps → (arrival m c n s).var ≤ arrivals m + sends m
 arrival_within m c n s low few last = let a = arrival_about m c n s low few last in omega (arith, a.within)

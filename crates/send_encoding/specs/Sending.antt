@@ -1,6 +1,5 @@
 -- What is held and sent (Cai et al., PPoPP 2021, section on the encoding).
-use Rattle.std.specs.Prelude.{ℕ, ◌-◌, if◌then◌else◌, List, [], ◌∷◌, ◌++◌, map, filter, flat_map}
-use Rattle.std.specs.List.{range_with_len, enumerate_from}
+use Rattle.std.specs.{Prelude.{ℕ, ◌-◌, if◌then◌else◌, List, [], ◌∷◌, ◌++◌, map, filter, flat_map}, List.{range_with_len, enumerate_from}}
 use Rattle.schedule.specs.Placed.{all_pairs, PlacementValue, holds}
 use Rattle.cnf_formula.specs.Literals.{LitValue, negation}
 use Rattle.cardinality.specs.Counting.{at_most_one_of}

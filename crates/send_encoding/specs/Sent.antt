@@ -1,6 +1,5 @@
 -- What an assignment says of arrivals and sends (Cai et al., PPoPP 2021, section on the encoding).
-use Rattle.std.specs.Prelude.{ℕ, Bool, if◌then◌else◌, List, [], ◌∷◌, flat_map}
-use Rattle.std.specs.List.{range_with_len, enumerate_from}
+use Rattle.std.specs.{Prelude.{ℕ, Bool, if◌then◌else◌, List, [], ◌∷◌, flat_map}, List.{range_with_len, enumerate_from}}
 use Rattle.schedule.specs.{declared.hop.Hop.Hop, Placed.{PlacementValue, placed}}
 use Rattle.cnf_formula.specs.Literals.{is_true}
 use Rattle.send_encoding.specs.Variables.{SendMapValue, steps_of, arrival, sent}

@@ -1,6 +1,5 @@
 -- The variables of arrivals and sends, in the order of their numbers (Cai et al., PPoPP 2021, section on the encoding; the numbers are this project's own).
-use Rattle.std.specs.Prelude.{ℕ, ◌+◌, ◌-◌, ◌*◌, ◌/◌, ◌%◌, ◌==◌, ◌<◌, ◌≤◌, List, length, map, filter, All}
-use Rattle.std.specs.List.{range_with_len, enumerate_from, position_or_len}
+use Rattle.std.specs.{Prelude.{ℕ, ◌+◌, ◌-◌, ◌*◌, ◌/◌, ◌%◌, ◌==◌, ◌<◌, ◌≤◌, List, length, map, filter, All}, List.{range_with_len, enumerate_from, position_or_len}}
 use Rattle.schedule.specs.{Links.{TopologyValue, IsBelow, usable_links}, Placed.{PlacementValue, same_pair}}
 use Rattle.cnf_formula.specs.Literals.{LitValue, yes}
 

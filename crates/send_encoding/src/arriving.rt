@@ -3,8 +3,7 @@
 ghost use Rattle.std.specs.Prelude.{◌≡◌, ◌+◌, ◌<◌, ◌≤◌, ◌++◌, OnOk};
 ghost use Rattle.schedule.specs.Sends.{IsStep};
 ghost use Rattle.cnf_formula.specs.Formulas.{with_clauses};
-ghost use Rattle.send_encoding.specs.Variables.{arrivals, sends};
-ghost use Rattle.send_encoding.specs.Sending.{sends_arrive, sends_into, arrives_by_sends};
+ghost use Rattle.send_encoding.specs.{Variables.{arrivals, sends}, Sending.{sends_arrive, sends_into, arrives_by_sends}};
 
 use crate::OutOfMemory;
 use crate::send_map::SendMap;

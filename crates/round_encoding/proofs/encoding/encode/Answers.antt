@@ -2,8 +2,7 @@ use Rattle.std.proofs.Common.{◌≡◌, ◌-◌, sym, subst, arith, ◌↔◌, 
 use Rattle.schedule.specs.Solving.{Solvable}
 use Rattle.cnf_formula.specs.Formulas.{Satisfiable}
 use Rattle.send_encoding.specs.Variables.{map_of}
-use Rattle.round_encoding.specs.{declared.encoding.Encoding.Encoding, inner.Counts.HasLinks}
-use Rattle.round_encoding.proofs.{Counted.placed_links, Encoded.encoded, Exactly.{sound, exactly, completely}, Sizes.{few_sends, few_variables}}
+use Rattle.round_encoding.{specs.{declared.encoding.Encoding.Encoding, inner.Counts.HasLinks}, proofs.{Counted.placed_links, Encoded.encoded, Exactly.{sound, exactly, completely}, Sizes.{few_sends, few_variables}}}
 use Rattle.round_encoding.proofs.encoding.encode.Goals as goal
 
 pub encode_sends-requires-clause-few : goal.encode_sends-requires-clause-few

@@ -1,5 +1,4 @@
-use Rattle.std.proofs.Common.{◌≡◌, ℕ, ◌+◌, ◌*◌, ◌<◌, ◌≤◌, [], All, length, get_or, map, take, sum_by, arith, sym, ap, ◌∙◌, subst}
-use Rattle.std.proofs.{lemmas.List.{get_or_read, take_all, Sums.{sum_by_more, sum_by_more_le}}, Math.Nat.mul-le-mul_right}
+use Rattle.std.proofs.{Common.{◌≡◌, ℕ, ◌+◌, ◌*◌, ◌<◌, ◌≤◌, [], All, length, get_or, map, take, sum_by, arith, sym, ap, ◌∙◌, subst}, lemmas.List.{get_or_read, take_all, Sums.{sum_by_more, sum_by_more_le}}, Math.Nat.mul-le-mul_right}
 use Rattle.schedule.specs.Links.{GroupValue}
 use Rattle.round_encoding.{specs.{Frames.Frame, Rounding.{count_of_group, with_count}, inner.Counts.{with_counts, room}}, proofs.Countings.{counts_more, counts_range}}
 use Rattle.send_encoding.specs.Variables.{link_number}

@@ -1,6 +1,5 @@
 use Rattle.std.proofs.{Common.{◌<◌, IsTrue, Ok, IfNone, length, refl, subst}, lemmas.Result.IfOk-weaker}
-use Rattle.run_rules.specs.{declared.status.Status.TheVariants.TooLong, Answers.{FilesValue, IsAnswer}, Commands.{IsOneOf, reads_source}, Ends.answers_of}
-use Rattle.run_rules.specs.{Refusals.refused_at, Tasks.{limit, task_of}}
+use Rattle.run_rules.specs.{declared.status.Status.TheVariants.TooLong, Answers.{FilesValue, IsAnswer}, Commands.{IsOneOf, reads_source}, Ends.answers_of, Refusals.refused_at, Tasks.{limit, task_of}}
 use Rattle.run_rules.proofs.{Answered.refused_answers, Ends.command_ends}
 use Rattle.sccl_run.{specs.inner.Answering.due_for, proofs.Dues.long_due}
 use Rattle.sccl_run.proofs.commands.text_answer.Goals as goal

@@ -1,8 +1,7 @@
 use Rattle.std.proofs.Common.{Err, ap, arith, inl, inr, refl}
 use Rattle.command_words.specs.Words.{command_of, texts}
 use Rattle.run_rules.specs.declared.status.Status.TheVariants.{ShelfFailed, SinkFailed}
-use Rattle.sccl_run.proofs.Calls.{call_answered, call_cut_off, call_unread, call_unshelved, call_without_memory, given}
-use Rattle.sccl_run.proofs.Runs.{appended_as, left_read, left_unread, left_without_memory, part_of, run_answered, run_halted}
+use Rattle.sccl_run.proofs.{Calls.{call_answered, call_cut_off, call_unread, call_unshelved, call_without_memory, given}, Runs.{appended_as, left_read, left_unread, left_without_memory, part_of, run_answered, run_halted}}
 use Rattle.sccl_run.proofs.toplevel.run.Goals as goal
 
 pub returns-in-Ok-write_all-clause-run : goal.returns-in-Ok-write_all-clause-run

@@ -1,7 +1,6 @@
 use Rattle.std.proofs.Common.{eqb, ℕ, Bool, eq-eqb, ne_eqb, get_or, rules}
 use Rattle.cnf_formula.{specs.Literals.LitValue, proofs.Keeping.{keeps_it, passes_over, kept_all}}
-use Rattle.send_encoding.specs.Variables.{sent}
-use Rattle.send_encoding.proofs.arriving.push_sends_into.Goals.{then-link-node+in_ok-push, else-link-node}
+use Rattle.send_encoding.{specs.Variables.sent, proofs.arriving.push_sends_into.Goals.{then-link-node+in_ok-push, else-link-node}}
 use Rattle.send_encoding.proofs.arriving.push_sends_into.Goals as goal
 
 pub loop-number-preserved : goal.loop-number-preserved

@@ -1,5 +1,4 @@
-use Rattle.std.proofs.Common.{arith, rules, ◌≡◌, ◌+◌, ◌-◌, get_or, append_assoc}
-use Rattle.std.specs.List.{flat_map, enumerate_from}
+use Rattle.std.{proofs.Common.{arith, rules, ◌≡◌, ◌+◌, ◌-◌, get_or, append_assoc}, specs.List.{flat_map, enumerate_from}}
 use Rattle.cnf_formula.{specs.Formulas.with_clauses, proofs.Growing.{grows_more, grows_numbered, grown_numbered}}
 use Rattle.send_encoding.specs.{Variables.steps_of, Sending.send_over}
 use Rattle.send_encoding.proofs.arriving.sends_arrive.Goals as goal

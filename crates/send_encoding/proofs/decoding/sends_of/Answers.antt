@@ -1,5 +1,4 @@
-use Rattle.std.proofs.{Common.{◌≡◌, ◌+◌, ◌++◌, get_or, arith, rules}, lemmas.List.take_all}
-use Rattle.std.proofs.lemmas.List.FromFn.{length-enumerate_from}
+use Rattle.std.proofs.{Common.{◌≡◌, ◌+◌, ◌++◌, get_or, arith, rules}, lemmas.List.{take_all, FromFn.length-enumerate_from}}
 use Rattle.send_encoding.{specs.Sent.hop_over, proofs.Picking.{appends_numbered, appends_after}}
 use Rattle.send_encoding.proofs.decoding.sends_of.Goals as goal
 
