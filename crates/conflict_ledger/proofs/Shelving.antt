@@ -4,7 +4,7 @@ use Rattle.std.{proofs.lemmas.List.{append-nil, append_assoc, take-append-drop, 
 use Rattle.cnf_formula.specs.{Literals.{LitValue, is_superset}, Formulas.FormulaValue, Lines.ProofLineValue, declared.line.LratLine.TheVariants.Addition}
 use Rattle.proof_rules.specs.{Held.{Entry, CheckerValue, start_of, has_none}, Refuting.{is_fresh, with_line, after_lines}, Learning.AllImplied, Judging.verdict_of, declared.verdict.LineVerdict.TheVariants.Accepted}
 use Rattle.proof_rules.proofs.InTurn.{implied_more}
-use Rattle.text_lines.specs.Text.line as text_line
+use Rattle.text_lines.specs.Text.{line as text_line}
 use Rattle.lrat_text.specs.Printing.{line_words}
 use Rattle.outer_ports.specs.{declared.proof_name.ProofName.ProofName, Port.Tells, Files.Files, Shelf.OthersStay}
 use Rattle.ledger_rules.specs.Logs.{learned, checker_of}

@@ -8,7 +8,7 @@ use Rattle.report_form.specs.{Answer.report_number, Reading.report_of, Reports.R
 use Rattle.round_encoding.specs.Candidates.{size_limit}
 use Rattle.candidate_formula.specs.{Sizes.size_of, Counts.chunk_counts}
 use Rattle.json_values.specs.{Answer.json_number, TopologyForm.topology as topology_form, Reading.read_json}
-use Rattle.json_rules.specs.ReportForm.report as report_form
+use Rattle.json_rules.specs.ReportForm.{report as report_form}
 use Rattle.command_words.specs.declared.command.JsonWhat.TheVariants as what
 use Rattle.command_words.specs.declared.command.{RootWord.RootWord, SearchWords.SearchWords, PointWord.PointWord, Command.Command}
 use Rattle.command_words.specs.declared.command.Command.TheVariants as command

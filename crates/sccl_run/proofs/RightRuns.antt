@@ -3,7 +3,7 @@ use Rattle.std.proofs.{Common.{◌≡◌, ◌⊎◌, ◌≤◌, ◌++◌, ℕ, B
 use Rattle.text_lines.specs.Check.{◌>>=◌, need}
 use Rattle.topology_text.specs.{Answer.topology_number, Reading.topology_of, Value.NamedTopologyValue}
 use Rattle.json_values.specs.{Answer.json_number, Reading.read_json, TopologyForm.topology as topology_form}
-use Rattle.json_rules.specs.ReportForm.report as report_form
+use Rattle.json_rules.specs.ReportForm.{report as report_form}
 use Rattle.outer_ports.specs.Shelf.{FilesStay}
 use Rattle.candidate_order.{specs.Frontiers.{RightFrontier, IsSolvable}, proofs.Frontiers.better_refuted}
 use Rattle.report_form.specs.{Reading.report_of, Reports.{WordsValue, ReportValue, question_of}}

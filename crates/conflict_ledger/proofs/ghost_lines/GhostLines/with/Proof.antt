@@ -7,7 +7,7 @@ use contract.Running.{tables}
 use types.{Kit.{‵, raw, ◌⊛◌, ◌$◌, ◌∵◌, !, qed, move, keep, split, join, fjoin, use0, suffices, done}, Run.{no_more, returns, enter}, Part.agg, ByLocal.{alloc_all, pass_all, free_all, look_at, sets}}
 use denote.{Builtin.RefOf, Exit.yes, RattleType.owns, Shadow.makes_shadow, Signature.{types_at, type_at, plain}, Steps.nothing, Triple.{Entry.{alive, Res}, Walked.{says, Stays, stay_dropped, Goes-dropped, walk_of, ends_at}}}
 use Rattle.std.proofs.raw_atomic.Walks.{proved_at}
-use Rattle.cnf_formula.specs.contracts.line.ProofLine.the_row as line_row
+use Rattle.cnf_formula.specs.contracts.line.ProofLine.{the_row as line_row}
 use Rattle.conflict_ledger.{specs.contracts.ghost_lines.GhostLines.the_row, proofs.ghost_lines.GhostLines.with.Statement.statement}
 use Rattle.conflict_ledger.specs.contracts.ghost_lines.GhostLines.with as f
 use Rattle.conflict_ledger.proofs.ghost_lines.GhostLines.with.Code as code
