@@ -69,6 +69,7 @@ impl Repeats for Refuted<'_> {
 #[derive(Clone, Copy)]
 pub struct Unknowns<'a>(pub &'a Question<'a>);
 
+/// The last candidate, if there is one.
 #[tactic(auto, using(crate::proofs::Turns::last_of, crate::proofs::Turns::last_part))]
 fn last_unknown(unknown: &[Unknown]) -> Option<Candidate>
     ensures { result ≡ last_or None (map (λ u. u.candidate) unknown.now) }

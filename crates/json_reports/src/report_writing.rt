@@ -115,6 +115,7 @@ impl Listed for Point {
         let rounds = list_json(alloc, names, schedule.rounds())?;
         let sends = list_json(alloc, names, schedule.sends())?;
         let text = Value::try_from_str(alloc, mark_text(mark))?;
+        // As the definition does, from the last key of the table to the first.
         let mut members = Map::new(alloc);
         put(&mut members, alloc, "sends", sends)?;
         put(&mut members, alloc, "rounds", rounds)?;
@@ -171,6 +172,7 @@ fn words_json(alloc: Global, names: &[Name], words: Words) -> Result<Value, Allo
     let pruning = limits.pruning();
     let root = node_text(names, asked.root);
     let collective = Value::try_from_str(alloc, asked.kind.word())?;
+    // As the definition does, from the last key of the table to the first.
     let mut members = Map::new(alloc);
     put_said(&mut members, alloc, "ordered", pruning.ordered, "yes")?;
     put_said(&mut members, alloc, "cuts", pruning.cuts, "yes")?;

@@ -35,6 +35,7 @@ pub fn solves(
     ensures overfull { IfOk result (TellsOverfull topology.now schedule.now) }
     ensures lacking { IfOk result (TellsLacking topology.now pre.now post.now schedule.now) }
 {
+    // These say that the schedule and what is demanded are in their ranges.
     let _rounds = schedule.rounds();
     let _chunks = post.chunks();
     let run = run_steps(alloc, pre, schedule)?;
