@@ -17,6 +17,7 @@ use trail_core::{ClauseId, Core};
 
 /// Resolves steps of the last level from the end of the trail on, until a single one waits. Gives
 /// the place above which all were passed.
+#[tactic(auto, using(trail_core::proofs::Keeping::lits_length, crate::proofs::Waiting::walked_none))]
 fn walk_last(core: &Core, walk: &mut Walk) -> Result<usize, OutOfMemory>
     requires sorted { IsSorted core.now (value_of walk.old) }
     requires few { walk.old.stamp ≤ 251 }
@@ -35,6 +36,7 @@ fn walk_last(core: &Core, walk: &mut Walk) -> Result<usize, OutOfMemory>
 }
 
 /// The literal of the last level whose step still waits.
+#[tactic(auto, using(trail_core::proofs::Keeping::lits_length))]
 fn point_below(core: &Core, walk: &Walk, from: usize) -> Lit
     requires sorted { IsSorted core.now (value_of walk.now) }
     requires few { walk.now.stamp ≤ 251 }
@@ -46,6 +48,7 @@ fn point_below(core: &Core, walk: &Walk, from: usize) -> Lit
 }
 
 /// Resolves all steps of level 0 that wait, from a place above them on.
+#[tactic(auto, using(crate::proofs::Waiting::walked_none, crate::proofs::Waiting::same_open, crate::proofs::Waiting::same_above))]
 pub fn walk_bottom(core: &Core, walk: &mut Walk, from: usize) -> Result<(), OutOfMemory>
     requires formed { IsTrail core.now.vars core.now.trail core.now.limits }
     requires grounded { AreGrounded core.now }

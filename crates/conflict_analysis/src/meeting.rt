@@ -18,6 +18,7 @@ pub fn hint(id: ClauseId) -> i64
 
 /// Meets a false literal: it is kept where it became false between level 0 and the last level, and
 /// else its step waits.
+#[tactic(auto, using(std::proofs::lemmas::Bool::Decides::nat_tests, std::proofs::lemmas::Grind::common_steps, crate::proofs::Marked::unmet_by, crate::proofs::Marked::at_false))]
 pub fn meet(core: &Core, walk: &mut Walk, lit: Lit) -> Result<(), OutOfMemory>
     requires formed { IsTrail core.now.vars core.now.trail core.now.limits }
     requires sorted { IsSorted core.now (value_of walk.old) }
@@ -51,6 +52,7 @@ pub fn meet(core: &Core, walk: &mut Walk, lit: Lit) -> Result<(), OutOfMemory>
 }
 
 /// Meets the literals of a clause.
+#[tactic(auto, using(crate::proofs::Marked::met_none, crate::proofs::Marked::met_still, crate::proofs::Marked::read_stands, crate::proofs::Marked::met_whole))]
 pub fn meet_all(core: &Core, walk: &mut Walk, id: ClauseId) -> Result<(), OutOfMemory>
     requires formed { IsTrail core.now.vars core.now.trail core.now.limits }
     requires sorted { IsSorted core.now (value_of walk.old) }
@@ -68,6 +70,7 @@ pub fn meet_all(core: &Core, walk: &mut Walk, id: ClauseId) -> Result<(), OutOfM
 
 /// Whether the literal at a place has such a mark: its step waits on the last level or on level 0,
 /// or it is kept.
+#[tactic(auto, using(std::proofs::lemmas::Bool::Decides::nat_tests, std::proofs::lemmas::Grind::common_steps, crate::proofs::Resolved::place_read, crate::proofs::Marked::lit_about, crate::proofs::Waiting::mark_read))]
 pub fn is_waiting(core: &Core, walk: &Walk, place: usize, mark: u8) -> bool
     requires place { place < length core.now.trail }
     requires len { length walk.now.marks.items ≡ core.now.vars + 1 }
@@ -90,6 +93,7 @@ pub fn met_below(walk: &Walk, place: usize) -> usize
 }
 
 /// The highest place below another whose step waits with such a mark; there is one.
+#[tactic(auto, using(std::proofs::lemmas::Grind::common_steps, crate::proofs::Waiting::next_passed, crate::proofs::Waiting::passed_over))]
 pub fn waiting_below(core: &Core, walk: &Walk, from: usize, mark: u8) -> usize
     requires sorted { IsSorted core.now (value_of walk.now) }
     requires few { walk.now.stamp ≤ 251 }
@@ -116,6 +120,7 @@ pub fn met_between(walk: &Walk, from: usize, place: usize) -> Option<usize>
 }
 
 /// Takes a step for its reason.
+#[tactic(auto, using(std::proofs::lemmas::Bool::Decides::nat_tests, std::proofs::lemmas::Grind::common_steps, crate::proofs::Resolved::place_read, crate::proofs::Marked::lit_stands))]
 pub fn resolve(core: &Core, walk: &mut Walk, place: usize) -> Result<(), OutOfMemory>
     requires few { walk.old.stamp ≤ 251 }
     requires step { IsStep core.now (value_of walk.old) place }

@@ -38,6 +38,7 @@ fn bit(number: usize) -> u64
 }
 
 /// The bits of a word below one of them.
+#[tactic(auto, using(crate::proofs::Bits::bits_lower))]
 fn bits_below(word: u64, number: usize) -> u64
     requires { number < 64 }
     ensures { (k : ℕ) → IsBitSet result k ↔ (IsBitSet word k × (k < number)) }
@@ -46,6 +47,7 @@ fn bits_below(word: u64, number: usize) -> u64
 }
 
 /// The highest bit that is set.
+#[tactic(auto, using(crate::proofs::Bits::highest_set, crate::proofs::Bits::highest_last))]
 fn highest_bit(word: u64) -> usize
     requires { word ≢ 0 }
     ensures within { result < 64 }

@@ -2,12 +2,6 @@ use Rattle.std.proofs.Common.{◌-◌, arith}
 use Rattle.conflict_analysis.{specs.Met.value_of, proofs.{Resolved.{walked_on, open_on, above_on}, Waiting.{walked_none, walked_all, same_open, same_above, bottom_step}}}
 use Rattle.conflict_analysis.proofs.analyze.walk_bottom.Goals as goal
 
-pub loop-walk-init : goal.loop-walk-init
-loop-walk-init c = grind (arith, walked_none, same_open, same_above)
-
-pub waiting_below-place-requires-clause-some : goal.waiting_below-place-requires-clause-some
-waiting_below-place-requires-clause-some c = omega (arith, c.loop-walk.invariant.walked.sorted.zeros, c.loop-walk-test.true)
-
 pub resolve-requires-clause-step : goal.resolve-requires-clause-step
 resolve-requires-clause-step c = bottom_step c.args.core.now (value_of c.loop-walk.walk) c.waiting_below-place.result c.requires.formed c.requires.grounded c.loop-walk.invariant.walked.sorted c.waiting_below-place.ensures.next
 

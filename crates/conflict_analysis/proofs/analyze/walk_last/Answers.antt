@@ -3,12 +3,6 @@ use Rattle.trail_core.proofs.Keeping.{lits_length}
 use Rattle.conflict_analysis.{specs.Met.value_of, proofs.{Resolved.walked_on, Waiting.{walked_none, open_step}}}
 use Rattle.conflict_analysis.proofs.analyze.walk_last.Goals as goal
 
-pub loop-walk-init : goal.loop-walk-init
-loop-walk-init c = grind (arith, lits_length, walked_none)
-
-pub waiting_below-place-requires-clause-some : goal.waiting_below-place-requires-clause-some
-waiting_below-place-requires-clause-some c = omega (arith, c.loop-walk.invariant.walked.sorted.open_, c.loop-walk-test.true)
-
 pub resolve-requires-clause-step : goal.resolve-requires-clause-step
 resolve-requires-clause-step c = open_step c.args.core.now (value_of c.loop-walk.walk) c.waiting_below-place.result c.trail-place.ensures.formed c.trail-place.ensures.grounded c.loop-walk.invariant.walked.sorted c.loop-walk-test.true c.waiting_below-place.ensures.next
 

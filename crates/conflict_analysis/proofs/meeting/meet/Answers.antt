@@ -4,16 +4,6 @@ use Rattle.conflict_analysis.specs.Met.{value_of, WalkValue, HasMet}
 use Rattle.conflict_analysis.proofs.{Marked.{IsUnmet, met_bottom, met_open, met_kept, unmet_by, unmet_at, level_read, level_within, at_false}, meeting.meet.Goals.{After-negated-this, After-level-level}}
 use Rattle.conflict_analysis.proofs.meeting.meet.Goals as goal
 
--- the literal's negation stands on the trail
-stands : (c : After-negated-this) → Contains (trues c.args.core.now) c.negated-this.result
-stands c = grind (arith, nat_tests, common_steps, unmet_by, at_false)
-
-pub place-place-requires : goal.place-place-requires
-place-place-requires c = stands (goal.at.place-place-requires c).After-negated-this
-
-pub level-level-requires : goal.level-level-requires
-level-level-requires c = stands (goal.at.level-level-requires c).After-negated-this
-
 -- the literal was not met, and became false at this place
 unmet : (c : After-level-level) → IsUnmet c.args.core.now (value_of c.args.walk.now) c.args.lit c.place-place.result
 unmet c = grind (arith, nat_tests, common_steps, unmet_by, unmet_at)

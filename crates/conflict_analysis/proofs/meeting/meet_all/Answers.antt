@@ -3,18 +3,6 @@ use Rattle.cnf_formula.specs.Literals.{LitValue}
 use Rattle.conflict_analysis.{specs.Met.value_of, proofs.Marked.{met_none, met_next, met_still, met_whole, read_stands}}
 use Rattle.conflict_analysis.proofs.meeting.meet_all.Goals as goal
 
-pub loop-lit-init : goal.loop-lit-init
-loop-lit-init c = met_none c.args.core.now (value_of c.args.walk.now) c.requires.sorted
-
-pub meet-requires-clause-sorted : goal.meet-requires-clause-sorted
-meet-requires-clause-sorted c = c.loop-lit.invariant.sorted
-
-pub meet-requires-clause-few : goal.meet-requires-clause-few
-meet-requires-clause-few c = omega (arith, c.loop-lit.invariant.stamp, c.requires.few)
-
-pub meet-requires-clause-met : goal.meet-requires-clause-met
-meet-requires-clause-met c = grind (arith, met_still, read_stands)
-
 pub meet-requires-clause-within : goal.meet-requires-clause-within
 meet-requires-clause-within c =
     let clause : List LitValue = get_or c.args.core.now.clauses c.args.id [] in
@@ -24,7 +12,3 @@ meet-requires-clause-within c =
 pub loop-lit-preserved : goal.loop-lit-preserved
 loop-lit-preserved c =
     met_next c.args.core.now (get_or c.args.core.now.clauses c.args.id []) c.clause-lit-items.result.now c.loop-lit.lit-index c.lit-item.result (value_of c.args.walk.now) (value_of c.loop-lit.walk) _ (c.clause-lit-items.ensures []) c.loop-lit-test.true c.lit-item.is c.loop-lit.invariant c.in_ok-meet.ensures
-
-pub returns : goal.returns
-returns c =
-    met_whole c.args.core.now (get_or c.args.core.now.clauses c.args.id []) c.clause-lit-items.result.now c.loop-lit.lit-index (value_of c.args.walk.now) (value_of c.loop-lit.walk) (c.clause-lit-items.ensures []) (omega (arith, c.loop-lit-test.false)) c.loop-lit.invariant

@@ -4,9 +4,6 @@ use Rattle.conflict_analysis.specs.{Met.{value_of, WalkValue, lit_at, IsSorted, 
 use Rattle.conflict_analysis.proofs.{Marked.lit_stands, Resolved.{step_read, place_read, reason_some, without_is, without_sorted, others_met, others_within}, meeting.resolve.Goals.After-var}
 use Rattle.conflict_analysis.proofs.meeting.resolve.Goals as goal
 
-pub reason-requires : goal.reason-requires
-reason-requires c = grind (arith, nat_tests, common_steps, place_read, lit_stands)
-
 pub unwrap-reason-requires : goal.unwrap-reason-requires
 unwrap-reason-requires c =
     let core = c.args.core.now in

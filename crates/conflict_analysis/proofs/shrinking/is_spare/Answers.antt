@@ -3,12 +3,6 @@ use Rattle.cnf_formula.specs.Literals.{LitValue}
 use Rattle.conflict_analysis.{specs.{Met.{value_of, lit_at}, inner.Walks.IsStep}, proofs.{Marked.lit_stands, Resolved.{place_read, reason_implied}, Waiting.kept_step, shrinking.is_spare.Goals.In-Some}}
 use Rattle.conflict_analysis.proofs.shrinking.is_spare.Goals as goal
 
-pub is_waiting-requires-clause-len : goal.is_waiting-requires-clause-len
-is_waiting-requires-clause-len c = c.requires.sorted.marked.len
-
-pub reason-requires : goal.reason-requires
-reason-requires c = grind (arith, nat_tests, common_steps, place_read, lit_stands)
-
 -- a literal that is kept and has a reason
 step : (c : In-Some) → IsStep c.args.core.now (value_of c.args.walk.now) c.args.place
 step c =

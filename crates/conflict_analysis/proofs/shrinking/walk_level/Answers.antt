@@ -2,18 +2,6 @@ use Rattle.std.proofs.{lemmas.{Bool.Decides.nat_tests, Grind.common_steps}, Comm
 use Rattle.conflict_analysis.{specs.Met.{value_of, WalkValue}, proofs.{Levels.limits_rise, Middle.{middle_at, passed_lower, walked_lower}, Resolved.{walked_on, open_on}, Waiting.{walked_none, same_open}}}
 use Rattle.conflict_analysis.proofs.shrinking.walk_level.Goals as goal
 
-pub returns-then-kept-lt2 : goal.returns-then-kept-lt2
-returns-then-kept-lt2 c = grind (arith, nat_tests, common_steps, limits_rise, walked_none, walked_lower, same_open)
-
-pub loop-walk-init : goal.loop-walk-init
-loop-walk-init c = grind (arith, limits_rise, walked_none, same_open)
-
-pub is_spare-requires : goal.is_spare-requires
-is_spare-requires c = grind (arith, middle_at)
-
-pub resolve-requires : goal.resolve-requires
-resolve-requires c = record { few = omega (arith, c.loop-walk.invariant.walked.onward.stamp, c.requires.few); step = c.is_spare.ensures c.if-is_spare.true }
-
 pub count-requires : goal.count-requires
 count-requires c = λ o h. (c.in_ok-resolve.ensures.met.sorted.kept.of o (subst (λ xs. Contains xs o) c.deref.ensures.value h)).1
 

@@ -4,12 +4,3 @@ use Rattle.conflict_analysis.proofs.shrinking.walk_middle.Goals as goal
 
 pub count-requires : goal.count-requires
 count-requires c = λ o h. (c.requires.sorted.kept.of o (subst (λ xs. Contains xs o) c.deref-2.ensures.value h)).1
-
-pub loop-level-init : goal.loop-level-init
-loop-level-init c = grind (arith, walked_none, same_open)
-
-pub loop-level-preserved : goal.loop-level-preserved
-loop-level-preserved c = grind (arith, walked_then, same_open_then)
-
-pub returns-clause-walked : goal.returns-clause-walked
-returns-clause-walked c = grind arith
