@@ -7,7 +7,7 @@ use Rattle.cnf_formula.specs.{Literals.{LitValue, negation}, Lines.ProofLineValu
 use Rattle.trail_core.{specs.{Assigned.IsFalse, Formed.IsTrail, Trails.{StepValue, lits_of}, Meaning.CoreValue}, proofs.Keeping.lits_length}
 use Rattle.conflict_analysis.specs.{Learning.{number_of, hints_of, hints_to, IsOut, IsResolved, IsAnalysis}, UnitLines.{denied, IsUnitLine}}
 use Rattle.conflict_analysis.specs.{Met.{WalkValue, no_step, step_at, lit_at, mark_of, resolved_by, IsSeen, IsSorted, HasMet, IsPassed, IsReasoned}, inner.Walks.{HasWalked, HasSameAbove}}
-use Rattle.conflict_analysis.proofs.{Members.{here, cons_cases}, Marked.{lit_read, same_place}, Pointed.{kinds, filter_none, IsBegun, met_unresolved, met_passed}}
+use Rattle.conflict_analysis.proofs.{Members.{here, only, cons_cases}, Marked.{false_before, same_place}, Pointed.{kinds, filter_none, IsBegun, met_unresolved, met_passed}}
 
 -- ---- steps that were taken, and have a reason
 
@@ -82,13 +82,9 @@ denied_length core place w = grind (arith, length-take-le, length_push)
 -- what was met and is false before a step is out there
 out_under : (core : CoreValue) (place : ℕ) (w : WalkValue) (k : ℕ) (before : List StepValue) (clause : List LitValue) (o : LitValue) → IsWalked core place w → k ≤ place → ((j : ℕ) → j < k → Contains before (step_at core j)) → IsSeen w o → IsFalse (lits_of (take k core.trail)) o → IsOut (resolved_of w) before clause o
 out_under core place w k before clause o d le stand seen f =
-    let n : length (lits_of (take k core.trail)) ≡ k = lits_length (take k core.trail) ∙ length-take-le k core.trail (omega (arith, le, d.within)) in
-    let j = f.0 in
-    let lt : j < k = omega (arith, f.1, n) in
-    let v : j < length core.trail = omega (arith, lt, le, d.within) in
-    let at : lit_at core j ≡ negation o = sym (lit_read core j (negation o) v) ∙ sym (get_or-take k (lits_of core.trail) j (negation o) lt) ∙ ap (λ xs. get_or xs j (negation o)) (take-map (λ s. s.lit) k core.trail) ∙ f.2 in
-    let mark : mark_of w (lit_at core j) ≡ mark_of w o = ap (λ x. get_or w.marks x.var 0) at in
-    inr (step_at core j, stand j lt, resolved_at core place w j d v (omega (arith, mark, seen)), at)
+    let j = false_before core o k (omega (arith, le, d.within)) f in
+    let mark : mark_of w (lit_at core j.0) ≡ mark_of w o = ap (λ v. get_or w.marks v 0) j.2.var in
+    inr (step_at core j.0, stand j.0 j.1, resolved_at core place w j.0 d j.2.within (omega (arith, mark, seen)), j.2.is)
 
 -- ---- so it is an analysis
 
@@ -107,10 +103,7 @@ denied_analysis core place w d = record {
       (λ e. inl (subst (λ x. Contains (lit_at core place ∷ []) x) (sym e) (here (lit_at core place) [])))
       (λ h. out_under core place w place (denied core place) (lit_at core place ∷ []) o d (omega arith) stand h.0 h.1)
       ((reasoned_here core place w d).others o c);
-  falses = λ o c. ⊎_elim
-      (λ e. subst (λ x. IsFalse (lits_of (denied core place)) x) e (Contains-map (λ s. s.lit) (denied core place) _ (Contains-push (take place core.trail) (record { lit = negation (lit_at core place); reason = None }))))
-      (λ h. absurd (omega (arith, h.1)))
-      (cons_cases (lit_at core place) [] o c);
+  falses = λ o c. subst (λ x. IsFalse (lits_of (denied core place)) x) (only (lit_at core place) o c) (Contains-map (λ s. s.lit) (denied core place) _ (Contains-push (take place core.trail) (record { lit = negation (lit_at core place); reason = None })));
 }
   where
     stand : (j : ℕ) → j < place → Contains (denied core place) (step_at core j)

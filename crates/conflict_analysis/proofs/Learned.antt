@@ -31,15 +31,7 @@ waits_kept core w (Some l) o k p s a e = grind (arith, negated_twice, here)
 kept_or_resolved : (core : CoreValue) (conflict : ℕ) (w : WalkValue) (point : Option LitValue) (o : LitValue) → IsEnded core conflict w point → IsSeen w o → IsFalse (trues core) o → Contains (w.lits ++ point_lits point) o ⊎ (mark_of w o ≡ w.stamp + 2)
 kept_or_resolved core conflict w point o d seen f =
     let i = false_at core o f in
-    let e : mark_of w (lit_at core i.0) ≡ mark_of w o = ap (λ v. get_or w.marks v 0) i.1.var in
-    let about = lit_about core i.0 d.conflicts.formed i.1.within in
-    ⊎_elim
-    (λ h. inl (Contains-append_left w.lits (point_lits point) o (d.sorted.kept.all o f h)))
-    (λ q. ⊎_elim
-    (λ h. inl (Contains-append_right w.lits (point_lits point) o (waits_kept core w point o i.0 d.left d.sorted i.1 (e ∙ h))))
-    (λ q. ⊎_elim inr (λ h. let z = waits_some (w.stamp + 3) w.marks o.var (omega (arith, about.within, d.sorted.marked.len, i.1.var)) h in absurd (omega (arith, z, d.sorted.zeros, d.none))) q)
-    q)
-    (kinds (mark_of w o) w.stamp seen (d.sorted.marked.over o.var))
+    grind (arith, kinds (mark_of w o) w.stamp seen (d.sorted.marked.over o.var), lit_about core i.0 d.conflicts.formed i.1.within, Contains-append_left w.lits (point_lits point) o, d.sorted.kept.all o f, Contains-append_right w.lits (point_lits point) o, waits_kept core w point o i.0 d.left d.sorted i.1, waits_some (w.stamp + 3) w.marks o.var, ⊎_elim)
 
 -- so it is out before a place at which it is false
 out_at : (core : CoreValue) (conflict : ℕ) (w : WalkValue) (point : Option LitValue) (before : List StepValue) (o : LitValue) → IsEnded core conflict w point → IsSeen w o → IsFalse (trues core) o → Contains (lits_of before) (negation o) → IsOut (resolved_by w) before (w.lits ++ point_lits point) o

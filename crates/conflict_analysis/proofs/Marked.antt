@@ -1,10 +1,10 @@
 -- A literal that is met is marked.
 use Rattle.std.proofs.{lemmas.{Bool.Decides.nat_tests, Grind.common_steps}, Common.{◌≡◌, ℕ, ◌+◌, ◌<◌, ◌≤◌, List, [], ◌∷◌, ◌++◌, length, get_or, set, take, refl, sym, ap, ◌∙◌, subst, inl, inr, ⊎_elim, arith, ◌≢◌, ◌⊎◌, ◌↔◌, Contains, nat_le}}
-use Rattle.std.proofs.lemmas.{List.{Sums.count_by-le-length, Quantifiers.all_pairs_push, get_or-set_same, get_or-set_other, get_or-map, get_or_default, length-set, take_more, take_all}, Bool.{cases_eq, cases_order}}
+use Rattle.std.proofs.lemmas.{List.{Sums.count_by-le-length, Quantifiers.all_pairs_push, get_or-set_same, get_or-set_other, get_or-map, get_or_default, length-set, take_more, take_all, get_or-take, length-take-le, take-map}, Bool.{cases_eq, cases_order}}
 use Rattle.std.proofs.lemmas.List.Elements.{Contains-push, Contains-push_cases, Contains-append_left, Contains-get_or, All-contains}
 use Rattle.cnf_formula.specs.{Literals.{LitValue, negation}, Formulas.IsAbout}
-use Rattle.trail_core.{specs.{Assigned.{IsFalse, level_at}, Watching.no_lit, Meaning.{CoreValue, trues}, Formed.IsTrail}, proofs.Keeping.{lits_length, negated_twice}}
-use Rattle.conflict_analysis.{specs.{Met.{WalkValue, lit_at, no_step, IsSeen, AreMarks, AreKept, AreNoted, IsSorted, HasMet, waiting}, PlaceSets.HasPlace}, proofs.{Members.{here, cons_cases}, Counted.{waits_more, waits_same}}}
+use Rattle.trail_core.{specs.{Assigned.{IsFalse, level_at}, Trails.lits_of, Watching.no_lit, Meaning.{CoreValue, trues}, Formed.IsTrail}, proofs.Keeping.{lits_length, negated_twice}}
+use Rattle.conflict_analysis.{specs.{Met.{WalkValue, lit_at, no_step, IsSeen, AreMarks, AreKept, AreNoted, IsSorted, HasMet, waiting}, PlaceSets.HasPlace}, proofs.{Members.{here, only}, Counted.{waits_more, waits_same}}}
 
 -- ---- the literal at a place of the trail
 
@@ -18,14 +18,7 @@ pub lit_about : (core : CoreValue) (k : ℕ) → IsTrail core.vars core.trail co
 lit_about core k t w = All-contains (IsAbout core.vars) (trues core) (lit_at core k) t.within (lit_stands core k w)
 
 pub same_place : (core : CoreValue) (i j : ℕ) → IsTrail core.vars core.trail core.limits → i < length core.trail → j < length core.trail → (lit_at core i).var ≡ (lit_at core j).var → i ≡ j
-same_place core i j t v w e = ⊎_elim
-    (λ same. same)
-    (λ o. absurd (⊎_elim (λ lt. apart i j lt v w e) (λ gt. apart j i gt w v (sym e)) o))
-    (cases_order i j)
-  where
-    apart : (a b : ℕ) → a < b → a < length core.trail → b < length core.trail → (lit_at core a).var ≡ (lit_at core b).var → ⊥
-    apart a b lt x y e =
-        t.apart a b no_lit lt (omega (arith, y, lits_length core.trail)) (ap (λ l. l.var) (lit_read core a no_lit x) ∙ e ∙ ap (λ l. l.var) (sym (lit_read core b no_lit y)))
+same_place core i j t v w e = grind (arith, cases_order i j, t.apart i j no_lit, t.apart j i no_lit, lit_read core i no_lit v, lit_read core j no_lit w, lits_length core.trail)
 
 -- where a false literal became so
 pub record IsAt (core : CoreValue) (l : LitValue) (k : ℕ) : Type 0 where
@@ -39,6 +32,13 @@ false_at core l c =
     let e : lit_at core c.0 ≡ negation l = sym (lit_read core c.0 (negation l) w) ∙ c.2 in
     (c.0, record { within = w; is = e; var = ap (λ x. x.var) e })
 
+-- and where it did so, if it is false before a place
+pub false_before : (core : CoreValue) (l : LitValue) (k : ℕ) → k ≤ length core.trail → IsFalse (lits_of (take k core.trail)) l → (j : ℕ) × (j < k) × IsAt core l j
+false_before core l k le c =
+    let lt : c.0 < k = let n = lits_length (take k core.trail) ∙ length-take-le k core.trail le in omega (arith, c.1, n) in
+    let e : lit_at core c.0 ≡ negation l = sym (lit_read core c.0 (negation l) (omega (arith, lt, le))) ∙ sym (get_or-take k (trues core) c.0 (negation l) lt) ∙ ap (λ xs. get_or xs c.0 (negation l)) (take-map (λ s. s.lit) k core.trail) ∙ c.2 in
+    (c.0, lt, record { within = omega (arith, lt, le); is = e; var = ap (λ x. x.var) e })
+
 pub at_false : (core : CoreValue) (l : LitValue) (k : ℕ) → IsAt core l k → IsFalse (trues core) l
 at_false core l k a = subst (λ x. Contains (trues core) x) a.is (lit_stands core k a.within)
 
@@ -47,8 +47,7 @@ pub false_once : (core : CoreValue) (a b : LitValue) → IsTrail core.vars core.
 false_once core a b t f g e =
     let i = false_at core a f in
     let j = false_at core b g in
-    let k = same_place core i.0 j.0 t i.1.within j.1.within (i.1.var ∙ e ∙ sym j.1.var) in
-    sym (negated_twice a) ∙ ap negation (sym i.1.is ∙ ap (lit_at core) k ∙ j.1.is) ∙ negated_twice b
+    grind (arith, negated_twice a, negated_twice b, same_place core i.0 j.0 t i.1.within j.1.within)
 
 -- ---- marks
 
@@ -89,15 +88,10 @@ kept_other stamp marks v u y n h = grind (arith, get_or-set_other, ⊎_elim)
 -- one whose step is resolved is kept no more, nor one of another kind that was not met
 pub kept_set : (core : CoreValue) (stamp : ℕ) (marks : List ℕ) (lits : List LitValue) (v y : ℕ) → v < length marks → AreKept core stamp marks lits → y ≢ stamp → (y ≡ stamp + 2) ⊎ (get_or marks v 0 < stamp) → AreKept core stamp (set marks v y) lits
 kept_set core stamp marks lits v y w k other how = record {
-  of = λ o c.
-      let h = k.of o c in
-      (⊎_elim (λ e. ⊎_elim (λ two. inr (here' o e ∙ two)) (λ low. absurd (unmet stamp marks v o.var e low h.0)) how) (λ n. kept_other stamp marks v o.var y n h.0) (cases_eq o.var v), h.1);
-  all = λ o f e. ⊎_elim (λ s. absurd (other (sym (here' o s) ∙ e))) (λ d. k.all o f (sym (get_or-set_other marks v o.var y 0 d) ∙ e)) (cases_eq o.var v);
+  of = λ o c. let h = k.of o c in grind (arith, h, how, cases_eq o.var v, get_or-set_same marks v y 0 w, get_or-set_other marks v o.var y 0, ⊎_elim);
+  all = λ o f e. grind (arith, e, k.all o f, cases_eq o.var v, get_or-set_same marks v y 0 w, get_or-set_other marks v o.var y 0);
   once = k.once;
 }
-  where
-    here' : (o : LitValue) → o.var ≡ v → get_or (set marks v y) o.var 0 ≡ y
-    here' o e = ap (λ x. get_or (set marks v y) x 0) e ∙ get_or-set_same marks v y 0 w
 
 pub kept_more : (core : CoreValue) (stamp : ℕ) (marks : List ℕ) (lits : List LitValue) (l : LitValue) → IsTrail core.vars core.trail core.limits → l.var < length marks → AreKept core stamp marks lits → get_or marks l.var 0 < stamp → IsFalse (trues core) l → AreKept core stamp (set marks l.var stamp) (lits ++ l ∷ [])
 kept_more core stamp marks lits l t w k low f = record {
@@ -146,7 +140,7 @@ module _ (core : CoreValue) (w : WalkValue) (l : LitValue) (k : ℕ) (places : L
     };
     stamp = refl;
     hints = refl;
-    seen = λ o c. let e = ap (λ x. get_or (set w.marks l.var (w.stamp + kind)) x.var 0) (sym (only o c)) in let m = same_mark (w.stamp + kind) in omega (arith, e, m);
+    seen = λ o c. let e = ap (λ x. get_or (set w.marks l.var (w.stamp + kind)) x.var 0) (sym (only l o c)) in let m = same_mark (w.stamp + kind) in omega (arith, e, m);
     stays = λ v g. get_or-set_other w.marks l.var v (w.stamp + kind) 0 (λ e. let f = ap (λ x. get_or w.marks x 0) e in omega (arith, f, g, u.low));
     new = λ v g. ⊎_elim
         (λ e. inr (l, here l [], sym e, λ h. let f = ap (λ x. get_or (set w.marks l.var (w.stamp + kind)) x 0) e in let m = same_mark (w.stamp + kind) in two (omega (arith, f, h, m))))
@@ -154,9 +148,6 @@ module _ (core : CoreValue) (w : WalkValue) (l : LitValue) (k : ℕ) (places : L
         (cases_eq v l.var);
     more = more;
   }
-    where
-      only : (o : LitValue) → Contains (l ∷ []) o → l ≡ o
-      only o c = ⊎_elim (λ e. e) (λ d. absurd (omega (arith, d.1))) (cons_cases l [] o c)
 
   -- no other kind waits less
   others_wait : (kind y : ℕ) → y ≢ w.stamp + kind → waiting (w.stamp + kind) w.marks ≡ waiting (w.stamp + kind) (set w.marks l.var y)
@@ -203,13 +194,10 @@ met_more core xs x a b c p q = record {
       (λ h.
       let k = q.stays v h in
       ⊎_elim (λ i. inl i) (λ n. inr (n.0, Contains-append_left xs (x ∷ []) n.0 n.1, n.2, λ e. n.3 (sym k ∙ e))) (p.new v (omega (arith, h, p.stamp))))
-      (λ n. inr (n.0, subst (λ y. Contains (xs ++ x ∷ []) y) (only n.0 n.1) (Contains-push xs x), n.2, λ e. n.3 (e ∙ ap (λ m. m + 2) (sym p.stamp))))
+      (λ n. inr (n.0, subst (λ y. Contains (xs ++ x ∷ []) y) (only x n.0 n.1) (Contains-push xs x), n.2, λ e. n.3 (e ∙ ap (λ m. m + 2) (sym p.stamp))))
       (q.new v (omega (arith, g, p.stamp)));
   more = let i = p.more in let j = q.more in omega (arith, i, j);
 }
-  where
-    only : (o : LitValue) → Contains (x ∷ []) o → x ≡ o
-    only o c = ⊎_elim (λ e. e) (λ d. absurd (omega (arith, d.1))) (cons_cases x [] o c)
 
 -- ---- its level, as it is read
 

@@ -8,6 +8,9 @@ here x xs = (0, omega arith, refl)
 pub cons_cases : {X : Type 0} (y : X) (xs : List X) (x : X) → Contains (y ∷ xs) x → (y ≡ x) ⊎ Contains xs x
 cons_cases y xs x c = grind arith
 
+pub only : {X : Type 0} (x o : X) → Contains (x ∷ []) o → x ≡ o
+only x o c = grind (arith, cons_cases)
+
 pub from_map : {X Y : Type 0} (f : X → Y) (xs : List X) (y : Y) → Contains (map f xs) y → (x : X) × Contains xs x × (f x ≡ y)
 from_map f [] y c = absurd (omega (arith, c.1))
 from_map f (x ∷ xs) y c =

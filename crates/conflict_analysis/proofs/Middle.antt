@@ -9,18 +9,7 @@ pub record IsMiddle (core : CoreValue) (k : ℕ) : Type 0 where
   pub lower : level_at core.limits k < length core.limits
 
 pub middle_at : (core : CoreValue) (level k : ℕ) → IsTrail core.vars core.trail core.limits → level < length core.limits → k < get_or core.limits level 0 → IsMiddle core k
-middle_at core level k t below lt =
-    let last = length core.limits - 1 in
-    let is : last + 1 ≡ length core.limits = omega (arith, below) in
-    let top = limits_rise core.limits (length core.trail) level last t.levels (omega (arith, below, is)) (omega (arith, is)) in
-    let end = t.levels.below level below in
-    record {
-      within = omega (arith, lt, end);
-      lower = ⊎_elim
-          (λ h. h)
-          (λ h. let n = level_within core k in let high = high_place core.limits last k is (omega (arith, n, h)) in absurd (omega (arith, high, lt, top)))
-          (cases_lt (level_at core.limits k) (length core.limits));
-    }
+middle_at core level k t below lt = grind (arith, limits_rise core.limits (length core.trail) level (length core.limits - 1) t.levels, t.levels.below level below, high_place core.limits (length core.limits - 1) k, level_within core k)
 
 -- no step of level 0 waits at any lower place above level 0
 pub passed_lower : (core : CoreValue) (w : WalkValue) (low from to : ℕ) → IsTrail core.vars core.trail core.limits → low < length core.limits → get_or core.limits low 0 ≤ to → to ≤ from → IsSorted core w → IsPassed core 3 w from → IsPassed core 3 w to

@@ -9,7 +9,7 @@ use Rattle.conflict_analysis.proofs.{Levels.{level_grows, level_below, some_leve
 
 -- the kinds of marks
 pub kinds : (m stamp : ℕ) → stamp ≤ m → m ≤ stamp + 3 → (m ≡ stamp) ⊎ ((m ≡ stamp + 1) ⊎ ((m ≡ stamp + 2) ⊎ (m ≡ stamp + 3)))
-kinds m stamp low high = ⊎_elim inl (λ a. inr (⊎_elim inl (λ b. inr (⊎_elim inl (λ c. inr (grind arith)) (cases_eq m (stamp + 2)))) (cases_eq m (stamp + 1)))) (cases_eq m stamp)
+kinds m stamp low high = grind (arith, cases_eq)
 
 -- ---- levels and places
 
@@ -17,12 +17,7 @@ kinds m stamp low high = ⊎_elim inl (λ a. inr (⊎_elim inl (λ b. inr (⊎_e
 pub low_place : (limits : List ℕ) (len last k : ℕ) → AreLimits limits len → last + 1 ≡ length limits → level_at limits k < length limits → k < get_or limits last 0
 low_place limits len last k a e low = ⊎_elim
     (λ lt. lt)
-    (λ ge.
-    let all = all_counted limits k (λ i w. ⊎_elim
-    (λ lt. let r = a.rising i last lt (omega (arith, e)) in omega (arith, r, ge))
-    (λ h. let s : i ≡ last = omega (arith, h, w, e) in let u : get_or limits i 0 ≡ get_or limits last 0 = ap (λ x. get_or limits x 0) s in omega (arith, u, ge))
-    (cases_lt i last)) in
-    absurd (omega (arith, all, low)))
+    (λ ge. let all = all_counted limits k (λ i w. let r = limits_rise limits len i last a (omega (arith, w, e)) (omega (arith, e)) in omega (arith, r, ge)) in absurd (omega (arith, all, low)))
     (cases_lt k (get_or limits last 0))
 
 -- what is of the last level does not
@@ -60,29 +55,12 @@ pub record IsBegun (core : CoreValue) (w : WalkValue) : Type 0 where
 
 pub begun_sorted : (core : CoreValue) (w : WalkValue) → IsBegun core w → IsSorted core w
 begun_sorted core w b = record {
-  marked = record {
-    len = b.len;
-    over = λ v. let r = b.low v in omega (arith, r);
-    placed = λ v h. absurd (low v h);
-    low = λ k v e. absurd (low (lit_at core k).var (omega (arith, e)));
-    top = λ k v e. absurd (low (lit_at core k).var (omega (arith, e)));
-    bottom = λ k v e. absurd (low (lit_at core k).var (omega (arith, e)));
-  };
-  kept = record {
-    of = λ o c. absurd (let n : length w.lits ≡ 0 = ap length b.lits in omega (arith, n, c.1));
-    all = λ o f e. absurd (low o.var (omega (arith, e)));
-    once = λ i j d p q. absurd (let n : length w.lits ≡ 0 = ap length b.lits in omega (arith, n, q));
-  };
-  noted = record {
-    within = λ k h. absurd (b.none k h);
-    each = λ k v. (λ h. absurd (b.none k h), λ h. absurd (low (lit_at core k).var h));
-  };
-  open_ = b.open_ ∙ sym (waits_none (w.stamp + 1) w.marks (λ v h e. low v (omega (arith, e))));
-  zeros = b.zeros ∙ sym (waits_none (w.stamp + 3) w.marks (λ v h e. low v (omega (arith, e))));
+  marked = grind (arith, b.low);
+  kept = grind arith;
+  noted = grind arith;
+  open_ = b.open_ ∙ sym (waits_none (w.stamp + 1) w.marks (λ v h e. let r = b.low v in omega (arith, e, r)));
+  zeros = b.zeros ∙ sym (waits_none (w.stamp + 3) w.marks (λ v h e. let r = b.low v in omega (arith, e, r)));
 }
-  where
-    low : (v : ℕ) → w.stamp ≤ get_or w.marks v 0 → ⊥
-    low v h = let r = b.low v in omega (arith, r, h)
 
 -- the conflict was met: nothing is resolved
 pub met_unresolved : (core : CoreValue) (clause : List LitValue) (a b : WalkValue) (v : ℕ) → IsBegun core a → HasMet core clause a b → get_or b.marks v 0 ≢ b.stamp + 2

@@ -6,7 +6,7 @@ use Rattle.cnf_formula.specs.{Literals.{LitValue, negation}, Formulas.IsAbout}
 use Rattle.trail_core.{specs.{Assigned.{IsFalse, level_at}, Trails.lits_of, Search.IsImplied, Kept.{IsDue, AreGrounded}, Meaning.{CoreValue, trues}, Formed.IsTrail}, proofs.Keeping.{lits_length, in_front}}
 use Rattle.conflict_analysis.specs.{Learning.{number_of, hints_of}, inner.Walks.{IsStep, without, IsTaken, HasWalked, HasSameOpen, HasSameAbove}}
 use Rattle.conflict_analysis.specs.Met.{WalkValue, step_at, no_step, lit_at, mark_of, resolved_by, IsSeen, IsSorted, IsReasoned, IsPassed, IsOnward}
-use Rattle.conflict_analysis.proofs.{Levels.level_grows, Marked.{lit_read, lit_about, same_place, mark_same, marked_set, noted_same, kept_set}}
+use Rattle.conflict_analysis.proofs.{Levels.level_grows, Marked.{false_before, lit_read, lit_about, same_place, mark_same, marked_set, noted_same, kept_set}}
 
 -- ---- a test that passes at one place more, the first at which it passes
 
@@ -29,10 +29,7 @@ filter_first p q (x ∷ xs) (suc n) d w low yes' no' high =
 
 -- the step of a literal at a place is known by the literal
 pub step_read : (core : CoreValue) (k : ℕ) (l : LitValue) (r : Option ℕ) → IsTrail core.vars core.trail core.limits → k < length core.trail → l ≡ lit_at core k → Contains core.trail (record { lit = l; reason = r }) → (step_at core k).reason ≡ r
-step_read core k l r t w e c =
-    let there : step_at core c.0 ≡ record { lit = l; reason = r } = get_or_default core.trail c.0 no_step (record { lit = l; reason = r }) c.1 ∙ c.2 in
-    let same : c.0 ≡ k = same_place core c.0 k t c.1 w (ap (λ s. s.lit.var) there ∙ ap (λ x. x.var) e) in
-    ap (λ s. s.reason) (ap (step_at core) (sym same) ∙ there)
+step_read core k l r t w e c = grind (arith, get_or_default core.trail c.0 no_step (record { lit = l; reason = r }) c.1, same_place core c.0 k t c.1 w)
 
 -- a step that has a reason is implied
 pub reason_implied : (core : CoreValue) (k : ℕ) (l : LitValue) (id : ℕ) → AreGrounded core → IsTrail core.vars core.trail core.limits → k < length core.trail → l ≡ lit_at core k → Contains core.trail (record { lit = l; reason = Some id }) → IsImplied core.clauses (IsDue core.limits) (take k core.trail) (step_at core k)
@@ -42,15 +39,13 @@ reason_implied core k l id g t w e c = grind (arith, step_read core k l (Some id
 
 module _ (core : CoreValue) (w : WalkValue) (place : ℕ) (s : IsStep core w place) where
   pub without_sorted : IsSorted core (without core w place s.implied.id)
-  without_sorted =
-      let room = lit_about core place s.formed s.within in
-      record {
-        marked = marked_set core w.stamp w.marks place 2 s.formed s.marked (record { within = s.within; some = omega arith; low = λ h. absurd (omega (arith, h)); top = λ h. absurd (omega (arith, h)); bottom = λ h. absurd (omega (arith, h)) });
-        kept = kept_set core w.stamp w.marks w.lits (lit_at core place).var (w.stamp + 2) (omega (arith, room.within, s.marked.len)) s.kept (λ h. omega (arith, h)) (inl refl);
-        noted = noted_same core w.stamp w.marks w.met_places place (w.stamp + 2) s.formed s.within s.marked.len (omega arith) s.noted s.met;
-        open_ = s.open_;
-        zeros = s.zeros;
-      }
+  without_sorted = record {
+    marked = marked_set core w.stamp w.marks place 2 s.formed s.marked (grind arith);
+    kept = kept_set core w.stamp w.marks w.lits (lit_at core place).var (w.stamp + 2) (grind (arith, lit_about core place s.formed s.within)) s.kept (λ h. omega (arith, h)) (inl refl);
+    noted = noted_same core w.stamp w.marks w.met_places place (w.stamp + 2) s.formed s.within s.marked.len (omega arith) s.noted s.met;
+    open_ = s.open_;
+    zeros = s.zeros;
+  }
 
   without_mark : mark_of (without core w place s.implied.id) (lit_at core place) ≡ w.stamp + 2
   without_mark = mark_same core w.marks place (w.stamp + 2) s.formed s.marked.len s.within
@@ -67,20 +62,14 @@ module _ (core : CoreValue) (w : WalkValue) (place : ℕ) (s : IsStep core w pla
   others_met o c = ⊎_elim (λ e. let m = without_mark in inl (subst (IsSeen (without core w place s.implied.id)) (sym e) (omega (arith, m)))) (λ f. inr f) (others_false o c)
 
   pub others_within : (o : LitValue) → Contains (get_or core.clauses s.implied.id []) o → o.var ≤ core.vars
-  others_within o c = ⊎_elim
-      (λ e. let a = lit_about core place s.formed s.within in omega (arith, a.within, ap (λ x. x.var) e))
-      (λ f. let a = All-contains (IsAbout core.vars) (trues core) (negation o) s.formed.within f in a.within)
-      (others_false o c)
+  others_within o c = grind (arith, others_false o c, lit_about core place s.formed s.within, All-contains (IsAbout core.vars) (trues core) (negation o) s.formed.within, ⊎_elim)
 
   -- where a literal of the reason became false
   before_at : (k : ℕ) (o : LitValue) → k < length core.trail → o.var ≡ (lit_at core k).var → IsFalse (lits_of (take place core.trail)) o → k < place
   before_at k o v e f =
-      let m : length (lits_of (take place core.trail)) ≡ place = lits_length (take place core.trail) ∙ length-take-le place core.trail (omega (arith, s.within)) in
-      let lt : f.0 < place = omega (arith, f.1, m) in
-      let w0 : f.0 < length core.trail = omega (arith, lt, s.within) in
-      let at : lit_at core f.0 ≡ negation o = sym (lit_read core f.0 (negation o) w0) ∙ sym (get_or-take place (trues core) f.0 (negation o) lt) ∙ ap (λ xs. get_or xs f.0 (negation o)) (take-map (λ s. s.lit) place core.trail) ∙ f.2 in
-      let j : f.0 ≡ k = same_place core f.0 k s.formed w0 v (ap (λ x. x.var) at ∙ e) in
-      omega (arith, lt, j)
+      let j = false_before core o place (omega (arith, s.within)) f in
+      let same = same_place core j.0 k s.formed j.2.within v (j.2.var ∙ e) in
+      omega (arith, j.1, same)
 
 -- ---- and the literals of its reason were met
 
@@ -209,15 +198,9 @@ pub without_is : (core : CoreValue) (w : WalkValue) (place : ℕ) (s : IsStep co
     → (s.implied.id ≡ id) × ◌≡◌ {A = WalkValue} (without core w place s.implied.id) (record w { marks = set w.marks var (w.stamp + 2); hints = hints })
 without_is core w place s x r id var hint hints at c is v h hs =
     let reason = step_read core place x r s.formed s.within at c in
-    let same : s.implied.id ≡ id = same_id (step_at core place).reason s.implied.id id s.implied.reason (reason ∙ is) in (
-      same,
-      ap (λ i. without core w place i) same
-          ∙ ap (λ u. record w { marks = set w.marks u (w.stamp + 2); hints = w.hints ++ pos (id + 1) ∷ [] }) (sym (v ∙ ap (λ l. l.var) at))
-          ∙ ap (λ xs. record w { marks = set w.marks var (w.stamp + 2); hints = xs }) (ap (λ i. w.hints ++ i ∷ []) (sym h) ∙ sym hs),
-    )
-  where
-    same_id : (r : Option ℕ) (a b : ℕ) → r ≡ Some a → r ≡ Some b → a ≡ b
-    same_id r a b e f = cc
+    let reason' = s.implied.reason in
+    let same : s.implied.id ≡ id = cc in
+    (same, cc)
 
 -- a literal that is read at a place
 pub place_read : (core : CoreValue) (read : List LitValue) (k : ℕ) (x : LitValue) → read ≡ trues core → k < length core.trail → x ≡ get_or read k x → x ≡ lit_at core k

@@ -45,18 +45,13 @@ module _ (core : CoreValue) (w : WalkValue) (place mark : ℕ) (formed : IsTrail
 -- of the last level, where more wait than one
 pub open_step : (core : CoreValue) (w : WalkValue) (place : ℕ) → IsTrail core.vars core.trail core.limits → AreGrounded core → IsSorted core w → 1 < w.open_ → IsNext core 1 w place → IsStep core (record w { open_ = w.open_ - 1; zeros = w.zeros }) place
 open_step core w place t g s many n =
-    let u : ℕ = (lit_at core place).var in
-    let other = waits_other (w.stamp + 1) w.marks u (λ h. omega (arith, h)) (room core w place 1 t s n.within n.waits (λ h. omega (arith, h))) n.waits (omega (arith, s.open_, many)) in
+    let other = waits_other (w.stamp + 1) w.marks (lit_at core place).var (λ h. omega (arith, h)) (room core w place 1 t s n.within n.waits (λ h. omega (arith, h))) n.waits (omega (arith, s.open_, many)) in
     let k = s.marked.placed other.0 (omega (arith, other.2)) in
     let m : mark_of w (lit_at core k.0) ≡ w.stamp + 1 = ap (λ x. get_or w.marks x 0) k.2 ∙ other.2 in
-    let lt : k.0 < place + 1 = n.passed.waits k.0 k.1 m in
     let differ : k.0 ≢ place = λ h. other.1 (sym k.2 ∙ ap (λ i. (lit_at core i).var) h) in
-    let below : k.0 < place = ⊎_elim (λ h. h) (λ h. absurd (differ (omega (arith, h, lt)))) (cases_lt k.0 place) in
-    let here' = s.marked.top place n.within n.waits in
-    let there' = s.marked.top k.0 k.1 m in
     let less = one_less core w place 1 t s n.within n.waits (λ h. omega (arith, h)) in
     step_by core w place 1 t s n.within n.waits (λ h. omega (arith, h)) (w.open_ - 1) w.zeros
-    (implied_at core place g n.within (λ c. let r = level_below core.limits k.0 place below c in omega (arith, r, here'.0, there'.0)))
+    (implied_at core place g n.within (λ c. grind (arith, m, differ, c, n.passed.waits k.0 k.1 m, level_below core.limits k.0 place, s.marked.top place n.within n.waits, s.marked.top k.0 k.1 m)))
     (omega (arith, less, s.open_, many))
     (s.zeros ∙ others_wait core w place 1 t s n.within n.waits (λ h. omega (arith, h)) 3 (λ h. omega (arith, h)) (λ h. omega (arith, h)))
 
@@ -104,11 +99,4 @@ walked_all core a w place t none h = grind (arith, nat_tests, common_steps, lit_
 
 -- where one step of the last level waits, it is the only one
 pub point_alone : (core : CoreValue) (w : WalkValue) (place k : ℕ) → IsTrail core.vars core.trail core.limits → IsSorted core w → w.open_ ≡ 1 → place < length core.trail → k < length core.trail → mark_of w (lit_at core place) ≡ w.stamp + 1 → mark_of w (lit_at core k) ≡ w.stamp + 1 → k ≡ place
-point_alone core w place k t s one v u e f = ⊎_elim
-    (λ same. same_place core k place t u v same)
-    (λ differ.
-    let a = lit_about core place t v in
-    let b = lit_about core k t u in
-    let two = waits_two (w.stamp + 1) w.marks (lit_at core k).var (lit_at core place).var (λ h. omega (arith, h)) (omega (arith, b.within, s.marked.len)) (omega (arith, a.within, s.marked.len)) differ f e in
-    absurd (omega (arith, two, one, s.open_)))
-    (cases_eq (lit_at core k).var (lit_at core place).var)
+point_alone core w place k t s one v u e f = grind (arith, cases_eq (lit_at core k).var (lit_at core place).var, same_place core k place t u v, lit_about core place t v, lit_about core k t u, waits_two (w.stamp + 1) w.marks (lit_at core k).var (lit_at core place).var)

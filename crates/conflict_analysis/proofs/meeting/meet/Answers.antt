@@ -15,26 +15,17 @@ level c = level_read c.args.core.now c.args.lit c.negated-this.result c.place-pl
 pub returns-then-level-eq0 : goal.returns-then-level-eq0
 returns-then-level-eq0 c =
     let b = (goal.at.returns-then-level-eq0 c).After-level-level in
-    let l = c.args.lit in
-    let w : WalkValue = value_of c.args.walk.now in
-    let places = c.insert.new.self in
     let zero = level b in
-    subst (λ v. HasMet c.args.core.now (l ∷ []) w (record w { marks = set w.marks v (w.stamp + 3); zeros = w.zeros + 1; met_places = places })) (sym c.var-var.ensures.var) (met_bottom c.args.core.now w l c.place-place.result places (unmet b) c.in_ok-insert.ensures.place (omega (arith, zero, c.if-level-eq0.true)))
+    rw c.var-var.ensures.var (met_bottom c.args.core.now (value_of c.args.walk.now) c.args.lit c.place-place.result c.insert.new.self (unmet b) c.in_ok-insert.ensures.place (omega (arith, zero, c.if-level-eq0.true)))
 
 pub returns-then-level-depth : goal.returns-then-level-depth
 returns-then-level-depth c =
     let b = (goal.at.returns-then-level-depth c).After-level-level in
-    let l = c.args.lit in
-    let w : WalkValue = value_of c.args.walk.now in
-    let places = c.insert.new.self in
     let top = level b in
-    subst (λ v. HasMet c.args.core.now (l ∷ []) w (record w { marks = set w.marks v (w.stamp + 1); open_ = w.open_ + 1; met_places = places })) (sym c.var-var.ensures.var) (met_open c.args.core.now w l c.place-place.result places (unmet b) c.in_ok-insert.ensures.place (omega (arith, top, c.if-level-depth.true, c.depth.ensures)) (omega (arith, top, c.if-level-depth.true, c.depth.ensures, c.if-level-eq0.false)))
+    rw c.var-var.ensures.var (met_open c.args.core.now (value_of c.args.walk.now) c.args.lit c.place-place.result c.insert.new.self (unmet b) c.in_ok-insert.ensures.place (omega (arith, top, c.if-level-depth.true, c.depth.ensures)) (omega (arith, top, c.if-level-depth.true, c.depth.ensures, c.if-level-eq0.false)))
 
 pub returns : goal.returns
 returns c =
     let b = (goal.at.returns c).After-level-level in
-    let l = c.args.lit in
-    let w : WalkValue = value_of c.args.walk.now in
-    let places = c.insert.new.self in
     let low = level b in
-    subst (λ xs. HasMet c.args.core.now (l ∷ []) w (record w { marks = set w.marks c.var-var.result (w.stamp + 0); lits = xs; met_places = places })) (sym c.in_ok-push-2.ensures.items) (subst (λ v. HasMet c.args.core.now (l ∷ []) w (record w { marks = set w.marks v (w.stamp + 0); lits = w.lits ++ l ∷ []; met_places = places })) (sym c.var-var.ensures.var) (met_kept c.args.core.now w l c.place-place.result places (unmet b) c.in_ok-insert.ensures.place (omega (arith, low, c.if-level-depth.false, c.depth.ensures, level_within c.args.core.now c.place-place.result))))
+    rw (c.in_ok-push-2.ensures.items, c.var-var.ensures.var) (met_kept c.args.core.now (value_of c.args.walk.now) c.args.lit c.place-place.result c.insert.new.self (unmet b) c.in_ok-insert.ensures.place (omega (arith, low, c.if-level-depth.false, c.depth.ensures, level_within c.args.core.now c.place-place.result)))
