@@ -92,11 +92,7 @@ pub denied_analysis : (core : CoreValue) (place : ℕ) (w : WalkValue) (d : IsWa
 denied_analysis core place w d = record {
   each = λ k x v t. ⊎_elim
       (λ lt. below k x lt t)
-      (λ ge.
-      let n = denied_length core place d.within in
-      let e : k ≡ place = omega (arith, ge, v, n) in
-      let at = ap (λ i. get_or (denied core place) i x) e ∙ denied_end core place x d.within in
-      absurd (false≢true (sym (ap (resolved_of w) at) ∙ t)))
+      (λ ge. absurd (grind (arith, denied_length core place d.within, denied_end core place x d.within, false≢true)))
       (cases_lt k place);
   within = (reasoned_here core place w d).within;
   last = λ o c. ⊎_elim
@@ -152,12 +148,7 @@ denied_hints core place w d =
 
     -- a step that was taken has a reason
     same : (k : ℕ) → k < place → resolved_by w (step_at core k) ≡ resolved_of w (step_at core k)
-    same k lt = ⊎_elim
-        (λ e.
-        let r = (d.passed.each k (omega (arith, lt, d.within)) e).1 in
-        sym (reason_kept (step_at core k).reason (resolved_by w (step_at core k)) r.id r.reason))
-        (λ n. let f = ne_eqb (mark_of w (lit_at core k)) (w.stamp + 2) n in f ∙ sym (reason_false (step_at core k).reason (resolved_by w (step_at core k)) f))
-        (cases_eq (mark_of w (lit_at core k)) (w.stamp + 2))
+    same k lt = grind (arith, cases_eq (mark_of w (lit_at core k)) (w.stamp + 2), d.passed.each k (omega (arith, lt, d.within)), reason_kept (step_at core k).reason (resolved_by w (step_at core k)), reason_false (step_at core k).reason (resolved_by w (step_at core k)), ne_eqb (mark_of w (lit_at core k)) (w.stamp + 2), ⊎_elim)
 
 -- ---- as the walk begins with one literal, and ends
 

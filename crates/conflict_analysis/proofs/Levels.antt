@@ -23,15 +23,8 @@ level_below (m ∷ limits) p k w c =
     let x = sum_by-cons (λ n. cond {A = ℕ} (leb n p) 1 0) m limits in
     let y = sum_by-cons (λ n. cond {A = ℕ} (leb n k) 1 0) m limits in
     ⊎_elim
-    (λ e.
-    let a = none m p (omega (arith, e, w)) in
-    let b = one m k (omega (arith, e)) in
-    let r = level_grows limits p k (omega (arith, w)) in
-    omega (arith, a, b, r, x, y))
-    (λ d.
-    let a = grows m p k (omega (arith, w)) in
-    let r = level_below limits p k w d in
-    omega (arith, a, r, x, y))
+    (λ e. omega (arith, none m p (omega (arith, e, w)), one m k (omega (arith, e)), level_grows limits p k (omega (arith, w)), x, y))
+    (λ d. omega (arith, grows m p k (omega (arith, w)), level_below limits p k w d, x, y))
     (cons_cases m limits k c)
 
 -- where a level begins it is not level 0

@@ -97,10 +97,10 @@ pub kept_more : (core : CoreValue) (stamp : ℕ) (marks : List ℕ) (lits : List
 kept_more core stamp marks lits l t w k low f = record {
   of = λ o c. ⊎_elim
       (λ d. let h = k.of o d in (kept_other stamp marks l.var o.var stamp (λ e. unmet stamp marks l.var o.var e low h.0) h.0, h.1))
-      (λ e. (inl (ap (λ x. get_or (set marks l.var stamp) x.var 0) (sym e) ∙ get_or-set_same marks l.var stamp 0 w), subst (λ x. IsFalse (trues core) x) e f))
+      (λ e. rw (← e) (inl (get_or-set_same marks l.var stamp 0 w), f))
       (Contains-push_cases lits l o c);
   all = λ o g e. ⊎_elim
-      (λ s. subst (λ x. Contains (lits ++ l ∷ []) x) (false_once core l o t f g (sym s)) (Contains-push lits l))
+      (λ s. rw (← false_once core l o t f g (sym s)) (Contains-push lits l))
       (λ d. Contains-append_left lits (l ∷ []) o (k.all o g (sym (get_or-set_other marks l.var o.var stamp 0 d) ∙ e)))
       (cases_eq o.var l.var);
   once = all_pairs_push (λ a b. a.var ≢ b.var) lits l k.once (λ j d v e. unmet stamp marks l.var (get_or lits j d).var e low (k.of (get_or lits j d) (Contains-get_or lits j d v)).0);
@@ -159,21 +159,18 @@ module _ (core : CoreValue) (w : WalkValue) (l : LitValue) (k : ℕ) (places : L
   pub met_bottom : level_at core.limits k ≡ 0 → HasMet core (l ∷ []) w (record w { marks = set w.marks l.var (w.stamp + 3); zeros = w.zeros + 1; met_places = places })
   met_bottom zero =
       let kept = kept_set core w.stamp w.marks w.lits l.var (w.stamp + 3) u.room u.sorted.kept (λ h. omega (arith, h)) (inr u.low) in
-      let mark : IsMark core k 3 = record { within = u.at.within; some = omega arith; low = λ h. absurd (omega (arith, h)); top = λ h. absurd (omega (arith, h)); bottom = λ h. zero } in
-      met_new 3 w.open_ (w.zeros + 1) w.lits mark (λ h. omega (arith, h)) kept (u.sorted.open_ ∙ others_wait 1 (w.stamp + 3) (λ h. omega (arith, h))) (ap (λ n. n + 1) u.sorted.zeros ∙ one_more 3) (omega arith)
+      met_new 3 w.open_ (w.zeros + 1) w.lits (grind arith) (λ h. omega (arith, h)) kept (grind (arith, others_wait 1 (w.stamp + 3))) (grind (arith, one_more 3)) (omega arith)
 
   pub met_open : level_at core.limits k ≡ length core.limits → 0 < length core.limits → HasMet core (l ∷ []) w (record w { marks = set w.marks l.var (w.stamp + 1); open_ = w.open_ + 1; met_places = places })
   met_open top some =
       let kept = kept_set core w.stamp w.marks w.lits l.var (w.stamp + 1) u.room u.sorted.kept (λ h. omega (arith, h)) (inr u.low) in
-      let mark : IsMark core k 1 = record { within = u.at.within; some = omega arith; low = λ h. absurd (omega (arith, h)); top = λ h. (top, some); bottom = λ h. absurd (omega (arith, h)) } in
-      met_new 1 (w.open_ + 1) w.zeros w.lits mark (λ h. omega (arith, h)) kept (ap (λ n. n + 1) u.sorted.open_ ∙ one_more 1) (u.sorted.zeros ∙ others_wait 3 (w.stamp + 1) (λ h. omega (arith, h))) (omega arith)
+      met_new 1 (w.open_ + 1) w.zeros w.lits (grind arith) (λ h. omega (arith, h)) kept (grind (arith, one_more 1)) (grind (arith, others_wait 3 (w.stamp + 1))) (omega arith)
 
   pub met_kept : level_at core.limits k < length core.limits → HasMet core (l ∷ []) w (record w { marks = set w.marks l.var (w.stamp + 0); lits = w.lits ++ l ∷ []; met_places = places })
   met_kept lower =
       let stamp : w.stamp ≡ w.stamp + 0 = omega arith in
       let kept = subst (λ n. AreKept core w.stamp (set w.marks l.var n) (w.lits ++ l ∷ [])) stamp (kept_more core w.stamp w.marks w.lits l u.formed u.room u.sorted.kept u.low (at_false core l k u.at)) in
-      let mark : IsMark core k 0 = record { within = u.at.within; some = omega arith; low = λ h. lower; top = λ h. absurd (omega (arith, h)); bottom = λ h. absurd (omega (arith, h)) } in
-      met_new 0 w.open_ w.zeros (w.lits ++ l ∷ []) mark (λ h. omega (arith, h)) kept (u.sorted.open_ ∙ others_wait 1 (w.stamp + 0) (λ h. omega (arith, h))) (u.sorted.zeros ∙ others_wait 3 (w.stamp + 0) (λ h. omega (arith, h))) (omega arith)
+      met_new 0 w.open_ w.zeros (w.lits ++ l ∷ []) (grind arith) (λ h. omega (arith, h)) kept (grind (arith, others_wait 1 (w.stamp + 0))) (grind (arith, others_wait 3 (w.stamp + 0))) (omega arith)
 
 -- ---- and more of them
 
@@ -185,18 +182,15 @@ met_more core xs x a b c p q = record {
   sorted = q.sorted;
   stamp = q.stamp ∙ p.stamp;
   hints = q.hints ∙ p.hints;
-  seen = λ o h. ⊎_elim
-      (λ d. let s = p.seen o d in let k = q.stays o.var s in omega (arith, k, s, q.stamp))
-      (λ e. q.seen o (subst (λ y. Contains (x ∷ []) y) e (here x [])))
-      (Contains-push_cases xs x o h);
-  stays = λ v g. let s = p.stays v g in q.stays v (omega (arith, s, g, p.stamp)) ∙ s;
+  seen = λ o h. grind (arith, p.seen o, p.stamp, q.stamp, q.stays o.var, q.seen o, here x [], Contains-push_cases xs x o h, ⊎_elim);
+  stays = λ v g. grind (arith, p.stays v, q.stays v);
   new = λ v g. ⊎_elim
       (λ h.
       let k = q.stays v h in
       ⊎_elim (λ i. inl i) (λ n. inr (n.0, Contains-append_left xs (x ∷ []) n.0 n.1, n.2, λ e. n.3 (sym k ∙ e))) (p.new v (omega (arith, h, p.stamp))))
       (λ n. inr (n.0, subst (λ y. Contains (xs ++ x ∷ []) y) (only x n.0 n.1) (Contains-push xs x), n.2, λ e. n.3 (e ∙ ap (λ m. m + 2) (sym p.stamp))))
       (q.new v (omega (arith, g, p.stamp)));
-  more = let i = p.more in let j = q.more in omega (arith, i, j);
+  more = omega (arith, p.more, q.more);
 }
 
 -- ---- its level, as it is read

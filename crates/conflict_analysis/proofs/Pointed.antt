@@ -82,15 +82,7 @@ met_open_some core conflict a b c begun m some = ⊎_elim
     low : (o : LitValue) → Contains (get_or core.clauses conflict []) o → b.open_ ≡ 0 → IsFalse (take (get_or core.limits last 0) (trues core)) o
     low o h z =
         let i = false_at core o (c.falsified o h) in
-        let e : mark_of b (lit_at core i.0) ≡ mark_of b o = ap (λ v. get_or b.marks v 0) i.1.var in
-        let about = lit_about core i.0 c.formed i.1.within in
-        let below : level_at core.limits i.0 < length core.limits = ⊎_elim
-        (λ f. m.sorted.marked.low i.0 i.1.within (e ∙ f))
-        (λ q. ⊎_elim
-        (λ f. let w = waits_some (b.stamp + 1) b.marks o.var (omega (arith, about.within, m.sorted.marked.len, i.1.var)) f in absurd (omega (arith, w, m.sorted.open_, z)))
-        (λ q. ⊎_elim (λ f. absurd (met_unresolved core (get_or core.clauses conflict []) a b o.var begun m f)) (λ f. let y = m.sorted.marked.bottom i.0 i.1.within (e ∙ f) in omega (arith, y, some)) q)
-        q)
-        (kinds (mark_of b o) b.stamp (m.seen o h) (m.sorted.marked.over o.var)) in
+        let below : level_at core.limits i.0 < length core.limits = grind (arith, kinds (mark_of b o) b.stamp (m.seen o h) (m.sorted.marked.over o.var), waits_some (b.stamp + 1) b.marks o.var, met_unresolved core (get_or core.clauses conflict []) a b o.var begun m, lit_about core i.0 c.formed i.1.within, m.sorted.marked.low i.0 i.1.within, m.sorted.marked.bottom i.0 i.1.within, m.sorted.open_, m.sorted.marked.len, i.1.var, ⊎_elim) in
         let lt = low_place core.limits (length core.trail) last i.0 c.formed.levels (omega (arith, some)) below in
         let top = c.formed.levels.below last (omega (arith, some)) in
         false_below core o i.0 (get_or core.limits last 0) i.1 lt (omega (arith, top))
@@ -99,15 +91,12 @@ met_open_some core conflict a b c begun m some = ⊎_elim
 
 pub passed_middle : (core : CoreValue) (w : WalkValue) (l : LitValue) (place : ℕ) → IsTrail core.vars core.trail core.limits → IsSorted core w → IsImplicationPoint core w l → IsPassed core 1 w place → IsPassed core 3 w (get_or core.limits (length core.limits - 1) 0)
 passed_middle core w l place t s p q =
-    let last = length core.limits - 1 in
     let e : mark_of w (lit_at core p.place) ≡ w.stamp + 1 = ap (mark_of w) p.is ∙ p.waits in
-    let lt = q.waits p.place p.within e in
     let top = s.marked.top p.place p.within e in
-    let low = high_place core.limits last p.place (omega (arith, top.1)) top.0 in
-    let rising = limits_rise core.limits (length core.trail) 0 last t.levels (omega arith) (omega (arith, top.1)) in
+    let low = high_place core.limits (length core.limits - 1) p.place (omega (arith, top.1)) top.0 in
     record {
-      each = λ k v h. let r = q.each k v h in (omega (arith, r.0, lt, low), r.1);
-      waits = λ k v h. let b = bottom_place core.limits k top.1 (s.marked.bottom k v h) in omega (arith, b, rising);
+      each = λ k v h. let r = q.each k v h in (omega (arith, r.0, q.waits p.place p.within e, low), r.1);
+      waits = λ k v h. grind (arith, top, bottom_place core.limits k, s.marked.bottom k v h, limits_rise core.limits (length core.trail) 0 (length core.limits - 1) t.levels);
       hints = q.hints;
     }
 

@@ -82,13 +82,7 @@ module _ (core : CoreValue) (w w' : WalkValue) (place : ℕ) (t : IsTaken core p
   marks_from : (k : ℕ) → k < length core.trail → k ≢ place → w'.stamp ≤ mark_of w' (lit_at core k) → (mark_of w' (lit_at core k) ≡ mark_of w (lit_at core k)) ⊎ ((k < place) × (mark_of w' (lit_at core k) ≢ w'.stamp + 2))
   marks_from k v n g = ⊎_elim
       (λ seen. inl (t.met.stays (lit_at core k).var seen ∙ other_mark core w place t.step k v n))
-      (λ q. inr (
-        ⊎_elim
-            (λ i. absurd (n (same_place core k place t.step.formed v t.step.within (sym q.2 ∙ ap (λ x. x.var) i))))
-            (λ f. before_at core w place t.step k q.0 v q.2 f)
-            (t.step.implied.unit.others q.0 q.1),
-        λ e. q.3 (omega (arith, e, t.met.stamp)),
-      ))
+      (λ q. grind (arith, n, t.step.implied.unit.others q.0 q.1, same_place core k place t.step.formed v t.step.within, before_at core w place t.step k q.0 v q.2, q.3, t.met.stamp, ⊎_elim))
       (t.met.new (lit_at core k).var (omega (arith, g, t.met.stamp)))
 
   marks_stay : (k : ℕ) → k < length core.trail → k ≢ place → w.stamp ≤ mark_of w (lit_at core k) → mark_of w' (lit_at core k) ≡ mark_of w (lit_at core k)
@@ -110,17 +104,10 @@ module _ (core : CoreValue) (w w' : WalkValue) (place : ℕ) (t : IsTaken core p
   taken_hints kind p =
       let first : filter (resolved_by w') core.trail ≡ step_at core place ∷ filter (resolved_by w) core.trail =
       filter_first (resolved_by w') (resolved_by w) core.trail place no_step t.step.within
-      (λ k lt.
-      let v : k < length core.trail = omega (arith, lt, t.step.within) in
-      let none : mark_of w (lit_at core k) ≡ w.stamp + 2 → ⊥ = λ e. let q = p.each k v e in omega (arith, q.0, lt) in
-      (ne_eqb (mark_of w' (lit_at core k)) (w'.stamp + 2) (λ e. none (resolved_before k v (λ i. omega (arith, i, lt)) e)), ne_eqb (mark_of w (lit_at core k)) (w.stamp + 2) none))
+      (λ k lt. grind (arith, p.each k (omega (arith, lt, t.step.within)), resolved_before k (omega (arith, lt, t.step.within)), ne_eqb))
       (eq-eqb (mark_of w' (lit_at core place)) (w'.stamp + 2) resolved_here)
       (ne_eqb (mark_of w (lit_at core place)) (w.stamp + 2) t.step.new)
-      (λ k gt v.
-      let n : k ≢ place = λ e. omega (arith, e, gt) in
-      same_test (mark_of w' (lit_at core k) == w'.stamp + 2) (mark_of w (lit_at core k) == w.stamp + 2)
-      (λ e. eq-eqb (mark_of w (lit_at core k)) (w.stamp + 2) (resolved_before k v n (eqb-true (mark_of w' (lit_at core k)) (w'.stamp + 2) e)))
-      (λ e. eq-eqb (mark_of w' (lit_at core k)) (w'.stamp + 2) (resolved_after k v n (eqb-true (mark_of w (lit_at core k)) (w.stamp + 2) e)))) in
+      (λ k gt v. grind (arith, resolved_before k v, resolved_after k v, eq-eqb, ne_eqb, cases_eq (mark_of w (lit_at core k)) (w.stamp + 2), cases_eq (mark_of w' (lit_at core k)) (w'.stamp + 2), ⊎_elim)) in
       ap reverse t.met.hints
       ∙ reverse-append w.hints (pos (t.step.implied.id + 1) ∷ [])
       ∙ ap (λ hs. pos (t.step.implied.id + 1) ∷ hs) p.hints
@@ -133,13 +120,7 @@ module _ (core : CoreValue) (w w' : WalkValue) (place : ℕ) (t : IsTaken core p
         (λ same. (omega (arith, same), subst (IsReasoned core w') (sym same) here'))
         (λ n. let q = p.each k v (resolved_before k v n e) in (omega (arith, q.0), reasoned_on core w w' k taken_seen q.1))
         (cases_eq k place);
-    waits = λ k v e. ⊎_elim
-        (λ same. let h = resolved_here in absurd (two (omega (arith, h, e, ap (λ i. mark_of w' (lit_at core i)) same))))
-        (λ n. ⊎_elim
-        (λ s. let q = p.waits k v (omega (arith, s, e, t.met.stamp)) in ⊎_elim (λ lt. lt) (λ ge. absurd (n (omega (arith, ge, q)))) (cases_lt k place))
-        (λ q. q.0)
-        (marks_from k v n (omega (arith, e))))
-        (cases_eq k place);
+    waits = λ k v e. grind (arith, ⊎_elim, cases_eq k place, resolved_here, p.waits k v, marks_from k v);
     hints = taken_hints kind p;
   }
     where
@@ -155,17 +136,9 @@ module _ (core : CoreValue) (w w' : WalkValue) (place : ℕ) (t : IsTaken core p
   -- at a step below the last level no literal of the last level is met
   pub taken_open : (0 < length core.limits → level_at core.limits place < length core.limits) → HasSameOpen core w w'
   taken_open low = record {
-    before = λ k v e.
-        let high = t.met.sorted.marked.top k v e in
-        ⊎_elim
-        (λ s. omega (arith, s, e, t.met.stamp))
-        (λ q. let g = level_grows core.limits k place (omega (arith, q.0)) in let l = low high.1 in absurd (omega (arith, g, l, high.0)))
-        (marks_from k v (λ h. differ k h high) (omega (arith, e)));
-    after = λ k v e. let s = marks_stay k v (λ h. differ k h (t.step.marked.top k v e)) (omega (arith, e)) in omega (arith, s, e, t.met.stamp);
+    before = λ k v e. grind (arith, ⊎_elim, low, t.met.sorted.marked.top k v e, level_grows core.limits k place, marks_from k v);
+    after = λ k v e. grind (arith, low, t.step.marked.top k v e, marks_stay k v);
   }
-    where
-      differ : (k : ℕ) → k ≡ place → (level_at core.limits k ≡ length core.limits) × (0 < length core.limits) → ⊥
-      differ k h a = let m = ap (λ i. level_at core.limits i) h in let c = low a.1 in omega (arith, m, a.0, c)
 
 -- ---- a walk goes on by a step, of which the counts were told before
 
@@ -175,11 +148,7 @@ module _ (core : CoreValue) (a w b : WalkValue) (opens bottoms place : ℕ) (t :
     within = omega (arith, t.step.within);
     sorted = t.met.sorted;
     onward = record { stamp = t.met.stamp ∙ on.stamp; seen = λ o h. taken_seen core (record w { open_ = opens; zeros = bottoms }) b place t o (on.seen o h) };
-    passed = taken_passed core (record w { open_ = opens; zeros = bottoms }) b place t kind two (record {
-      each = λ k v e. let q = p.each k v e in (q.0, reasoned_on core w (record w { open_ = opens; zeros = bottoms }) k (λ o h. h) q.1);
-      waits = p.waits;
-      hints = p.hints;
-    });
+    passed = taken_passed core (record w { open_ = opens; zeros = bottoms }) b place t kind two (grind arith);
   }
 
   pub open_on : (0 < length core.limits → level_at core.limits place < length core.limits) → HasSameOpen core a w → HasSameOpen core a b
