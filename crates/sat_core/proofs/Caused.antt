@@ -4,6 +4,7 @@ use Rattle.outer_ports.specs.Port.{HasCause}
 use Rattle.ledger_rules.specs.declared.fault.LedgerFault.{LedgerFault}
 use Rattle.ledger_rules.specs.declared.fault.LedgerFault.TheVariants as ledger
 use Rattle.sat_core.specs.{Faults.fault_of, declared.fault.SolveFault.{SolveFault, TheVariants.{LedgerFailed, OutOfMemory}}}
+use Rattle.std.proofs.lemmas.Result.{IfOk-from_err}
 
 -- what is handed on is a fault
 fault_is : {T E : Type 0} (last : Result T E) (told : E) → IsErrAnd last (λ e. e ≡ told) → last ≡ Err told
@@ -43,15 +44,8 @@ handed_other last is h other = let ended = fault_is last _ h in λ e. other (cc)
 
 -- a ledger's fault has the cause that it had there
 pub of_ledger : {A T : Type 0} {before now : ℕ} {told : LedgerFault} {one : Result A LedgerFault} (last : Result T SolveFault) → one ≡ Err told → IsErrAnd last (λ e. e ≡ fault_of told) → HasCause ledger.Failed before now one → HasCause LedgerFailed before now last
-of_ledger last is h cause = same_kind _ (fault_is last _ h) is cause
-  where
-    same_kind : {A T : Type 0} {before now : ℕ} {one : Result A LedgerFault} {last : Result T SolveFault} (told : LedgerFault) → last ≡ Err (fault_of told) → one ≡ Err told → HasCause ledger.Failed before now one → HasCause LedgerFailed before now last
-    same_kind ledger.Failed ended is cause = record { later = cause.later; rose = λ _. cause.rose is; stays = λ other. absurd (other ended) }
-    same_kind ledger.OutOfMemory ended is cause = record {
-      later = cause.later;
-      rose = λ e. let clash : Err OutOfMemory ≡ Err LedgerFailed = sym ended ∙ e in absurd (cc);
-      stays = λ _. cause.stays (λ e. let clash : Err ledger.OutOfMemory ≡ Err ledger.Failed = sym is ∙ e in cc);
-    }
+of_ledger {told = ledger.Failed} last is h cause = let ended = fault_is last _ h in record { later = cause.later; rose = λ _. cause.rose is; stays = λ other. absurd (other ended) }
+of_ledger {told = ledger.OutOfMemory} last is h cause = let ended = fault_is last _ h in record { later = cause.later; rose = λ e. absurd (cc); stays = λ _. cause.stays (λ e. cc) }
 
 -- a call that gave an answer left the count as it was
 pub unmoved : {T E : Type 0} {fault : E} {before now : ℕ} {answer : T} {one : Result T E} → one ≡ Ok answer → HasCause fault before now one → now ≡ before
@@ -68,3 +62,6 @@ answered_after is cause = after (unmoved is cause) answered
 -- memory ran out after a call that gave an answer
 pub no_memory_after : {A T E : Type 0} {fault : E} {before now : ℕ} {one : Result A E} {is : A} (last : Result T SolveFault) → one ≡ Ok is → IsErrAnd last (λ e. e ≡ OutOfMemory) → HasCause fault before now one → HasCause LedgerFailed before now last
 no_memory_after last is h cause = after (unmoved is cause) (no_memory last h)
+
+-- what is said of an answer is said of no fault
+pub ruleset handed_steps = (IfOk-from_err)

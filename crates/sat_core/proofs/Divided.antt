@@ -5,7 +5,7 @@ use Rattle.cnf_formula.specs.{Literals.LitValue, Formulas.FormulaValue, Lines.Pr
 use Rattle.ledger_rules.specs.Logs.{checker_of}
 use Rattle.trail_core.specs.Meaning.{CoreValue}
 use Rattle.sleeping_clauses.specs.{declared.awake.Awake.Awake, Sleeping.{SleepersValue, IsAsleep}}
-use Rattle.sat_core.{specs.{inner.Dividing.IsDividing, Ready.IsReady}, proofs.{Asleep.{pushed_stays, pushed_sleeps, asleep_more}, Readiness.{named_more, listed_more, ready_moved}}}
+use Rattle.sat_core.{specs.{inner.Dividing.IsDividing, Ready.IsReady}, proofs.{Asleep.{pushed_stays, pushed_sleeps, asleep_more}, Readiness.{among_moved, named_more, listed_more, ready_moved}}}
 
 -- the next clause stays awake
 pub dividing_awake : (clauses : List (List LitValue)) (names : List ℕ) (formula : ℕ) (before : SleepersValue) (k : ℕ) (left left' : List (List LitValue)) (awake awake' : Awake) (now : SleepersValue) (id : ℕ) → IsDividing clauses names formula before k left awake now → k < length clauses
@@ -22,17 +22,9 @@ dividing_awake clauses names formula before k left left' awake awake' now id d w
           (λ j lt. ⊎_elim (λ c. inl (subst (λ xs. Contains xs (get_or clauses j [])) (sym cs) (Contains-append_left left (clause ∷ []) (get_or clauses j []) c))) (λ s. inr s) (d.all j lt))
           (inl (subst (λ xs. Contains xs clause) (sym cs) (Contains-push left clause)));
       stay = d.stay;
-      few = λ v. let f = d.few (omega (arith, v)) in omega (arith, f, n);
-      many = λ v. ⊎_elim
-          (λ lt. let f = d.few (omega (arith, lt)) in omega (arith, f, n, v))
-          (λ ge. let f = d.many ge in omega (arith, f, n))
-          (cases_lt k formula);
-      first = λ j u v. below_more (λ i. i < formula → get_or left' i [] ≡ get_or clauses i []) k
-          (λ i lt low.
-          let room : i < length left = ⊎_elim (λ a. let f = d.few (omega (arith, a)) in omega (arith, f, lt)) (λ a. let f = d.many a in omega (arith, f, low)) (cases_lt k formula) in
-          ap (λ xs. get_or xs i []) cs ∙ get_or_append_left left (clause ∷ []) [] i room ∙ d.first i low lt)
-          (λ low. let f = d.few (omega (arith, low)) in ap (λ xs. get_or xs k []) cs ∙ get_or_push left clause [] k f)
-          j v u;
+      few = λ v. grind (arith, d.few, n);
+      many = λ v. grind (arith, cases_lt k formula, d.few, d.many, n);
+      first = λ j u v. grind (arith, cs, n, cases_lt j k, cases_lt k formula, d.first j u, d.few, d.many, get_or_append_left left (clause ∷ []) [] j, get_or_push left clause [] j);
     }
 
 -- the next clause, which is none of the formula, falls asleep
@@ -68,17 +60,7 @@ ready_divided base lines core core' awake awake' s s' r d vars formula held =
     (record {
       named = d.named h a.named;
       asleep = d.asleep h a.named a.asleep;
-      only = λ entry i.
-          let o = a.only entry i in (
-            o.0,
-            ⊎_elim
-                (λ c.
-                let e : get_or core.clauses c.0 [] ≡ o.0 = get_or_default core.clauses c.0 [] o.0 c.1 ∙ c.2 in
-                subst (λ x. Contains core'.clauses x ⊎ IsAsleep s' x) e (d.all c.0 c.1))
-                (λ c. inr (d.stay o.0 c))
-                o.1,
-            o.2,
-          );
+      only = among_moved h core.clauses core'.clauses s s' (λ x. ⊎_elim (λ c. subst (λ y. Contains core'.clauses y ⊎ IsAsleep s' y) (get_or_default core.clauses c.0 [] x c.1 ∙ c.2) (d.all c.0 c.1)) (λ c. inr (d.stay x c))) a.only;
     })
-    (let m = d.many (omega (arith, own, within)) in omega (arith, m, own))
+    (grind (arith, own, within, d.many))
     (λ k w. d.first k (omega (arith, w, own)) (omega (arith, w, within)))

@@ -37,9 +37,7 @@ last_falsifies held names clauses falses id a w f =
     }
 
 at_seam : {X : Type 0} (xs : List X) (x : X) (ys : List X) (d : X) → get_or (xs ++ x ∷ ys) (length xs) d ≡ x
-at_seam xs x ys d =
-    let n : length xs + 0 ≡ length xs = omega arith in
-    subst (λ k. get_or (xs ++ x ∷ ys) k d ≡ x) n (get_or-append-add xs (x ∷ ys) 0 d)
+at_seam xs x ys d = grind (arith, get_or-append-add xs (x ∷ ys) 0 d)
 
 pub conflicts_from : (held : List Entry) (names : List ℕ) (clauses : List (List LitValue)) (steps : List StepValue) (resolved : StepValue → Bool) (conflict : ℕ) (clause : List LitValue) → AreNamed held names clauses → IsConsistent (lits_of steps) → IsAnalysis clauses steps resolved conflict clause
     → (rest before : List StepValue) (falses : List LitValue) → steps ≡ before ++ rest → ((o : LitValue) → IsOut resolved before clause o → Contains falses o) → ((o : LitValue) → Contains falses o → IsFalse (lits_of steps) o)

@@ -13,9 +13,7 @@ use Rattle.conflict_analysis.{specs.{Learned.{IsPointed, IsLearned}, Met.lit_at}
 pub due_by : (t : TrailValue) (clause : List LitValue) → CanAddTo t clause → AreLimits t.limits (length t.steps) → IsDue t.limits t.steps clause
 due_by t clause can a = ⊎_elim
     (λ z. inl (ap (λ ls. level_at ls (length t.steps)) (nil_limits t.limits z)))
-    (λ q.
-    let all : level_at t.limits (length t.steps) ≡ length t.limits = all_counted t.limits (length t.steps) (λ i w. let b = a.below i w in omega (arith, b)) in
-    inr (q.1, q.4.place, q.3, q.4.within, q.4.here, q.4.level ∙ sym all))
+    (λ q. inr (q.1, q.4.place, q.3, q.4.within, q.4.here, q.4.level ∙ sym (all_counted t.limits (length t.steps) (λ i w. grind (arith, a.below i w)))))
     can
 
 -- the trail below a level
@@ -24,17 +22,10 @@ below vars steps limits last = record { vars = vars; steps = take (get_or limits
 
 pub below_limits : (limits : List ℕ) (len last n : ℕ) → AreLimits limits len → last < length limits → n ≡ get_or limits last 0 → AreLimits (take last limits) n
 below_limits limits len last n a w e =
-    let j : length (take last limits) ≡ last = length-take-le last limits (omega (arith, w)) in
+    let j = length-take-le last limits (omega (arith, w)) in
     record {
-      rising = λ x y lt v.
-          let p = get_or-take last limits x 0 (omega (arith, lt, v, j)) in
-          let q = get_or-take last limits y 0 (omega (arith, v, j)) in
-          let r = a.rising x y lt (omega (arith, v, j, w)) in
-          omega (arith, p, q, r);
-      below = λ x v.
-          let p = get_or-take last limits x 0 (omega (arith, v, j)) in
-          let r = a.rising x last (omega (arith, v, j)) w in
-          omega (arith, p, r, e);
+      rising = λ x y lt v. grind (arith, j, get_or-take last limits x 0, get_or-take last limits y 0, a.rising x y lt);
+      below = λ x v. grind (arith, j, get_or-take last limits x 0, a.rising x last);
     }
 
 -- ---- levels
@@ -45,12 +36,8 @@ under_next limits len level k a w low = ⊎_elim
     (λ lt. lt)
     (λ ge.
     let n : length (take (level + 1) limits) ≡ level + 1 = length-take-le (level + 1) limits (omega (arith, w)) in
-    let all = all_counted (take (level + 1) limits) k (λ i v.
-    let q = get_or-take (level + 1) limits i 0 (omega (arith, v, n)) in
-    let r = limits_rise limits len i level a (omega (arith, v, n)) w in
-    omega (arith, q, r, ge)) in
-    let part = sum_by-take-le (λ m. cond {A = ℕ} (nat_le m k) 1 0) limits (level + 1) in
-    absurd (omega (arith, all, n, part, low)))
+    let all = all_counted (take (level + 1) limits) k (λ i v. grind (arith, n, get_or-take (level + 1) limits i 0, limits_rise limits len i level a)) in
+    absurd (omega (arith, all, n, sum_by-take-le (λ m. cond {A = ℕ} (nat_le m k) 1 0) limits (level + 1), low)))
     (cases_lt k (get_or limits level 0))
 
 -- ---- the clause

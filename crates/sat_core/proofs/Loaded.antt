@@ -12,48 +12,55 @@ use Rattle.sleeping_clauses.specs.{Naming.IsListed, Sleeping.no_sleepers, declar
 
 -- ---- a clause with each literal once
 
--- the literals that were kept are those that were passed, each once, and exactly their numbers have the mark
+-- the literals that were kept are those that were passed, each once, and exactly their numbers have the mark, which is the highest
 pub record IsKeeping (passed kept : List LitValue) (marks : List ℕ) (mark : ℕ) : Type 0 where
   pub into : (l : LitValue) → Contains passed l → Contains kept l
   pub from : (l : LitValue) → Contains kept l → Contains passed l
   pub marked : (l : LitValue) → Contains kept l → get_or marks (code_of l) 0 ≡ mark
   pub known : (l : LitValue) → get_or marks (code_of l) 0 ≡ mark → Contains kept l
+  pub below : (k : ℕ) → get_or marks k 0 ≤ mark
   pub once : AllPairs (λ a b. a ≢ b) kept
   pub lits : All IsLit kept
 
+pub next_taken : (lits : List LitValue) (k : ℕ) (l : LitValue) → k < length lits → l ≡ get_or lits k l → take (k + 1) lits ≡ take k lits ++ l ∷ []
+next_taken lits k l w is = take_more lits k l w ∙ ap (λ y. take k lits ++ y ∷ []) (sym is)
+
 -- a literal that has the mark is passed by
-pub keeping_old : (passed kept : List LitValue) (marks : List ℕ) (mark : ℕ) (l : LitValue) → IsKeeping passed kept marks mark → get_or marks (code_of l) 0 ≡ mark → IsKeeping (passed ++ l ∷ []) kept (set marks (code_of l) mark) mark
-keeping_old passed kept marks mark l k e =
-    let same : set marks (code_of l) mark ≡ marks = ap (set marks (code_of l)) (sym e) ∙ set-get_or marks (code_of l) 0 in
-    subst (λ ms. IsKeeping (passed ++ l ∷ []) kept ms mark) (sym same) (record {
-      into = λ o c. ⊎_elim (λ d. k.into o d) (λ i. subst (Contains kept) i (k.known l e)) (Contains-push_cases passed l o c);
-      from = λ o c. Contains-append_left passed (l ∷ []) o (k.from o c);
-      marked = k.marked;
-      known = k.known;
-      once = k.once;
-      lits = k.lits;
-    })
+pub keeping_old : (lits kept : List LitValue) (marks marks' : List ℕ) (mark k : ℕ) (l : LitValue) → IsKeeping (take k lits) kept marks mark → k < length lits → l ≡ get_or lits k l → marks' ≡ set marks (code_of l) mark → get_or marks (code_of l) 0 ≡ mark → IsKeeping (take (k + 1) lits) kept marks' mark
+keeping_old lits kept marks marks' mark k l p w is ms e =
+    let same : marks' ≡ marks = ms ∙ ap (set marks (code_of l)) (sym e) ∙ set-get_or marks (code_of l) 0 in
+    rw same (rw (next_taken lits k l w is) (record {
+      into = λ o c. ⊎_elim (λ d. p.into o d) (λ i. subst (Contains kept) i (p.known l e)) (Contains-push_cases (take k lits) l o c);
+      from = λ o c. Contains-append_left (take k lits) (l ∷ []) o (p.from o c);
+      marked = p.marked;
+      known = p.known;
+      below = p.below;
+      once = p.once;
+      lits = p.lits;
+    }))
 
 -- a mark more leaves none above it
 pub marks_below : (marks : List ℕ) (place mark : ℕ) → place < length marks → ((k : ℕ) → get_or marks k 0 ≤ mark) → (k : ℕ) → get_or (set marks place mark) k 0 ≤ mark
 marks_below marks place mark w b k = grind (arith, ⊎_elim, eqb-true, get_or-set_same, get_or-set_other, eqb-false, cases_Bool)
 
 -- another is kept, and its number marked
-pub keeping_new : (passed kept : List LitValue) (marks : List ℕ) (mark : ℕ) (l : LitValue) → IsKeeping passed kept marks mark → code_of l < length marks → (get_or marks (code_of l) 0 ≡ mark → ⊥) → IsLit l → IsKeeping (passed ++ l ∷ []) (kept ++ l ∷ []) (set marks (code_of l) mark) mark
-keeping_new passed kept marks mark l k w new lit = record {
-  into = λ o c. ⊎_elim (λ d. Contains-append_left kept (l ∷ []) o (k.into o d)) (λ i. subst (Contains (kept ++ l ∷ [])) i (Contains-push kept l)) (Contains-push_cases passed l o c);
-  from = λ o c. ⊎_elim (λ d. Contains-append_left passed (l ∷ []) o (k.from o d)) (λ i. subst (Contains (passed ++ l ∷ [])) i (Contains-push passed l)) (Contains-push_cases kept l o c);
-  marked = λ o c. ⊎_elim
-      (λ d. let e = k.marked o d in get_or-set_other marks (code_of l) (code_of o) mark 0 (λ i. new (ap (λ n. get_or marks n 0) (sym i) ∙ e)) ∙ e)
-      (λ i. subst (λ x. get_or (set marks (code_of l) mark) (code_of x) 0 ≡ mark) i (get_or-set_same marks (code_of l) mark 0 w))
-      (Contains-push_cases kept l o c);
-  known = λ o e. ⊎_elim
-      (λ b. subst (Contains (kept ++ l ∷ [])) (same_code l o (sym (eqb-true (code_of o) (code_of l) b))) (Contains-push kept l))
-      (λ b. Contains-append_left kept (l ∷ []) o (k.known o (sym (get_or-set_other marks (code_of l) (code_of o) mark 0 (eqb-false (code_of o) (code_of l) b)) ∙ e)))
-      (cases_Bool (eqb (code_of o) (code_of l)));
-  once = all_pairs_push (λ a b. a ≢ b) kept l k.once (λ i d w e. new (k.marked l (subst (Contains kept) e (Contains-get_or kept i d w))));
-  lits = All-push IsLit kept l k.lits lit;
-}
+pub keeping_new : (lits kept kept' : List LitValue) (marks marks' : List ℕ) (mark k : ℕ) (l : LitValue) → IsKeeping (take k lits) kept marks mark → k < length lits → l ≡ get_or lits k l → marks' ≡ set marks (code_of l) mark → get_or marks (code_of l) 0 ≢ mark → code_of l < length marks → IsLit l → kept' ≡ kept ++ l ∷ [] → IsKeeping (take (k + 1) lits) kept' marks' mark
+keeping_new lits kept kept' marks marks' mark k l p w is ms new room lit ks =
+    rw ms (rw ks (rw (next_taken lits k l w is) (record {
+      into = λ o c. ⊎_elim (λ d. Contains-append_left kept (l ∷ []) o (p.into o d)) (λ i. subst (Contains (kept ++ l ∷ [])) i (Contains-push kept l)) (Contains-push_cases (take k lits) l o c);
+      from = λ o c. ⊎_elim (λ d. Contains-append_left (take k lits) (l ∷ []) o (p.from o d)) (λ i. subst (Contains (take k lits ++ l ∷ [])) i (Contains-push (take k lits) l)) (Contains-push_cases kept l o c);
+      marked = λ o c. ⊎_elim
+          (λ d. let e = p.marked o d in get_or-set_other marks (code_of l) (code_of o) mark 0 (λ i. new (ap (λ n. get_or marks n 0) (sym i) ∙ e)) ∙ e)
+          (λ i. subst (λ x. get_or (set marks (code_of l) mark) (code_of x) 0 ≡ mark) i (get_or-set_same marks (code_of l) mark 0 room))
+          (Contains-push_cases kept l o c);
+      known = λ o e. ⊎_elim
+          (λ b. subst (Contains (kept ++ l ∷ [])) (same_code l o (sym (eqb-true (code_of o) (code_of l) b))) (Contains-push kept l))
+          (λ b. Contains-append_left kept (l ∷ []) o (p.known o (sym (get_or-set_other marks (code_of l) (code_of o) mark 0 (eqb-false (code_of o) (code_of l) b)) ∙ e)))
+          (cases_Bool (eqb (code_of o) (code_of l)));
+      below = marks_below marks (code_of l) mark room p.below;
+      once = all_pairs_push (λ a b. a ≢ b) kept l p.once (λ i d w e. new (p.marked l (subst (Contains kept) e (Contains-get_or kept i d w))));
+      lits = All-push IsLit kept l p.lits lit;
+    })))
 
 -- ---- its literals are about the variables of the core
 

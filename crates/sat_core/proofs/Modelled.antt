@@ -11,9 +11,6 @@ use Rattle.sleeping_clauses.specs.{Sleeping.SleepersValue, declared.awake.Awake.
 stands_true : (core : CoreValue) (values : List Bool) (l : LitValue) → IsTotal core → AreValues (trues core) core.vars values → IsAbout core.vars l → Contains (trues core) l → is_true values l ≡ true
 stands_true core values l t v a c = go l.positive c
   where
-    at : value_of values l.var ≡ get_or values (l.var - 1) false
-    at = refl
-
     w : l.var - 1 < core.vars
     w = omega (arith, a.some, a.within)
 
@@ -21,14 +18,8 @@ stands_true core values l t v a c = go l.positive c
     up = omega (arith, a.some)
 
     go : (p : Bool) → Contains (trues core) (record { var = l.var; positive = p }) → same_sign p (value_of values l.var) ≡ true
-    go true d = ⊎_elim
-        (λ h. at ∙ h)
-        (λ h. absurd (v.lacks (l.var - 1) w h (subst (λ n. Contains (trues core) (yes n)) (sym up) d)))
-        (cases_Bool (get_or values (l.var - 1) false))
-    go false d = ⊎_elim
-        (λ h. absurd (consistent_by (trues core) t.formed.apart (yes l.var) (subst (λ n. Contains (trues core) (yes n)) up (v.stands (l.var - 1) w h)) d))
-        (λ h. ap not (at ∙ h))
-        (cases_Bool (get_or values (l.var - 1) false))
+    go true d = ⊎_elim (λ h. h) (λ h. absurd (v.lacks (l.var - 1) w h (rw up d))) (cases_Bool (value_of values l.var))
+    go false d = ⊎_elim (λ h. absurd (consistent_by (trues core) t.formed.apart (yes l.var) (rw up at (v.stands (l.var - 1) w h)) d)) (λ h. ap not h) (cases_Bool (value_of values l.var))
 
 pub model_satisfies : (base : FormulaValue) (lines : List ProofLineValue) (core : CoreValue) (awake : Awake) (sleepers : SleepersValue) (values : List Bool) → IsReady base lines core awake sleepers → IsTotal core → length values ≡ base.vars → AreValues (trues core) core.vars values → Satisfies values base
 model_satisfies base lines core awake sleepers values r t n v = record {

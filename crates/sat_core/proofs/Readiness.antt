@@ -1,14 +1,15 @@
 -- A line that is accepted and added leaves the search ready.
-use Rattle.std.proofs.Common.{◌≡◌, ℕ, ◌+◌, ◌<◌, ◌≤◌, true, List, [], ◌∷◌, ◌++◌, false, get_or, set, length, refl, sym, ap, ◌∙◌, subst, inl, inr, ⊎_elim, arith, eq-eqb, ◌≢◌, All, AllPairs, Contains, Some, map}
+use Rattle.std.proofs.Common.{◌≡◌, ℕ, ◌+◌, ◌<◌, ◌≤◌, true, List, [], ◌∷◌, ◌++◌, false, get_or, set, length, refl, sym, ap, ◌∙◌, subst, inl, inr, ⊎_elim, arith, eq-eqb, ◌≢◌, ◌⊎◌, All, AllPairs, Contains, Some, map}
 use Rattle.std.proofs.lemmas.{Bool.{ne_eqb, or_right}, List.{get_or_append_left, length_push, Elements.{Contains-push, Contains-push_cases, Contains-append_left, All-head, All-tail, All-push}}}
 use Rattle.cnf_formula.specs.{Literals.LitValue, Formulas.FormulaValue, Lines.ProofLineValue, declared.line.LratLine.TheVariants.Addition}
 use Rattle.proof_rules.specs.{declared.verdict.LineVerdict.TheVariants.Accepted as AcceptedVerdict, Held.{Entry, CheckerValue, start_of, clause_at}, Judging.verdict_of, Refuting.{is_fresh, with_line, after_lines, Refutes}}
 use Rattle.proof_rules.{specs.Learning.AllFresh, proofs.{InTurn.{after_more, implied_more, implied_accepted}, Kept.keeps_append}}
 use Rattle.ledger_rules.specs.Logs.{checker_of}
 use Rattle.trail_core.specs.Meaning.{CoreValue}
-use Rattle.sat_core.{specs.{inner.Holding.{IsSame, IsHeldAs, AreNamed, AreHeld, IsNext}, Ready.{AreNumbered, AreWritten, IsHolding, IsReady}}, proofs.{Asleep.woken_stays, Members.both_more}}
-use Rattle.sleeping_clauses.specs.{Naming.IsListed, Sleeping.SleepersValue, declared.awake.Awake.Awake}
+use Rattle.sat_core.{specs.{inner.Holding.{IsSame, IsHeldAs, AreNamed, AreAmongOr, AreHeld, IsNext}, Ready.{AreNumbered, AreWritten, IsHolding, IsReady}}, proofs.{Asleep.woken_stays, Members.both_more}}
+use Rattle.sleeping_clauses.specs.{Naming.IsListed, Sleeping.{SleepersValue, IsAsleep}, declared.awake.Awake.Awake}
 use Rattle.list_laws.proofs.Places.{by_place_push}
+use Rattle.std.proofs.lemmas.{List.get_or_push, Bool.cases_lt}
 
 -- ---- one line more
 
@@ -41,14 +42,7 @@ named_more held names names' clauses clauses' clause number a len cs ns h =
 
 pub listed_more : (clauses clauses' : List (List LitValue)) (clause : List LitValue) (awake awake' : Awake) (id number : ℕ) → IsListed clauses awake → clauses' ≡ clauses ++ clause ∷ [] → id ≡ length clauses → awake'.ids.items ≡ awake.ids.items ++ id ∷ [] → awake'.names.items ≡ awake.names.items ++ number ∷ [] → AllPairs (λ a b. a ≢ b) clause
     → IsListed clauses' awake'
-listed_more clauses clauses' clause awake awake' id number l cs at ids names once =
-    let n : length clauses' ≡ length clauses + 1 = ap length cs ∙ length_push clauses clause in
-    record {
-      ids_len = omega (arith, n, ap length ids, length_push awake.ids.items id, l.ids_len);
-      ids = λ k w. ap (λ xs. get_or xs k 0) ids ∙ by_place_push (λ j i. i ≡ j) awake.ids.items id 0 (λ j v. l.ids j (omega (arith, v, l.ids_len))) (at ∙ sym l.ids_len) k (omega (arith, w, n, l.ids_len, length_push awake.ids.items id));
-      names = omega (arith, n, ap length names, length_push awake.names.items number, l.names);
-      once = λ k w. subst (λ xs. AllPairs (λ a b. a ≢ b) (get_or xs k [])) (sym cs) (by_place_push (λ j c. AllPairs (λ a b. a ≢ b) c) clauses clause [] l.once once k (subst (λ xs. k < length xs) cs w));
-    }
+listed_more clauses clauses' clause awake awake' id number l cs at ids names once = grind (arith, length_push, get_or_append_left, get_or_push, cases_lt)
 
 held_more : (held : List Entry) (names names' : List ℕ) (clauses clauses' : List (List LitValue)) (s : SleepersValue) (clause : List LitValue) (number : ℕ) → AreHeld held names clauses s → All (λ entry. entry.0 < number) held → length names ≡ length clauses + 1 → clauses' ≡ clauses ++ clause ∷ [] → names' ≡ names ++ number ∷ []
     → AreHeld (held ++ (number, clause) ∷ []) names' clauses' s
@@ -109,6 +103,10 @@ ready_more base lines core core' awake awake' s line r l w f e g = record {
 pub refuted_by : (base : FormulaValue) (lines : List ProofLineValue) (line : ProofLineValue) → AreWritten base (lines ++ line ∷ []) → line.lits ≡ [] → Refutes (map Addition (lines ++ line ∷ [])) base
 refuted_by base lines line w e = grind (arith, implied_accepted, after_more, or_right)
 
+-- what is held is one of the core or sleeps, where each that was one or slept is or does
+pub among_moved : (held : List Entry) (clauses clauses' : List (List LitValue)) (s s' : SleepersValue) → ((x : List LitValue) → Contains clauses x ⊎ IsAsleep s x → Contains clauses' x ⊎ IsAsleep s' x) → AreAmongOr held clauses s → AreAmongOr held clauses' s'
+among_moved held clauses clauses' s s' on a entry i = let o = a entry i in (o.0, on o.0 o.1, o.2)
+
 -- what is held stays so where other clauses of it sleep
 pub ready_moved : (base : FormulaValue) (lines : List ProofLineValue) (core core' : CoreValue) (awake awake' : Awake) (s s' : SleepersValue) → IsReady base lines core awake s → core'.vars ≡ core.vars → awake'.formula ≡ awake.formula → awake'.held ≡ awake.held → AreHeld (checker_of base lines).held awake'.names.items core'.clauses s'
     → length base.clauses ≤ length core'.clauses → ((k : ℕ) → k < length base.clauses → get_or core'.clauses k [] ≡ get_or core.clauses k []) → IsReady base lines core' awake' s'
@@ -135,15 +133,9 @@ ready_woken base lines core core' awake awake' s s' place r l w vars clauses nam
     (record {
       named = named_more c.held awake.names.items awake'.names.items core.clauses core'.clauses clause number a.named l.names clauses names (a.asleep place w);
       asleep = λ k v. subst (λ xs. IsHeldAs c.held (get_or s'.numbers k 0) (get_or xs k [])) (sym cs) (subst (λ xs. IsHeldAs c.held (get_or xs k 0) (get_or s.clauses k [])) (sym ns) (a.asleep k (subst (λ xs. k < length xs) cs v)));
-      only = λ entry i.
-          let o = a.only entry i in (
-            o.0,
-            ⊎_elim
-                (λ v. inl (subst (λ xs. Contains xs o.0) (sym clauses) (Contains-append_left core.clauses (clause ∷ []) o.0 v)))
-                (λ v. ⊎_elim (λ u. inr u) (λ e. inl (subst (λ xs. Contains xs o.0) (sym clauses) (subst (Contains (core.clauses ++ clause ∷ [])) e (Contains-push core.clauses clause)))) (woken_stays s s' place cs bs o.0 v))
-                o.1,
-            o.2,
-          );
+      only = among_moved c.held core.clauses core'.clauses s s' (λ x. ⊎_elim
+          (λ v. inl (subst (λ xs. Contains xs x) (sym clauses) (Contains-append_left core.clauses (clause ∷ []) x v)))
+          (λ v. ⊎_elim (λ u. inr u) (λ e. inl (subst (λ xs. Contains xs x) (sym clauses) (subst (Contains (core.clauses ++ clause ∷ [])) e (Contains-push core.clauses clause)))) (woken_stays s s' place cs bs x v))) a.only;
     })
     (omega (arith, r.holding.within, ap length clauses, length_push core.clauses clause))
     (λ k v. ap (λ xs. get_or xs k []) clauses ∙ get_or_append_left core.clauses (clause ∷ []) [] k (omega (arith, v, r.holding.within)))

@@ -22,31 +22,18 @@ denied_few core place w = grind (arith, length-take-le, length_push)
 
 denied_formed : (core : CoreValue) (place : ℕ) → IsTrail core.vars core.trail core.limits → place < length core.trail → IsTrail core.vars (denied core place) []
 denied_formed core place t w =
-    let few = denied_few core place w in
     let about = lit_about core place t w in
     record {
       within = subst (All (IsAbout core.vars)) (sym (denied_lits core place)) (All-push (IsAbout core.vars) (take place (trues core)) (negation (lit_at core place)) (All-take (IsAbout core.vars) place (trues core) t.within) (record { some = about.some; within = about.within }));
-      apart = subst (AllPairs (λ a b. a.var ≢ b.var)) (sym (denied_lits core place)) (all_pairs_push (λ a b. a.var ≢ b.var) (take place (trues core)) (negation (lit_at core place)) front last);
-      few = omega (arith, few, w, t.few);
-      levels = record { rising = λ i j lt v. absurd (omega (arith, v)); below = λ i v. absurd (omega (arith, v)) };
+      apart = subst (AllPairs (λ a b. a.var ≢ b.var)) (sym (denied_lits core place)) (all_pairs_push (λ a b. a.var ≢ b.var) (take place (trues core)) (negation (lit_at core place))
+          (λ i j d lt v. grind (arith, len, lits_length core.trail, t.apart i j d, get_or-take place (trues core) i d, get_or-take place (trues core) j d))
+          (λ k x v. grind (arith, len, get_or-take place (trues core) k x, lit_read core k x, same_place core k place t)));
+      few = grind (arith, denied_few core place w, t.few);
+      levels = grind arith;
     }
   where
     len : length (take place (trues core)) ≡ place
     len = length-take-le place (trues core) (omega (arith, w, lits_length core.trail))
-
-    front : AllPairs (λ a b. a.var ≢ b.var) (take place (trues core))
-    front i j d lt v e =
-        let lj : j < place = omega (arith, v, len) in
-        let li : i < place = omega (arith, lt, lj) in
-        t.apart i j d lt (omega (arith, lj, w, lits_length core.trail)) (ap (λ x. x.var) (sym (get_or-take place (trues core) i d li)) ∙ e ∙ ap (λ x. x.var) (get_or-take place (trues core) j d lj))
-
-    last : (k : ℕ) (x : LitValue) → k < length (take place (trues core)) → (get_or (take place (trues core)) k x).var ≢ (negation (lit_at core place)).var
-    last k x v e =
-        let lt : k < place = omega (arith, v, len) in
-        let u : k < length core.trail = omega (arith, lt, w) in
-        let at = get_or-take place (trues core) k x lt ∙ lit_read core k x u in
-        let same = same_place core k place t u w (ap (λ y. y.var) (sym at) ∙ e) in
-        omega (arith, same, lt)
 
 one_alone : (R : LitValue → LitValue → Type 0) (l : LitValue) → AllPairs R (l ∷ [])
 one_alone R l i j d lt v = absurd (omega (arith, lt, v))

@@ -24,9 +24,7 @@ number_to clause zero = 0
 number_to clause (suc n) = digit_of clause (suc n) * 3 ^ n + number_to clause n
 
 digit_small : (a b : Bool) → digit a b ≤ 2
-digit_small true b = omega arith
-digit_small false true = omega arith
-digit_small false false = omega arith
+digit_small a b = grind (arith, cases_Bool a, cases_Bool b)
 
 power : (n : ℕ) → 3 ^ suc n ≡ 3 ^ n + 3 ^ n + 3 ^ n
 power n = let p = pow-suc 3 n in omega (arith, p)
@@ -66,14 +64,10 @@ two_by : (clause : List LitValue) (v : ℕ) → has_literal clause (yes v) ≡ f
 two_by clause v h g = ap (λ a. digit a (has_literal clause (no v))) h ∙ ap (digit false) g
 
 is_one : (a b : Bool) → digit a b ≡ 1 → a ≡ true
-is_one true b e = refl
-is_one false true e = absurd (omega (arith, e))
-is_one false false e = absurd (omega (arith, e))
+is_one a b e = grind (arith, cases_Bool a, cases_Bool b)
 
 is_two : (a b : Bool) → digit a b ≡ 2 → b ≡ true
-is_two true b e = absurd (omega (arith, e))
-is_two false true e = refl
-is_two false false e = absurd (omega (arith, e))
+is_two a b e = grind (arith, cases_Bool a, cases_Bool b)
 
 -- a variable stands in a clause once
 abbrev pub IsOnce : List LitValue → Type 0

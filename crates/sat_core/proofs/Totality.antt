@@ -3,14 +3,11 @@ use Rattle.std.{specs.List.list_any, proofs.{Common.{Bool, true, false, List, sy
 use Rattle.cnf_formula.specs.{Literals.{LitValue, negation, no, has_literal}, Formulas.IsAbout}
 use Rattle.trail_core.specs.{Assigned.IsOpen, Search.IsSatisfied, Meaning.{CoreValue, trues}}
 use Rattle.sat_core.{specs.inner.Totals.IsTotal, proofs.Members.{any_by, found_by, stands_by, stands_or_not}}
+use Rattle.std.proofs.Common.{arith}
 
 -- an open literal's variable is open, as false too
 open_no : (ts : List LitValue) (l : LitValue) → (Contains ts l → ⊥) → (Contains ts (negation l) → ⊥) → IsOpen ts (no l.var)
-open_no ts l a b = go l.positive a b
-  where
-    go : (p : Bool) → (Contains ts (record { var = l.var; positive = p }) → ⊥) → (Contains ts (negation (record { var = l.var; positive = p })) → ⊥) → IsOpen ts (no l.var)
-    go true a b = record { not_true = b; not_false = a }
-    go false a b = record { not_true = a; not_false = b }
+open_no ts l a b = grind (arith, cases_Bool l.positive)
 
 pub total_satisfied : (core : CoreValue) → IsTotal core → (clause : List LitValue) → Contains core.clauses clause → All (IsAbout core.vars) clause → IsSatisfied (trues core) clause
 total_satisfied core t clause c of = ⊎_elim

@@ -26,6 +26,7 @@ fn highest(core: &Core, lits: &[Lit]) -> u32
 }
 
 /// Gives the literals from a place of the trail on to the decisions that come.
+#[tactic(auto, using(std::proofs::lemmas::Bool::Decides::nat_tests, std::proofs::lemmas::Grind::common_steps, crate::proofs::Members::list_steps))]
 pub fn release_from(core: &Core, decider: &mut Decider, from: usize) -> Result<(), OutOfMemory>
     requires { decider.old ≡ core.now.vars }
     ensures { decider.new ≡ decider.old }
@@ -59,6 +60,7 @@ pub fn go_to_bottom(core: &mut Core, decider: &mut Decider) -> Result<(), OutOfM
 
 /// Goes back to a level on which the clause has a literal, and all but its last literal are false,
 /// and adds it there: it makes the last literal true.
+#[tactic(auto, using(crate::proofs::Jumping::backed_some))]
 fn jump(core: &mut Core, lits: &[Lit], level: u32) -> Result<ClauseId, OutOfMemory>
     requires formed { IsTrail core.old.vars core.old.trail core.old.limits }
     requires backed { IsBacked core.old lits.now }
@@ -87,6 +89,7 @@ fn begin_anew(core: &mut Core, lits: &[Lit]) -> Result<ClauseId, OutOfMemory>
 
 /// Goes back to the second highest level of the line's clause, or to level 0 where the search
 /// begins anew, and adds it. Gives its number in the core.
+#[tactic(auto, using(crate::proofs::Jumping::backed_within, crate::proofs::Jumping::lower_levels))]
 pub fn go_back(
     core: &mut Core,
     decider: &mut Decider,

@@ -67,6 +67,7 @@ pub fn a_total_core_satisfies_its_clauses()
 /// A log of lines, each implied and stated by none before, is shorter than 3 to the number of
 /// variables: so many clauses there are that name no variable twice, and the one without a literal
 /// is not among the lines.
+#[tactic(auto, using(crate::proofs::Ternary::few_spent))]
 pub fn logs_are_shorter_than_all_clauses()
     ensures { (f : FormulaValue) (lines : List ProofLineValue) (n : ℕ) → SpentLog lines f n → n < 3 ^ f.vars }
 {}

@@ -27,6 +27,7 @@ fn is_among(lit: Lit, lits: &[Lit]) -> bool
 
 /// Whether no literal stands twice among these, by a look at each pair. Most clauses have two or
 /// three.
+#[tactic(auto, using(std::proofs::lemmas::Bool::Decides::nat_tests, std::proofs::lemmas::Grind::common_steps, crate::proofs::Apart::pair_apart, crate::proofs::Apart::three_apart))]
 fn are_few_apart(lits: &[Lit]) -> bool
     ensures { result ≡ true → AllPairs (λ a b. a ≢ b) lits.now }
 {
@@ -65,13 +66,15 @@ fn are_paired_apart(lits: &[Lit]) -> bool
     true
 }
 
-/// Gives a place the mark. Whether it had another.
-fn marks_at(seen: &mut Vec<u64>, place: usize, mark: u64) -> bool
-    requires { place < length seen.old.items }
-    ensures marked { seen.new.items ≡ slice_set seen.old.items place mark }
-    ensures other { result ≡ true → slice_index seen.old.items place ≢ mark }
-    ensures same { result ≡ false → slice_index seen.old.items place ≡ mark }
+/// Gives the number of a literal the mark. Whether it had another.
+fn marks_at(seen: &mut Vec<u64>, lit: Lit, mark: u64) -> bool
+    requires { IsLit lit → code_of lit < length seen.old.items }
+    ensures marked { seen.new.items ≡ slice_set seen.old.items (code_of lit) mark }
+    ensures other { result ≡ true → slice_index seen.old.items (code_of lit) ≢ mark }
+    ensures same { result ≡ false → slice_index seen.old.items (code_of lit) ≡ mark }
+    ensures lit { IsLit lit × (code_of lit < length seen.old.items) }
 {
+    let place = lit.code();
     let other = seen[place] != mark;
     seen[place] = mark;
     other
@@ -79,6 +82,7 @@ fn marks_at(seen: &mut Vec<u64>, place: usize, mark: u64) -> bool
 
 /// Whether no literal stands twice in a clause. `seen` has a place for the number of each literal,
 /// none of which has this mark before.
+#[tactic(auto, using(std::proofs::lemmas::Bool::Decides::nat_tests, std::proofs::lemmas::Grind::common_steps, crate::proofs::Members::list_steps, crate::proofs::Loaded::marks_below, std::proofs::lemmas::List::take_all))]
 fn are_apart(lits: &[Lit], seen: &mut Vec<u64>, mark: u64) -> bool
     requires room { (l : LitValue) → IsLit l → Contains lits.now l → code_of l < length seen.old.items }
     requires unseen { (k : ℕ) → slice_index seen.old.items k < mark }
@@ -88,7 +92,7 @@ fn are_apart(lits: &[Lit], seen: &mut Vec<u64>, mark: u64) -> bool
     ensures lits { result ≡ true → All IsLit lits.now }
 {
     for lit in lits {
-        if !marks_at(seen, lit.code(), mark) {
+        if !marks_at(seen, *lit, mark) {
             return false;
         }
     }
@@ -113,7 +117,7 @@ fn once_each(
 {
     kept.clear();
     for lit in lits {
-        if marks_at(seen, lit.code(), mark) {
+        if marks_at(seen, *lit, mark) {
             kept.push(*lit)?;
         }
     }
@@ -122,6 +126,7 @@ fn once_each(
 
 /// Whether no literal stands twice in a clause over so many variables. `seen` has this mark nowhere
 /// before. `Err` comes only where memory runs out.
+#[tactic(auto, using(std::proofs::lemmas::Bool::Decides::nat_tests, std::proofs::lemmas::Grind::common_steps, cnf_formula::proofs::Codes::code_within, crate::proofs::Members::list_steps, crate::proofs::Apart::resized_below))]
 fn is_apart(own: u32, lits: &[Lit], seen: &mut Vec<u64>, mark: u64) -> Result<bool, OutOfMemory>
     requires about { IsClause own lits.now }
     requires unseen { (k : ℕ) → slice_index seen.old.items k < mark }
@@ -136,6 +141,7 @@ fn is_apart(own: u32, lits: &[Lit], seen: &mut Vec<u64>, mark: u64) -> Result<bo
 }
 
 /// Whether no clause has a literal twice.
+#[tactic(auto, using(std::proofs::lemmas::Bool::Decides::nat_tests, std::proofs::lemmas::Grind::common_steps, crate::proofs::Listed::all_once))]
 fn are_all_apart(alloc: Global, own: u32, clauses: &ClauseList) -> Result<bool, OutOfMemory>
     requires { All (IsClause own) clauses.now }
     ensures { IfOk result (λ apart. apart ≡ true → All (AllPairs (λ a b. a ≢ b)) clauses.now) }
@@ -150,6 +156,7 @@ fn are_all_apart(alloc: Global, own: u32, clauses: &ClauseList) -> Result<bool, 
 }
 
 /// The clauses in their order, each literal of them once.
+#[tactic(auto, using(std::proofs::lemmas::Bool::Decides::nat_tests, std::proofs::lemmas::Grind::common_steps, crate::proofs::Loaded::codes_within, std::proofs::lemmas::List::take_all))]
 fn once_in_each(alloc: Global, own: u32, clauses: &ClauseList) -> Result<ClauseList, OutOfMemory>
     requires { All (IsClause own) clauses.now }
     ensures loaded { IfOk result (λ kept. IsLoaded clauses.now kept) }
@@ -186,6 +193,7 @@ fn core_of(alloc: Global, own: u32, clauses: &ClauseList) -> Result<Core, OutOfM
 }
 
 /// Each of these is a literal that there is. It costs nothing.
+#[tactic(auto, using(std::proofs::lemmas::List::get_or_default))]
 fn know(lits: &[Lit])
     ensures { All IsLit lits.now }
 {
@@ -196,6 +204,7 @@ fn know(lits: &[Lit])
 
 /// A core with the clauses of a formula in their order, each literal of them once, and the table of
 /// them.
+#[tactic(auto, using(crate::proofs::Loaded::clauses_own, crate::proofs::Loaded::numbered_from))]
 pub fn load(alloc: Global, formula: &Formula, own: u32) -> Result<(Core, Awake), OutOfMemory>
     requires { own ≡ own_of formula.now.vars }
     ensures vars { IfOk result (λ both. both.0.vars ≡ own) }

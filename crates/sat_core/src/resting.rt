@@ -13,6 +13,7 @@ use std::alloc::Global;
 use trail_core::{ClauseId, Core};
 
 /// Puts the clause at a place to sleep, or among those that are left.
+#[tactic(auto, using(std::proofs::lemmas::Bool::Decides::nat_tests, std::proofs::lemmas::Grind::common_steps, crate::proofs::Listed::once_is))]
 fn divide(
     core: &Core,
     awake: &Awake,
@@ -49,6 +50,7 @@ fn divide(
 }
 
 /// What is left of a core where clauses of little use fall asleep.
+#[tactic(auto, using(std::proofs::lemmas::Bool::Decides::nat_tests, std::proofs::lemmas::Grind::common_steps, crate::proofs::Listed::all_once))]
 fn divided(
     alloc: Global,
     core: &Core,

@@ -79,6 +79,7 @@ fn answer_of(
 /// `Spent` comes only where the ledger's limit is reached and no line without a literal follows
 /// from what is held, so never where the limit is at least 3 to the number of variables.
 /// [`SolveFault::LedgerFailed`] comes only where the ledger's store failed.
+#[tactic(auto, using(std::proofs::lemmas::Bool::Decides::nat_tests, std::proofs::lemmas::Grind::common_steps, crate::proofs::Caused::no_answer, crate::proofs::Caused::on_fault, crate::proofs::Caused::still, crate::proofs::Caused::handed_other))]
 pub fn solve<T, L: Ledger<T>>(
     alloc: Global,
     formula: &Formula,

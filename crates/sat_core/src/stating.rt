@@ -54,6 +54,7 @@ fn is_stated(stated: &[bool], lit: Lit) -> bool
 }
 
 /// Which literals, by their numbers, are stated by a clause of a core that has no other.
+#[tactic(auto, using(std::proofs::lemmas::Bool::Decides::nat_tests, std::proofs::lemmas::Grind::common_steps, crate::proofs::Stated::stated_nil, crate::proofs::Listed::once_is))]
 fn stated_by(alloc: Global, core: &Core, awake: &Awake, vars: u32) -> Result<Vec<bool>, OutOfMemory>
     requires { IsListed core.now.clauses awake.now }
     ensures { IfOk result (λ stated. AreStated core.now.clauses stated.items) }
@@ -78,6 +79,7 @@ fn is_needed(core: &Core, awake: &Awake, place: usize) -> bool
 
 /// The line of the literal at a place of the trail, on level 0, where it was needed and no held
 /// clause states it.
+#[tactic(auto, using(crate::proofs::Stated::stating_about))]
 fn line_of(
     alloc: Global,
     core: &Core,
@@ -106,6 +108,7 @@ fn line_of(
 }
 
 /// Adds the clause of a line that was learned to the core, on level 0.
+#[tactic(auto, using(crate::proofs::Turning::grown_guided))]
 fn hold(
     core: &mut Core,
     guide: &mut Guide,
@@ -131,6 +134,7 @@ fn hold(
 
 /// Learns the line of the literal at a place of the trail, on level 0, where it was needed, there
 /// is room for the line and no held clause states it.
+#[tactic(auto, using(crate::proofs::Going::still_written, crate::proofs::Going::same_trail, crate::proofs::Caused::answered, crate::proofs::Caused::on_fault, crate::proofs::Caused::no_memory, crate::proofs::Going::written_to, crate::proofs::Caused::of_ledger, crate::proofs::Caused::no_memory_after, crate::proofs::Going::ready_at, crate::proofs::Caused::answered_after))]
 fn state<T, L: Ledger<T>>(
     alloc: Global,
     ledger: &mut L,
@@ -187,6 +191,7 @@ fn state_all<T, L: Ledger<T>>(
 
 /// Where the search begins anew and it is due, literals of level 0 get their lines, and clauses of
 /// little use fall asleep.
+#[tactic(auto, using(crate::proofs::Going::still_written, crate::proofs::Caused::answered, crate::proofs::Caused::on_fault, crate::proofs::Caused::handed_on, crate::proofs::Caused::no_memory_after, crate::proofs::Caused::answered_after))]
 pub fn rest_if_due<T, L: Ledger<T>>(
     alloc: Global,
     ledger: &mut L,

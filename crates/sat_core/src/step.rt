@@ -16,6 +16,7 @@ pub enum Step {
 }
 
 /// Propagates, and decides a variable where no clause is falsified.
+#[tactic(auto, using(trail_core::proofs::Keeping::implied_longer, std::proofs::lemmas::List::length_push))]
 pub fn advance(core: &mut Core, decider: &mut Decider) -> Step
     requires { decider.old ≡ core.old.vars }
     ensures decider { decider.new ≡ decider.old }

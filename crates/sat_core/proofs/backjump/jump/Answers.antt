@@ -4,12 +4,6 @@ use Rattle.trail_core.specs.{Search.IsUnit, Meaning.trues, Kept.{IsDue, CanAdd}}
 use Rattle.sat_core.{specs.inner.Jumping.gone_back, proofs.Jumping.{IsJump, jump_unit, jump_can, jump_due, backed_some, backed_within, backed_differ, last_is}}
 use Rattle.sat_core.proofs.backjump.jump.Goals as goal
 
-pub overflow_sub-lits : goal.overflow_sub-lits
-overflow_sub-lits c = grind (arith, backed_some)
-
-pub bounds-lits-lits : goal.bounds-lits-lits
-bounds-lits-lits c = grind (arith, backed_some)
-
 pub learn-requires : goal.learn-requires
 learn-requires c =
     let core = c.args.core.now in
@@ -29,9 +23,3 @@ learn-requires c =
       alone = subst (λ y. IsUnit (trues y) lits x) b (subst (IsUnit (trues (gone_back core level)) lits) (sym at) (jump_unit core lits level j));
       due = subst (λ y. IsDue y.limits y.trail lits) b (jump_due core lits level j);
     }
-
-pub returns : goal.returns
-returns c = grind arith
-
-pub returns-in_err-learn-clause-vars : goal.returns-in_err-learn-clause-vars
-returns-in_err-learn-clause-vars c = grind arith

@@ -3,12 +3,6 @@ use Rattle.cnf_formula.specs.{Literals.LitValue, Formulas.{IsAbout, IsClause}}
 use Rattle.sat_core.{specs.inner.{Holding.IsSame, Loading.IsLoaded}, proofs.Loaded.{codes_within, kept_about, loaded_more}}
 use Rattle.sat_core.proofs.loading.once_in_each.Goals as goal
 
-pub once_each-requires-clause-room : goal.once_each-requires-clause-room
-once_each-requires-clause-room c = codes_within c.args.own c.args.clauses.now c.loop-place.place c.clause.result.now (length c.loop-place.seen.items) c.requires (omega (arith, c.loop-place-test.true, c.loop-place.auto.place-end, c.len-place-end.ensures)) c.clause.ensures c.loop-place.invariant.len
-
-pub once_each-requires-clause-unseen : goal.once_each-requires-clause-unseen
-once_each-requires-clause-unseen c = λ k. let b = c.loop-place.invariant.below k in omega (arith, b)
-
 pub loop-place-preserved : goal.loop-place-preserved
 loop-place-preserved c =
     let i = c.loop-place.invariant in
@@ -30,7 +24,3 @@ loop-place-preserved c =
       within = subst (All (IsClause own)) (sym is) (All-push (IsClause own) once kept i.within about);
       once = subst (All (AllPairs (λ a b. a ≢ b))) (sym is) (All-push (AllPairs (λ a b. a ≢ b)) once kept i.once e.once);
     }
-
-pub returns-clause-loaded : goal.returns-clause-loaded
-returns-clause-loaded c =
-    subst (λ cs. IsLoaded cs c.loop-place.once) (take_all c.loop-place.place c.args.clauses.now (omega (arith, c.loop-place-test.false, c.loop-place.auto.place-end, c.len-place-end.ensures))) c.loop-place.invariant.loaded

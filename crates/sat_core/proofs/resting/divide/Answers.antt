@@ -21,9 +21,6 @@ ok_both (Err e) a b f = tt
 pub push-requires-clause-about : goal.push-requires-clause-about
 push-requires-clause-about c = about_is c.args.core.now c.args.awake.now c.args.place c.index.result.now c.args.sleepers.now.vars c.clause-clause.result.now c.requires.listed c.requires.place c.index.ensures (c.clause-clause.ensures []) c.requires.same c.requires.about
 
-pub push-requires-clause-once : goal.push-requires-clause-once
-push-requires-clause-once c = once_is c.args.core.now.clauses c.args.awake.now c.args.place c.index.result.now c.clause-clause.result.now c.requires.listed c.requires.place c.index.ensures (c.clause-clause.ensures [])
-
 pub returns-clause-within : goal.returns-clause-within
 returns-clause-within c =
     let vars = c.args.core.now.vars in

@@ -13,12 +13,6 @@ after P (Ok x) (Ok y) is p = p
 after P (Ok x) (Err e) is p = absurd (true≢false (sym is))
 after P (Err e) s is p = tt
 
-pub search-end-requires : goal.search-end-requires
-search-end-requires g c = grind arith
-
-pub answer_of-requires-clause-own : goal.answer_of-requires-clause-own
-answer_of-requires-clause-own g c = sym (c.search-end.ensures.vars ∙ c.in_ok-core.ensures.vars)
-
 pub returns : goal.returns
 returns g c =
     let L = g.L.LedgerView in
@@ -44,8 +38,7 @@ returns g c =
       closed = λ e. (ended Refuted (c.answer_of.ensures.refuted e)).few;
       spent = λ e. (ended Spent (c.answer_of.ensures.spent e)).all;
       log = log;
-      not_closed = λ e line empty accepted.
-          (ended Spent (c.answer_of.ensures.spent e)).over.not_closed line empty (subst (λ f. verdict_of (checker_of f (L.lines now)) line ≡ Accepted true) (sym same) accepted);
+      not_closed = λ e line empty accepted. (ended Spent (c.answer_of.ensures.spent e)).over.not_closed line empty (rw same accepted);
       few = λ e. few_spent formula (L.lines now) (L.limit now) (log e);
       numbered = subst (λ f. AreNumbered (length f.clauses) (L.lines now)) same end.written.written.numbered;
       short = subst (λ f. AreShort f.vars (L.lines now)) same end.written.written.short;
@@ -53,12 +46,5 @@ returns g c =
       agrees = after (g.L.Ledger.agrees now c.search-end.new.store) c.answer_of.result c.search-end.result c.answer_of.ensures.answer (ended_agrees L g.L.Ledger now c.search-end.new.store core guide c.search-end.result end.ended);
       base = end.written.base;
       limit = end.written.limit;
-      cause = record {
-        later = end.cause.later;
-        rose = λ e. end.cause.rose (c.answer_of.ensures.fault.0 e);
-        stays = λ other. end.cause.stays (λ e. other (c.answer_of.ensures.fault.1 e));
-      };
+      cause = grind (arith, end.cause, c.answer_of.ensures.fault);
     }
-
-pub returns-in_err-core : goal.returns-in_err-core
-returns-in_err-core g c = grind (arith, no_answer, on_fault, still, handed_other)

@@ -10,9 +10,6 @@ named-requires c =
     let is = c.in_ok-unit.ensures.settled in
     record { known = hints_names c.args.core.now.clauses (denied c.args.core.now c.args.place) is.resolved is.conflict unit.lits unit.hints _ is.analysis is.hints c.requires.guided.listed.names }
 
-pub subset_of-requires : goal.subset_of-requires
-subset_of-requires c = grind (arith, stating_about)
-
 pub returns-clause-line : goal.returns-clause-line
 returns-clause-line c = λ base lines ready.
     let core = c.args.core.now in

@@ -2,12 +2,6 @@ use Rattle.std.proofs.{Common.{◌≡◌, ◌<◌, ◌+◌, [], ◌∷◌, ◌++
 use Rattle.sat_core.{specs.inner.Stating.AreStated, proofs.{Listed.{clause_is, once_is}, Stated.{stated_nil, stated_more}}}
 use Rattle.sat_core.proofs.stating.stated_by.Goals as goal
 
-pub loop-place-init : goal.loop-place-init
-loop-place-init c = stated_nil c.in_ok-stated.stated.items
-
-pub mark-requires : goal.mark-requires
-mark-requires c = grind (arith, once_is)
-
 pub loop-place-preserved : goal.loop-place-preserved
 loop-place-preserved c =
     let clauses = c.args.core.now.clauses in
@@ -18,7 +12,4 @@ loop-place-preserved c =
     subst (λ cs. AreStated cs c.mark.new.stated.items) e (stated_more (take k clauses) c.clause.result.now c.loop-place.stated.items c.mark.new.stated.items c.loop-place.invariant c.mark.ensures.on c.mark.ensures.this)
 
 pub returns : goal.returns
-returns c =
-    let clauses = c.args.core.now.clauses in
-    let all : take c.loop-place.place clauses ≡ clauses = take_all c.loop-place.place clauses (omega (arith, c.loop-place-test.false, c.loop-place.auto.place-end, c.len-place-end.ensures, c.requires.ids_len)) in
-    subst (λ cs. AreStated cs c.loop-place.stated.items) all c.loop-place.invariant
+returns c = subst (λ cs. AreStated cs c.loop-place.stated.items) (take_all c.loop-place.place c.args.core.now.clauses (omega (arith, c.loop-place-test.false, c.loop-place.auto.place-end, c.len-place-end.ensures, c.requires.ids_len))) c.loop-place.invariant

@@ -7,6 +7,3 @@ named-requires c =
     let learned = c.in_ok-learned.learned in
     let l = c.in_ok-learned.ensures.learned in
     record { known = hints_names c.args.core.now.clauses c.args.core.now.trail l.resolved c.args.conflict learned.lits learned.hints _ l.analysis l.hints c.requires.guided.listed.names }
-
-pub returns-clause-turn : goal.returns-clause-turn
-returns-clause-turn c = grind (arith, ready_same)

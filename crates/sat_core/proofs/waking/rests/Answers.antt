@@ -11,6 +11,3 @@ returns-in-Some-true c = λ _.
     let stands : Contains c.args.lits.now x = (c.loop-lit.lit-index, c.loop-lit-test.true, sym c.lit-item.is) in
     let e : c.value.result ≡ Some true = search rules in
     true_rests low c.args.lits.now x (consistent_by low c.trail-known.ensures.formed.apart) stands (subst (IsValue low x) e c.value.ensures)
-
-pub returns-then-ne : goal.returns-then-ne
-returns-then-ne c = grind (arith, open_rests)
