@@ -1,10 +1,10 @@
 -- A literal of level 0 follows from its reason, where the steps that its walk met are taken for theirs.
 use Rattle.std.proofs.Common.{zero, suc, ◌≡◌, ℕ, ◌+◌, ◌<◌, ◌≤◌, Bool, true, false, List, [], ◌∷◌, ◌++◌, length, get_or, take, refl, sym, ap, ◌∙◌, subst, inl, inr, ⊎_elim, arith, eq-eqb, Contains, Option, None, Some, filter, map, reverse, pos}
 use Rattle.std.proofs.lemmas.{Bool.{cases_eq, cases_lt, cases_Bool, eqb-true, ne_eqb, false≢true}, List.Elements.Contains-push}
-use Rattle.std.proofs.lemmas.List.{get_or_default, get_or-take, get_or_append_left, get_or_push, length-take-le, length_push, map-append, take-map}
+use Rattle.std.proofs.lemmas.List.{get_or_default, get_or-take, get_or_append_left, get_or_push, length-take-le, length_push, map-append}
 use Rattle.list_laws.proofs.Members.{Contains-map}
 use Rattle.cnf_formula.specs.{Literals.{LitValue, negation}, Lines.ProofLineValue}
-use Rattle.trail_core.{specs.{Assigned.IsFalse, Formed.IsTrail, Trails.{StepValue, lits_of}, Meaning.CoreValue}, proofs.Keeping.lits_length}
+use Rattle.trail_core.{specs.{Assigned.IsFalse, Formed.IsTrail, Trails.{StepValue, lits_of}, Meaning.CoreValue}}
 use Rattle.conflict_analysis.specs.{Learning.{number_of, hints_of, hints_to, IsOut, IsResolved, IsAnalysis}, UnitLines.{denied, IsUnitLine}}
 use Rattle.conflict_analysis.specs.{Met.{WalkValue, no_step, step_at, lit_at, mark_of, resolved_by, IsSeen, IsSorted, HasMet, IsPassed, IsReasoned}, inner.Walks.{HasWalked, HasSameAbove}}
 use Rattle.conflict_analysis.proofs.{Members.{here, only, cons_cases}, Marked.{false_before, same_place}, Pointed.{kinds, filter_none, IsBegun, met_unresolved, met_passed}}

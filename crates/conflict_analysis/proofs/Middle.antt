@@ -1,5 +1,5 @@
 -- Places between level 0 and the last level.
-use Rattle.std.proofs.{lemmas.{Bool.{Decides.nat_tests, cases_lt}, Grind.common_steps}, Common.{◌≡◌, ℕ, ◌+◌, ◌-◌, ◌<◌, ◌≤◌, length, get_or, ⊎_elim, arith}}
+use Rattle.std.proofs.{lemmas.{Bool.{Decides.nat_tests}, Grind.common_steps}, Common.{ℕ, ◌-◌, ◌<◌, ◌≤◌, length, get_or, arith}}
 use Rattle.trail_core.specs.{Assigned.level_at, Meaning.CoreValue, Formed.IsTrail}
 use Rattle.conflict_analysis.{specs.{Met.{WalkValue, IsSorted, IsPassed}, inner.Walks.HasWalked}, proofs.{Levels.limits_rise, Marked.level_within, Pointed.{high_place, bottom_place}}}
 

@@ -1,6 +1,6 @@
 -- Where the walk begins and ends: one literal of the last level is left, and all others that are kept became false below it.
 use Rattle.std.proofs.lemmas.{Bool.Decides.nat_tests, Grind.common_steps}
-use Rattle.std.proofs.{Common.{suc, ◌-◌, ◌≡◌, ℕ, ◌+◌, ◌<◌, ◌≤◌, Bool, false, List, [], ◌∷◌, length, get_or, take, refl, sym, ap, ◌∙◌, inl, inr, ⊎_elim, arith, ◌≢◌, ◌⊎◌, Contains, filter, nat_le}, lemmas.List.{get_or-take, length-take-le}}
+use Rattle.std.proofs.{Common.{suc, ◌-◌, ◌≡◌, ℕ, ◌+◌, ◌<◌, ◌≤◌, Bool, false, List, [], ◌∷◌, length, get_or, take, refl, sym, ap, ◌∙◌, ⊎_elim, arith, ◌≢◌, ◌⊎◌, Contains, filter, nat_le}, lemmas.List.{get_or-take, length-take-le}}
 use Rattle.std.proofs.lemmas.{List.{Sums.count_by-le-length, Elements.{All-contains, Contains-get_or}}, Bool.{cases_lt, cases_eq, ne_eqb}}
 use Rattle.cnf_formula.specs.{Formulas.IsAbout, Literals.{LitValue, negation}}
 use Rattle.trail_core.{specs.{Assigned.{IsFalse, IsOpen, AreLimits, level_at}, Trails.StepValue, Meaning.{CoreValue, trues}, Formed.IsTrail}, proofs.{Trails.all_counted, Keeping.lits_length}}

@@ -1,9 +1,8 @@
 -- A step is taken for its reason.
-use Rattle.std.proofs.Common.{zero, suc, ◌≡◌, ℕ, ◌+◌, ◌<◌, ◌≤◌, ℤ, Bool, true, false, List, [], ◌∷◌, ◌++◌, Option, length, get_or, set, take, cond, refl, sym, ap, ◌∙◌, subst, inl, inr, ⊎_elim, arith, eq-eqb, ◌≢◌, ◌⊎◌, ◌==◌, Contains, Some, IsSome, map, filter, pos, reverse}
-use Rattle.std.proofs.lemmas.{Bool.{cases_eq, cases_lt, eqb-true, ne_eqb}, List.{Elements.All-contains, get_or-set_other, get_or_default, length-take-le, reverse-append, get_or-take, take-map}}
-use Rattle.list_laws.proofs.Tests.{same_test}
+use Rattle.std.proofs.Common.{zero, suc, ◌≡◌, ℕ, ◌+◌, ◌<◌, ◌≤◌, ℤ, Bool, true, false, List, [], ◌∷◌, ◌++◌, Option, length, get_or, set, take, cond, refl, sym, ap, ◌∙◌, subst, inl, inr, ⊎_elim, arith, eq-eqb, ◌≢◌, ◌⊎◌, Contains, Some, IsSome, map, filter, pos, reverse}
+use Rattle.std.proofs.lemmas.{Bool.{cases_eq, ne_eqb}, List.{Elements.All-contains, get_or-set_other, get_or_default, reverse-append, take-map}}
 use Rattle.cnf_formula.specs.{Literals.{LitValue, negation}, Formulas.IsAbout}
-use Rattle.trail_core.{specs.{Assigned.{IsFalse, level_at}, Trails.lits_of, Search.IsImplied, Kept.{IsDue, AreGrounded}, Meaning.{CoreValue, trues}, Formed.IsTrail}, proofs.Keeping.{lits_length, in_front}}
+use Rattle.trail_core.{specs.{Assigned.{IsFalse, level_at}, Trails.lits_of, Search.IsImplied, Kept.{IsDue, AreGrounded}, Meaning.{CoreValue, trues}, Formed.IsTrail}, proofs.Keeping.{in_front}}
 use Rattle.conflict_analysis.specs.{Learning.{number_of, hints_of}, inner.Walks.{IsStep, without, IsTaken, HasWalked, HasSameOpen, HasSameAbove}}
 use Rattle.conflict_analysis.specs.Met.{WalkValue, step_at, no_step, lit_at, mark_of, resolved_by, IsSeen, IsSorted, IsReasoned, IsPassed, IsOnward}
 use Rattle.conflict_analysis.proofs.{Levels.level_grows, Marked.{false_before, lit_read, lit_about, same_place, mark_same, marked_set, noted_same, kept_set}}

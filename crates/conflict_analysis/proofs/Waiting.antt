@@ -1,5 +1,5 @@
 -- A step that waits has a reason.
-use Rattle.std.proofs.{lemmas.{Bool.{Decides.nat_tests, cases_lt, cases_eq}, Grind.common_steps}, Common.{◌≡◌, ℕ, ◌+◌, ◌-◌, ◌<◌, ◌≤◌, length, get_or, set, take, refl, sym, ap, ◌∙◌, subst, ⊎_elim, arith, ◌≢◌, Contains}}
+use Rattle.std.proofs.{lemmas.{Bool.{Decides.nat_tests, cases_eq}, Grind.common_steps}, Common.{◌≡◌, ℕ, ◌+◌, ◌-◌, ◌<◌, ◌≤◌, length, get_or, set, take, refl, sym, ap, ◌∙◌, subst, ⊎_elim, arith, ◌≢◌, Contains}}
 use Rattle.std.proofs.lemmas.List.{get_or_default, length-take-le}
 use Rattle.cnf_formula.specs.Literals.{LitValue}
 use Rattle.trail_core.specs.{Search.IsImplied, Kept.{IsDue, AreGrounded}, Meaning.CoreValue, Formed.IsTrail}

@@ -1,6 +1,5 @@
-use Rattle.std.proofs.Common.{◌≡◌, length, sym, ap, ◌∙◌, arith}
+use Rattle.std.proofs.Common.{◌≡◌, sym, ap, ◌∙◌}
 use Rattle.cnf_formula.specs.Literals.{LitValue}
-use Rattle.trail_core.proofs.Keeping.{lits_length}
 use Rattle.conflict_analysis.{specs.Met.{value_of, WalkValue, lit_at, mark_of}, proofs.{Resolved.place_read, Waiting.point_alone}}
 use Rattle.conflict_analysis.proofs.analyze.point_below.Goals as goal
 

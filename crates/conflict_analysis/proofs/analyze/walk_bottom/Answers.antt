@@ -1,5 +1,5 @@
 use Rattle.std.proofs.Common.{◌-◌, arith}
-use Rattle.conflict_analysis.{specs.Met.value_of, proofs.{Resolved.{walked_on, open_on, above_on}, Waiting.{walked_none, walked_all, same_open, same_above, bottom_step}}}
+use Rattle.conflict_analysis.{specs.Met.value_of, proofs.{Resolved.{walked_on, open_on, above_on}, Waiting.{walked_all, bottom_step}}}
 use Rattle.conflict_analysis.proofs.analyze.walk_bottom.Goals as goal
 
 pub resolve-requires-clause-step : goal.resolve-requires-clause-step

@@ -1,6 +1,5 @@
 use Rattle.std.proofs.Common.{◌-◌, arith}
-use Rattle.trail_core.proofs.Keeping.{lits_length}
-use Rattle.conflict_analysis.{specs.Met.value_of, proofs.{Resolved.walked_on, Waiting.{walked_none, open_step}}}
+use Rattle.conflict_analysis.{specs.Met.value_of, proofs.{Resolved.walked_on, Waiting.{open_step}}}
 use Rattle.conflict_analysis.proofs.analyze.walk_last.Goals as goal
 
 pub resolve-requires-clause-step : goal.resolve-requires-clause-step

@@ -1,6 +1,6 @@
-use Rattle.std.proofs.Common.{[], List, get_or, arith}
+use Rattle.std.proofs.Common.{[], List, get_or}
 use Rattle.cnf_formula.specs.Literals.{LitValue}
-use Rattle.conflict_analysis.{specs.Met.value_of, proofs.Marked.{met_none, met_next, met_still, met_whole, read_stands}}
+use Rattle.conflict_analysis.{specs.Met.value_of, proofs.Marked.{met_next, read_stands}}
 use Rattle.conflict_analysis.proofs.meeting.meet_all.Goals as goal
 
 pub meet-requires-clause-within : goal.meet-requires-clause-within

@@ -1,7 +1,7 @@
-use Rattle.std.proofs.{lemmas.{Bool.Decides.nat_tests, Grind.common_steps, Int.to_z-of_z, Result.on_ok_weaker}, Common.{arith, of_z, to_z, rules, w64, ◌≡◌, ◌+◌, ◌<◌, [], length, get_or, set, sym, ◌∙◌, subst, ◌⊎◌, Contains, pos}}
+use Rattle.std.proofs.{lemmas.{Int.to_z-of_z, Result.on_ok_weaker}, Common.{of_z, to_z, rules, w64, ◌≡◌, ◌+◌, ◌<◌, [], length, get_or, set, sym, ◌∙◌, subst, ◌⊎◌, Contains, pos}}
 use Rattle.trail_core.specs.{Assigned.IsFalse, Meaning.trues}
 use Rattle.conflict_analysis.specs.{Met.{value_of, WalkValue, lit_at, IsSorted, IsSeen, HasMet}, inner.Walks.without}
-use Rattle.conflict_analysis.proofs.{Marked.lit_stands, Resolved.{step_read, place_read, reason_some, without_is, without_sorted, others_met, others_within}, meeting.resolve.Goals.After-var}
+use Rattle.conflict_analysis.proofs.{Resolved.{step_read, place_read, reason_some, without_is, without_sorted, others_met, others_within}, meeting.resolve.Goals.After-var}
 use Rattle.conflict_analysis.proofs.meeting.resolve.Goals as goal
 
 pub unwrap-reason-requires : goal.unwrap-reason-requires

@@ -1,5 +1,4 @@
-use Rattle.std.proofs.{lemmas.{Grind.common_steps, Bool.false≢true}, Common.arith}
-use Rattle.conflict_analysis.{specs.Met.value_of, proofs.Waiting.{waits_below, next_passed, passed_over}}
+use Rattle.conflict_analysis.{specs.Met.value_of, proofs.Waiting.{waits_below}}
 use Rattle.conflict_analysis.proofs.meeting.waiting_below.Goals as goal
 
 pub met_below-place-requires : goal.met_below-place-requires

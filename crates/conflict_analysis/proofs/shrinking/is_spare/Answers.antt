@@ -1,6 +1,6 @@
-use Rattle.std.proofs.{lemmas.{Bool.Decides.nat_tests, Grind.common_steps}, Common.{arith, ◌≡◌}}
+use Rattle.std.proofs.{Common.{◌≡◌}}
 use Rattle.cnf_formula.specs.Literals.{LitValue}
-use Rattle.conflict_analysis.{specs.{Met.{value_of, lit_at}, inner.Walks.IsStep}, proofs.{Marked.lit_stands, Resolved.{place_read, reason_implied}, Waiting.kept_step, shrinking.is_spare.Goals.In-Some}}
+use Rattle.conflict_analysis.{specs.{Met.{value_of, lit_at}, inner.Walks.IsStep}, proofs.{Resolved.{place_read, reason_implied}, Waiting.kept_step, shrinking.is_spare.Goals.In-Some}}
 use Rattle.conflict_analysis.proofs.shrinking.is_spare.Goals as goal
 
 -- a literal that is kept and has a reason

@@ -1,5 +1,5 @@
 use Rattle.std.proofs.{lemmas.{Bool.Decides.nat_tests, Grind.common_steps}, Common.{◌+◌, ◌-◌, subst, arith, Contains}}
-use Rattle.conflict_analysis.{specs.Met.{value_of, WalkValue}, proofs.{Levels.limits_rise, Middle.{middle_at, passed_lower, walked_lower}, Resolved.{walked_on, open_on}, Waiting.{walked_none, same_open}}}
+use Rattle.conflict_analysis.{specs.Met.{value_of, WalkValue}, proofs.{Middle.{middle_at, passed_lower, walked_lower}, Resolved.{walked_on, open_on}}}
 use Rattle.conflict_analysis.proofs.shrinking.walk_level.Goals as goal
 
 pub count-requires : goal.count-requires

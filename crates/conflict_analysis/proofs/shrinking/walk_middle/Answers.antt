@@ -1,5 +1,4 @@
-use Rattle.std.proofs.Common.{◌-◌, subst, arith, Contains}
-use Rattle.conflict_analysis.proofs.Waiting.{same_open, same_open_then, walked_none, walked_then}
+use Rattle.std.proofs.Common.{subst, Contains}
 use Rattle.conflict_analysis.proofs.shrinking.walk_middle.Goals as goal
 
 pub count-requires : goal.count-requires
