@@ -50,7 +50,6 @@ waits_none mark marks n = ⊎_elim (λ w. let r = waits_where mark marks w in ab
 -- where more than one is marked so, there is another
 pub waits_other : (mark : ℕ) (marks : List ℕ) (v : ℕ) → mark ≢ 0 → v < length marks → get_or marks v 0 ≡ mark → 1 < waiting mark marks → (u : ℕ) × (u ≢ v) × (get_or marks u 0 ≡ mark)
 waits_other mark marks v z w e many =
-    let less = waits_less mark marks v 0 w e (λ h. z (sym h)) in
-    let r = waits_where mark (set marks v 0) (omega (arith, less, many)) in
-    let n : r.0 ≢ v = λ h. z (sym r.2 ∙ ap (λ x. get_or (set marks v 0) x 0) h ∙ get_or-set_same marks v 0 0 w) in
+    let r = waits_where mark (set marks v 0) (grind (arith, waits_less mark marks v 0 w e)) in
+    let n : r.0 ≢ v = grind (arith, get_or-set_same marks v 0 0 w) in
     (r.0, n, sym (get_or-set_other marks v r.0 0 0 n) ∙ r.2)

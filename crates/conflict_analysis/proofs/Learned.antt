@@ -70,17 +70,10 @@ ended_analysis core conflict w point d = record {
 
 ended_once : (core : CoreValue) (w : WalkValue) (point : Option LitValue) → IsSorted core w → ((o : LitValue) → Contains w.lits o → mark_of w o ≡ w.stamp) → MatchOption point (length core.limits ≡ 0) (λ l. IsImplicationPoint core w l × (0 < length core.limits)) → AllPairs (λ a b. a.var ≢ b.var) (w.lits ++ point_lits point)
 ended_once core w None s x p = subst (AllPairs (λ a b. a.var ≢ b.var)) (sym (append-nil w.lits)) s.kept.once
-ended_once core w (Some l) s exact p = all_pairs_push (λ a b. a.var ≢ b.var) w.lits (negation l) s.kept.once (λ k x v e.
-    let o = get_or w.lits k x in
-    let h = exact o (Contains-get_or w.lits k x v) in
-    omega (arith, h, ap (λ y. get_or w.marks y 0) e, p.0.waits))
+ended_once core w (Some l) s exact p = all_pairs_push (λ a b. a.var ≢ b.var) w.lits (negation l) s.kept.once (λ k x v e. grind (arith, exact (get_or w.lits k x) (Contains-get_or w.lits k x v), p.0.waits))
 
 ended_closes : (core : CoreValue) (w : WalkValue) (point : Option LitValue) → IsSorted core w → ((o : LitValue) → Contains w.lits o → mark_of w o ≡ w.stamp) → MatchOption point (length core.limits ≡ 0) (λ l. IsImplicationPoint core w l × (0 < length core.limits)) → length core.limits ≡ 0 → w.lits ++ point_lits point ≡ []
-ended_closes core w None s exact p z = append-nil w.lits ∙ nil_by w.lits (λ o c.
-    let h = s.kept.of o c in
-    let i = false_at core o h.1 in
-    let low = s.marked.low i.0 i.1.within (ap (λ v. get_or w.marks v 0) i.1.var ∙ exact o c) in
-    omega (arith, low, z))
+ended_closes core w None s exact p z = append-nil w.lits ∙ nil_by w.lits (λ o c. let i = false_at core o (s.kept.of o c).1 in grind (arith, s.marked.low i.0 i.1.within, i.1.var, exact o c))
 ended_closes core w (Some l) s exact p z = absurd (omega (arith, p.1, z))
 
 ended_points : (core : CoreValue) (conflict : ℕ) (w : WalkValue) (point : Option LitValue) → IsConflict core conflict → IsSorted core w → ((o : LitValue) → Contains w.lits o → mark_of w o ≡ w.stamp) → MatchOption point (length core.limits ≡ 0) (λ l. IsImplicationPoint core w l × (0 < length core.limits)) → 0 < length core.limits → IsPointed core (w.lits ++ point_lits point)
@@ -90,16 +83,12 @@ ended_points core conflict w (Some l) c s exact p some = record {
   point = negation l;
   is = refl;
   open_ = λ last e.
-      let top = c.formed.levels.below last (omega (arith, e)) in
       let q : mark_of w (lit_at core p.0.place) ≡ w.stamp + 1 = ap (mark_of w) p.0.is ∙ p.0.waits in
-      let high = high_place core.limits last p.0.place e (s.marked.top p.0.place p.0.within q).0 in
-      open_below core (negation l) p.0.place (get_or core.limits last 0) c.formed p.0.within (ap (λ x. x.var) p.0.is) high;
+      open_below core (negation l) p.0.place (get_or core.limits last 0) c.formed p.0.within (ap (λ x. x.var) p.0.is) (high_place core.limits last p.0.place e (s.marked.top p.0.place p.0.within q).0);
   lower = λ last e o k.
-      let top = c.formed.levels.below last (omega (arith, e)) in
-      let f = s.kept.of o k in
-      let i = false_at core o f.1 in
+      let i = false_at core o (s.kept.of o k).1 in
       let low = s.marked.low i.0 i.1.within (ap (λ v. get_or w.marks v 0) i.1.var ∙ exact o k) in
-      false_below core o i.0 (get_or core.limits last 0) i.1 (low_place core.limits (length core.trail) last i.0 c.formed.levels e low) (omega (arith, top));
+      false_below core o i.0 (get_or core.limits last 0) i.1 (low_place core.limits (length core.trail) last i.0 c.formed.levels e low) (grind (arith, c.formed.levels.below last));
 }
 
 pub learned_by : (core : CoreValue) (conflict : ℕ) (w : WalkValue) (point : Option LitValue) (line : ProofLineValue) → IsEnded core conflict w point → line.id ≡ length core.clauses + 1 → line.lits ≡ w.lits ++ point_lits point → line.hints ≡ reverse w.hints ++ pos (conflict + 1) ∷ [] → IsLearned core conflict line

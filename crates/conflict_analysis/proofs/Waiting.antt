@@ -57,12 +57,10 @@ open_step core w place t g s many n =
 
 -- of level 0
 pub bottom_step : (core : CoreValue) (w : WalkValue) (place : ℕ) → IsTrail core.vars core.trail core.limits → AreGrounded core → IsSorted core w → IsNext core 3 w place → IsStep core (record w { open_ = w.open_; zeros = w.zeros - 1 }) place
-bottom_step core w place t g s n =
-    let less = one_less core w place 3 t s n.within n.waits (λ h. omega (arith, h)) in
-    step_by core w place 3 t s n.within n.waits (λ h. omega (arith, h)) w.open_ (w.zeros - 1)
+bottom_step core w place t g s n = step_by core w place 3 t s n.within n.waits (λ h. omega (arith, h)) w.open_ (w.zeros - 1)
     (implied_at core place g n.within (λ c. some_level core.limits place c (s.marked.bottom place n.within n.waits)))
-    (s.open_ ∙ others_wait core w place 3 t s n.within n.waits (λ h. omega (arith, h)) 1 (λ h. omega (arith, h)) (λ h. omega (arith, h)))
-    (omega (arith, less, s.zeros))
+    (grind (arith, others_wait core w place 3 t s n.within n.waits (λ h. omega (arith, h)) 1, s.open_))
+    (grind (arith, one_less core w place 3 t s n.within n.waits (λ h. omega (arith, h)), s.zeros))
 
 -- of a literal that was kept
 pub kept_step : (core : CoreValue) (w : WalkValue) (place : ℕ) → IsTrail core.vars core.trail core.limits → IsSorted core w → place < length core.trail → mark_of w (lit_at core place) ≡ w.stamp + 0 → IsImplied core.clauses (IsDue core.limits) (take place core.trail) (step_at core place) → IsStep core (record w { open_ = w.open_; zeros = w.zeros }) place
@@ -70,28 +68,16 @@ kept_step core w place t s v e i = grind (arith, nat_tests, common_steps, others
 
 -- ---- walks
 
-pub onward_same : (w : WalkValue) → IsOnward w w
-onward_same w = record { stamp = refl; seen = λ o h. h }
-
-pub onward_then : (a b c : WalkValue) → IsOnward a b → IsOnward b c → IsOnward a c
-onward_then a b c p q = record { stamp = q.stamp ∙ p.stamp; seen = λ o h. q.seen o (p.seen o h) }
-
-pub same_open : (core : CoreValue) (w : WalkValue) → HasSameOpen core w w
-same_open core w = record { before = λ k v e. e; after = λ k v e. e }
-
 pub same_open_then : (core : CoreValue) (a b c : WalkValue) → HasSameOpen core a b → HasSameOpen core b c → HasSameOpen core a c
 same_open_then core a b c p q = record { before = λ k v e. p.before k v (q.before k v e); after = λ k v e. q.after k v (p.after k v e) }
 
-pub same_above : (core : CoreValue) (from : ℕ) (w : WalkValue) → HasSameAbove core from w w
-same_above core from w = record { above = λ k v ge e. e }
-
 -- before a walk
 pub walked_none : (core : CoreValue) (kind : ℕ) (w : WalkValue) (place : ℕ) → place ≤ length core.trail → IsSorted core w → IsPassed core kind w place → HasWalked core kind w w place
-walked_none core kind w place le s p = record { within = le; sorted = s; onward = onward_same w; passed = p }
+walked_none core kind w place le s p = grind arith
 
 -- and one walk after another
 pub walked_then : (core : CoreValue) (first kind : ℕ) (a b c : WalkValue) (from place : ℕ) → HasWalked core first a b from → HasWalked core kind b c place → HasWalked core kind a c place
-walked_then core first kind a b c from place p q = record { within = q.within; sorted = q.sorted; onward = onward_then a b c p.onward q.onward; passed = q.passed }
+walked_then core first kind a b c from place p q = grind arith
 
 -- where no step of level 0 waits, all are passed
 pub walked_all : (core : CoreValue) (a w : WalkValue) (place : ℕ) → IsTrail core.vars core.trail core.limits → w.zeros ≡ 0 → HasWalked core 3 a w place → HasWalked core 3 a w 0

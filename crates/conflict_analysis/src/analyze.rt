@@ -48,7 +48,7 @@ fn point_below(core: &Core, walk: &Walk, from: usize) -> Lit
 }
 
 /// Resolves all steps of level 0 that wait, from a place above them on.
-#[tactic(auto, using(crate::proofs::Waiting::walked_none, crate::proofs::Waiting::same_open, crate::proofs::Waiting::same_above))]
+#[tactic(auto, using(crate::proofs::Waiting::walked_none))]
 pub fn walk_bottom(core: &Core, walk: &mut Walk, from: usize) -> Result<(), OutOfMemory>
     requires formed { IsTrail core.now.vars core.now.trail core.now.limits }
     requires grounded { AreGrounded core.now }

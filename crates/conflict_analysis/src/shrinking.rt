@@ -44,7 +44,7 @@ fn is_spare(
 /// Resolves the steps of a level between level 0 and the last level whose literals are to be taken
 /// out. One that is left alone of its level stays: its reasons lead to the decision of the level, so
 /// the others do not imply it.
-#[tactic(auto, using(std::proofs::lemmas::Bool::Decides::nat_tests, std::proofs::lemmas::Grind::common_steps, crate::proofs::Levels::limits_rise, crate::proofs::Waiting::walked_none, crate::proofs::Middle::walked_lower, crate::proofs::Waiting::same_open, crate::proofs::Middle::middle_at))]
+#[tactic(auto, using(std::proofs::lemmas::Bool::Decides::nat_tests, std::proofs::lemmas::Grind::common_steps, crate::proofs::Levels::limits_rise, crate::proofs::Waiting::walked_none, crate::proofs::Middle::walked_lower, crate::proofs::Middle::middle_at))]
 fn walk_level(
     core: &Core,
     walk: &mut Walk,
@@ -83,7 +83,7 @@ fn walk_level(
 }
 
 /// Resolves the steps between level 0 and the last level whose literals are to be taken out.
-#[tactic(auto, using(crate::proofs::Waiting::same_open, crate::proofs::Waiting::same_open_then, crate::proofs::Waiting::walked_none, crate::proofs::Waiting::walked_then))]
+#[tactic(auto, using(crate::proofs::Waiting::same_open_then, crate::proofs::Waiting::walked_none, crate::proofs::Waiting::walked_then))]
 pub fn walk_middle(core: &Core, walk: &mut Walk, implied: &mut Implied) -> Result<(), OutOfMemory>
     requires formed { IsTrail core.now.vars core.now.trail core.now.limits }
     requires sorted { IsSorted core.now (value_of walk.old) }
