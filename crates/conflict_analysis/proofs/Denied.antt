@@ -1,7 +1,6 @@
 -- A literal of level 0 follows from its reason, where the steps that its walk met are taken for theirs.
 use Rattle.std.proofs.Common.{zero, suc, ◌≡◌, ℕ, ◌+◌, ◌<◌, ◌≤◌, Bool, true, false, List, [], ◌∷◌, ◌++◌, length, get_or, take, refl, sym, ap, ◌∙◌, subst, inl, inr, ⊎_elim, arith, eq-eqb, Contains, Option, None, Some, filter, map, reverse, pos}
-use Rattle.std.proofs.lemmas.{Bool.{cases_eq, cases_lt, cases_Bool, eqb-true, ne_eqb, false≢true}, List.Elements.Contains-push}
-use Rattle.std.proofs.lemmas.List.{get_or_default, get_or-take, get_or_append_left, get_or_push, length-take-le, length_push, map-append}
+use Rattle.std.proofs.lemmas.{Bool.{cases_eq, cases_lt, cases_Bool, eqb-true, ne_eqb, false≢true}, List.{Elements.Contains-push, get_or_default, get_or-take, get_or_append_left, get_or_push, length-take-le, length_push, map-append}}
 use Rattle.list_laws.proofs.Members.{Contains-map}
 use Rattle.cnf_formula.specs.{Literals.{LitValue, negation}, Lines.ProofLineValue}
 use Rattle.trail_core.{specs.{Assigned.IsFalse, Formed.IsTrail, Trails.{StepValue, lits_of}, Meaning.CoreValue}}

@@ -1,9 +1,9 @@
 -- A step that waits has a reason.
-use Rattle.std.proofs.{lemmas.{Bool.{Decides.nat_tests, cases_eq}, Grind.common_steps}, Common.{◌≡◌, ℕ, ◌+◌, ◌-◌, ◌<◌, ◌≤◌, length, get_or, set, take, refl, sym, ap, ◌∙◌, subst, ⊎_elim, arith, ◌≢◌, Contains}}
+use Rattle.std.proofs.{lemmas.{Bool.{Decides.nat_tests, cases_eq}, Grind.common_steps}, Common.{◌≡◌, ℕ, ◌+◌, ◌-◌, ◌<◌, ◌≤◌, length, get_or, set, take, sym, ap, ◌∙◌, subst, ⊎_elim, arith, ◌≢◌, Contains}}
 use Rattle.std.proofs.lemmas.List.{get_or_default, length-take-le}
 use Rattle.cnf_formula.specs.Literals.{LitValue}
 use Rattle.trail_core.specs.{Search.IsImplied, Kept.{IsDue, AreGrounded}, Meaning.CoreValue, Formed.IsTrail}
-use Rattle.conflict_analysis.specs.{Met.{WalkValue, step_at, no_step, lit_at, mark_of, IsSorted, IsPassed, IsOnward, waiting}, PlaceSets.HasPlace, inner.Walks.{IsNext, IsStep, HasWalked, HasSameOpen, HasSameAbove}}
+use Rattle.conflict_analysis.specs.{Met.{WalkValue, step_at, no_step, lit_at, mark_of, IsSorted, IsPassed, waiting}, PlaceSets.HasPlace, inner.Walks.{IsNext, IsStep, HasWalked}}
 use Rattle.conflict_analysis.proofs.{Levels.{level_below, some_level}, Marked.{lit_about, same_place}, Counted.{waits_some, waits_less, waits_same, waits_where, waits_other, waits_two}}
 
 -- a step that is not the first of its level is implied
@@ -67,9 +67,6 @@ pub kept_step : (core : CoreValue) (w : WalkValue) (place : ℕ) → IsTrail cor
 kept_step core w place t s v e i = grind (arith, nat_tests, common_steps, others_wait, step_by)
 
 -- ---- walks
-
-pub same_open_then : (core : CoreValue) (a b c : WalkValue) → HasSameOpen core a b → HasSameOpen core b c → HasSameOpen core a c
-same_open_then core a b c p q = record { before = λ k v e. p.before k v (q.before k v e); after = λ k v e. q.after k v (p.after k v e) }
 
 -- before a walk
 pub walked_none : (core : CoreValue) (kind : ℕ) (w : WalkValue) (place : ℕ) → place ≤ length core.trail → IsSorted core w → IsPassed core kind w place → HasWalked core kind w w place

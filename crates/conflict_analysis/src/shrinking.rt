@@ -83,7 +83,7 @@ fn walk_level(
 }
 
 /// Resolves the steps between level 0 and the last level whose literals are to be taken out.
-#[tactic(auto, using(crate::proofs::Waiting::same_open_then, crate::proofs::Waiting::walked_none, crate::proofs::Waiting::walked_then))]
+#[tactic(auto, using(crate::proofs::Waiting::walked_none, crate::proofs::Waiting::walked_then))]
 pub fn walk_middle(core: &Core, walk: &mut Walk, implied: &mut Implied) -> Result<(), OutOfMemory>
     requires formed { IsTrail core.now.vars core.now.trail core.now.limits }
     requires sorted { IsSorted core.now (value_of walk.old) }

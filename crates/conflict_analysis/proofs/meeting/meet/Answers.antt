@@ -1,7 +1,6 @@
 use Rattle.std.proofs.{lemmas.{Bool.Decides.nat_tests, Grind.common_steps}, Common.{◌≡◌, arith}}
 use Rattle.trail_core.specs.{Assigned.level_at}
-use Rattle.conflict_analysis.specs.Met.{value_of}
-use Rattle.conflict_analysis.proofs.{Marked.{IsUnmet, met_bottom, met_open, met_kept, unmet_by, unmet_at, level_read, level_within}, meeting.meet.Goals.{After-negated-this, After-level-level}}
+use Rattle.conflict_analysis.{specs.Met.value_of, proofs.{Marked.{IsUnmet, met_bottom, met_open, met_kept, unmet_by, unmet_at, level_read, level_within}, meeting.meet.Goals.{After-negated-this, After-level-level}}}
 use Rattle.conflict_analysis.proofs.meeting.meet.Goals as goal
 
 -- the literal was not met, and became false at this place
