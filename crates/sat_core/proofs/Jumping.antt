@@ -7,7 +7,7 @@ use Rattle.cnf_formula.specs.{Literals.{LitValue, negation}, Formulas.IsAbout, L
 use Rattle.trail_core.specs.{Assigned.{IsFalse, IsOpen, AreLimits, level_at}, Trails.{StepValue, TrailValue}, Search.IsUnit, Formed.IsTrail, Meaning.{CoreValue, trues}, Kept.{IsDue, CanAdd, CanAddTo}}
 use Rattle.trail_core.proofs.{Trails.{all_counted, level_at_cut}, Keeping.{lits_length, nil_limits, in_front}}
 use Rattle.sat_core.specs.inner.Jumping.{gone_back, IsBacked, HasLevel, AreUpTo, front_of}
-use Rattle.conflict_analysis.{specs.{Learned.{IsPointed, IsLearned}, Met.lit_at}, proofs.{Marked.{IsAt, false_at, lit_read, same_place, level_within, level_read}, Levels.{level_below, limits_rise}, Pointed.false_below}}
+use Rattle.conflict_analysis.{specs.{Learned.{IsPointed, IsLearned}, Met.lit_at}, proofs.{Marked.{IsAt, false_at, false_before, lit_read, same_place, level_within, level_read}, Levels.{level_below, limits_rise}, Pointed.false_below}}
 
 -- what may be added is due
 pub due_by : (t : TrailValue) (clause : List LitValue) → CanAddTo t clause → AreLimits t.limits (length t.steps) → IsDue t.limits t.steps clause
@@ -75,15 +75,11 @@ lower_levels core lits level t some b h =
     let last = length core.limits - 1 in
     let m = get_or core.limits last 0 in
     let top = t.levels.below last (omega (arith, some)) in
-    let f = b.pointed.lower last (omega (arith, some)) h.lit (subst (λ xs. Contains xs h.lit) (front_is b.pointed.front lits b.pointed.point b.pointed.is) h.stands) in
-    let n = length-take-le m (trues core) (omega (arith, top, lits_length core.trail)) in
-    let lt : f.0 < m = omega (arith, f.1, n) in
-    let v : f.0 < length core.trail = omega (arith, lt, top) in
-    let at : lit_at core f.0 ≡ negation h.lit = sym (lit_read core f.0 (negation h.lit) v) ∙ sym (get_or-take m (trues core) f.0 (negation h.lit) lt) ∙ f.2 in
-    let same : f.0 ≡ h.place = same_place core f.0 h.place t v h.within (ap (λ x. x.var) (at ∙ sym h.is)) in
-    let r = level_below core.limits h.place m (omega (arith, same, lt)) (Contains-get_or core.limits last 0 (omega (arith, some))) in
-    let w = level_within core m in
-    omega (arith, r, w, h.at)
+    let low = b.pointed.lower last (omega (arith, some)) h.lit (subst (λ xs. Contains xs h.lit) (front_is b.pointed.front lits b.pointed.point b.pointed.is) h.stands) in
+    let f = false_before core h.lit m (omega (arith, top)) (subst (λ xs. IsFalse xs h.lit) (take-map (λ s. s.lit) m core.trail) low) in
+    let same : f.0 ≡ h.place = same_place core f.0 h.place t f.2.within h.within (ap (λ x. x.var) (f.2.is ∙ sym h.is)) in
+    let r = level_below core.limits h.place m (omega (arith, same, f.1)) (Contains-get_or core.limits last 0 (omega (arith, some))) in
+    omega (arith, r, level_within core m, h.at)
 
 -- ---- after it was gone back
 
