@@ -35,15 +35,6 @@ pub fn release_from(core: &Core, decider: &mut Decider, from: usize) -> Result<(
     decider.release(&trail[trail.len().min(from)..])
 }
 
-/// Gives the literals above a level to the decisions that come.
-fn release(core: &Core, decider: &mut Decider, level: u32) -> Result<(), OutOfMemory>
-    requires level { level ≤ length core.now.limits }
-    requires decider { decider.old ≡ core.now.vars }
-    ensures { decider.new ≡ decider.old }
-{
-    release_from(core, decider, core.height(level))
-}
-
 /// Goes back to level 0.
 pub fn go_to_bottom(core: &mut Core, decider: &mut Decider) -> Result<(), OutOfMemory>
     requires decider { decider.old ≡ core.old.vars }
@@ -53,7 +44,7 @@ pub fn go_to_bottom(core: &mut Core, decider: &mut Decider) -> Result<(), OutOfM
     ensures bottom { OnOk result (length core.new.limits ≡ 0) }
     ensures trail { 0 < length core.old.limits → OnOk result (core.new.trail ≡ take (slice_index core.old.limits 0) core.old.trail) }
 {
-    release(core, decider, 0)?;
+    release_from(core, decider, core.height(0))?;
     core.back_to(0);
     Ok(())
 }
@@ -111,7 +102,7 @@ pub fn go_back(
     } else {
         highest(core, &lits[..lits.len() - 1])
     };
-    release(core, decider, level)?;
+    release_from(core, decider, core.height(level))?;
     if level == 0 {
         begin_anew(core, lits)
     } else {

@@ -1,7 +1,6 @@
 //! What a search keeps from turn to turn beside its core.
 
 ghost use Rattle.std.specs.Prelude.{◌<◌, IfOk};
-ghost use Rattle.conflict_analysis.specs.Met.{IsRested};
 ghost use Rattle.sat_core.specs.inner.Guided.{IsNewGuide};
 
 use cnf_formula::OutOfMemory;
@@ -23,31 +22,23 @@ pub struct Guide {
     pub glue: Glue,
 }
 
-/// The tables of analyses.
-fn tables_of(alloc: Global, vars: u32) -> Result<(Walk, Implied, Glue), OutOfMemory>
-    ensures { IfOk result (λ all. IsRested vars all.0.stamp all.0.marks.items) }
-{
-    let walk = Walk::new(alloc, vars)?;
-    let implied = Implied::new(alloc, vars)?;
-    let glue = Glue::new(alloc, vars)?;
-    Ok((walk, implied, glue))
-}
-
 impl Guide {
     /// What a search begins with: no clause sleeps.
     pub fn new(alloc: Global, vars: u32, awake: Awake) -> Result<Guide, OutOfMemory>
         requires { vars < 2147483648 }
         ensures { IfOk result (IsNewGuide vars awake) }
     {
-        let tables = tables_of(alloc, vars)?;
+        let walk = Walk::new(alloc, vars)?;
+        let implied = Implied::new(alloc, vars)?;
+        let glue = Glue::new(alloc, vars)?;
         Ok(Guide {
             sleepers: Sleepers::new(alloc, vars)?,
-            walk: tables.0,
-            implied: tables.1,
+            walk,
+            implied,
             decider: Decider::new(alloc, vars)?,
             restarts: Restarts::new(),
             awake,
-            glue: tables.2,
+            glue,
         })
     }
 }

@@ -11,18 +11,13 @@ level-level-requires c =
 
 pub loop-lit-preserved : goal.loop-lit-preserved
 loop-lit-preserved c =
-    let core = c.args.core.now in
-    let lits = c.args.lits.now in
     let x : LitValue = c.lit-item.result in
     let f = c.requires x (c.loop-lit.lit-index, c.loop-lit-test.true, sym c.lit-item.is) in
-    let inv : IsHighest core (take c.loop-lit.lit-index lits) c.loop-lit.top = record { up_to = c.loop-lit.invariant.top; has = c.loop-lit.invariant.attained } in
-    let more = highest_more core lits c.loop-lit.lit-index x c.negated.result c.loop-lit.top c.level-level.result c.if-level-top.top c.loop-lit-test.true c.lit-item.is c.negated.ensures f c.level-level.ensures inv in
+    let more = highest_more c.args.core.now c.args.lits.now c.loop-lit.lit-index x c.negated.result c.loop-lit.top c.level-level.result c.if-level-top.top c.loop-lit-test.true c.lit-item.is c.negated.ensures f c.level-level.ensures c.loop-lit.invariant in
     elim c.if-level-top.branch [
-      | then-level-top b ↦ let h = more (omega (arith, b.top-is, b.if-level-top.true)) (omega (arith, b.top-is)) (inr b.top-is) in record { top = h.up_to; attained = h.has }
-      | else-level-top b ↦ let h = more (omega (arith, b.top-is)) (omega (arith, b.top-is, b.if-level-top.false)) (inl b.top-is) in record { top = h.up_to; attained = h.has }
+      | then-level-top b ↦ more (omega (arith, b.top-is, b.if-level-top.true)) (omega (arith, b.top-is)) (inr b.top-is)
+      | else-level-top b ↦ more (omega (arith, b.top-is)) (omega (arith, b.top-is, b.if-level-top.false)) (inl b.top-is)
     ]
 
 pub returns-clause-top : goal.returns-clause-top
-returns-clause-top c =
-    let all : take c.loop-lit.lit-index c.args.lits.now ≡ c.args.lits.now = take_all c.loop-lit.lit-index c.args.lits.now (omega (arith, c.loop-lit-test.false)) in
-    subst (λ xs. AreUpTo c.args.core.now xs c.loop-lit.top) all c.loop-lit.invariant.top
+returns-clause-top c = subst (λ xs. AreUpTo c.args.core.now xs c.loop-lit.top) (take_all c.loop-lit.lit-index c.args.lits.now (omega (arith, c.loop-lit-test.false))) c.loop-lit.invariant.up_to
