@@ -66,21 +66,9 @@ fn jump(core: &mut Core, lits: &[Lit], level: u32) -> Result<ClauseId, OutOfMemo
     Ok(core.learn(lits, lits[lits.len() - 1])?)
 }
 
-/// Goes back to level 0, and adds the clause there.
-fn begin_anew(core: &mut Core, lits: &[Lit]) -> Result<ClauseId, OutOfMemory>
-    requires within { All (IsAbout core.old.vars) lits.now }
-    requires once { AllPairs (λ a b. a ≢ b) lits.now }
-    ensures vars { core.new.vars ≡ core.old.vars }
-    ensures id { IfOk result (λ id. id ≡ length core.old.clauses) }
-    ensures added { OnOk result (core.new.clauses ≡ core.old.clauses ++ lits.now ∷ []) }
-{
-    core.back_to(0);
-    Ok(core.add_clause(lits)?)
-}
-
 /// Goes back to the second highest level of the line's clause, or to level 0 where the search
 /// begins anew, and adds it. Gives its number in the core.
-#[tactic(auto, using(crate::proofs::Jumping::backed_within, crate::proofs::Jumping::lower_levels))]
+#[tactic(auto, using(crate::proofs::Jumping::backed_within, crate::proofs::Jumping::backed_differ, crate::proofs::Jumping::lower_levels))]
 pub fn go_back(
     core: &mut Core,
     decider: &mut Decider,
@@ -104,7 +92,8 @@ pub fn go_back(
     };
     release_from(core, decider, core.height(level))?;
     if level == 0 {
-        begin_anew(core, lits)
+        core.back_to(0);
+        Ok(core.add_clause(lits)?)
     } else {
         jump(core, lits, level)
     }

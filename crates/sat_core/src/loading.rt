@@ -32,26 +32,10 @@ fn are_few_apart(lits: &[Lit]) -> bool
     ensures { result ≡ true → AllPairs (λ a b. a ≢ b) lits.now }
 {
     match lits {
-        [first, second] => are_two_apart(*first, *second),
-        [first, second, third] => are_three_apart(*first, *second, *third),
+        [first, second] => first != second,
+        [first, second, third] => first != second && first != third && second != third,
         _ => are_paired_apart(lits),
     }
-}
-
-/// Whether two literals are not the same.
-fn are_two_apart(first: Lit, second: Lit) -> bool
-    ensures { result ≡ true → first ≢ second }
-{
-    first != second
-}
-
-/// Whether no two of three literals are the same.
-fn are_three_apart(first: Lit, second: Lit, third: Lit) -> bool
-    ensures second { result ≡ true → first ≢ second }
-    ensures third { result ≡ true → first ≢ third }
-    ensures last { result ≡ true → second ≢ third }
-{
-    first != second && first != third && second != third
 }
 
 /// The same for any number of literals.
