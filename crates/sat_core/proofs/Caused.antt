@@ -1,10 +1,9 @@
 -- The cause of a fault, from call to call, and what a fault that is handed on leaves open.
-use Rattle.std.{proofs.{Common.{◌≡◌, ℕ, Result, Ok, Err, refl, sym, ap, ◌∙◌, subst, arith, ◌≢◌, IsErrAnd, OnOk}, lemmas.Bool.false≢true}, specs.Result.{IsErr, is_err}}
+use Rattle.std.{proofs.{Common.{◌≡◌, ℕ, Result, Ok, Err, refl, sym, ap, ◌∙◌, subst, arith, ◌≢◌, IsErrAnd, OnOk}, lemmas.{Bool.false≢true, Result.IfOk-from_err}}, specs.Result.{IsErr, is_err}}
 use Rattle.outer_ports.specs.Port.{HasCause}
 use Rattle.ledger_rules.specs.declared.fault.LedgerFault.{LedgerFault}
 use Rattle.ledger_rules.specs.declared.fault.LedgerFault.TheVariants as ledger
 use Rattle.sat_core.specs.{Faults.fault_of, declared.fault.SolveFault.{SolveFault, TheVariants.{LedgerFailed, OutOfMemory}}}
-use Rattle.std.proofs.lemmas.Result.{IfOk-from_err}
 
 -- what is handed on is a fault
 fault_is : {T E : Type 0} (last : Result T E) (told : E) → IsErrAnd last (λ e. e ≡ told) → last ≡ Err told

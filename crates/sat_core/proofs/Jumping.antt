@@ -5,9 +5,9 @@ use Rattle.std.proofs.lemmas.List.Sums.{sum_by-take-le}
 use Rattle.list_laws.proofs.Each.{all_contained}
 use Rattle.cnf_formula.specs.{Literals.{LitValue, negation}, Formulas.IsAbout, Lines.ProofLineValue}
 use Rattle.trail_core.specs.{Assigned.{IsFalse, IsOpen, AreLimits, level_at}, Trails.{StepValue, TrailValue}, Search.IsUnit, Formed.IsTrail, Meaning.{CoreValue, trues}, Kept.{IsDue, CanAdd, CanAddTo}}
-use Rattle.trail_core.proofs.{Trails.{all_counted, level_at_cut}, Keeping.{lits_length, nil_limits, in_front}}
+use Rattle.trail_core.proofs.{Trails.{all_counted, level_at_cut}, Keeping.{nil_limits, in_front}}
 use Rattle.sat_core.specs.inner.Jumping.{gone_back, IsBacked, HasLevel, AreUpTo, front_of}
-use Rattle.conflict_analysis.{specs.{Learned.{IsPointed, IsLearned}, Met.lit_at}, proofs.{Marked.{IsAt, false_at, false_before, lit_read, same_place, level_within, level_read}, Levels.{level_below, limits_rise}, Pointed.false_below}}
+use Rattle.conflict_analysis.{specs.{Learned.{IsPointed, IsLearned}}, proofs.{Marked.{IsAt, false_at, false_before, lit_read, same_place, level_within, level_read}, Levels.{level_below, limits_rise}, Pointed.false_below}}
 
 -- what may be added is due
 pub due_by : (t : TrailValue) (clause : List LitValue) → CanAddTo t clause → AreLimits t.limits (length t.steps) → IsDue t.limits t.steps clause

@@ -1,5 +1,5 @@
 -- Where nothing is left to decide, the values of the variables satisfy the formula.
-use Rattle.std.proofs.{Common.{◌≡◌, ◌+◌, ◌-◌, ◌<◌, Bool, true, false, List, [], length, get_or, refl, sym, ap, ◌∙◌, subst, ⊎_elim, arith, not, Contains}, lemmas.{Bool.cases_Bool, List.get_or_default}}
+use Rattle.std.proofs.{Common.{◌≡◌, ◌+◌, ◌-◌, ◌<◌, Bool, true, false, List, [], length, get_or, ap, ◌∙◌, subst, ⊎_elim, arith, not, Contains}, lemmas.{Bool.cases_Bool, List.get_or_default}}
 use Rattle.std.proofs.lemmas.List.{Elements.{Contains-get_or, All-contains}, Sums.list_all-from_AllPass}
 use Rattle.list_laws.proofs.Each.{all_contained}
 use Rattle.cnf_formula.specs.{Literals.{LitValue, yes, same_sign, value_of, is_true, clause_holds}, Lines.ProofLineValue, Formulas.{FormulaValue, IsAbout, IsClause, Satisfies}}

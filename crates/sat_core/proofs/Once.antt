@@ -1,8 +1,7 @@
 -- A trail that has each variable once is consistent.
-use Rattle.std.proofs.{Common.{◌≡◌, Bool, true, false, List, get_or, sym, ap, ◌∙◌, ⊎_elim, ◌≢◌, AllPairs, not}, lemmas.{Bool.{false≢true, cases_order}, List.get_or_default}}
+use Rattle.std.proofs.{Common.{◌≡◌, Bool, true, false, List, sym, ⊎_elim, ◌≢◌, AllPairs, not, arith}, lemmas.{Bool.{false≢true, cases_order}, List.get_or_default}}
 use Rattle.cnf_formula.specs.Literals.{LitValue, negation}
 use Rattle.trail_core.specs.Assigned.{IsConsistent}
-use Rattle.std.proofs.Common.{arith}
 
 abbrev pub Apart : LitValue → LitValue → Type 0
 Apart a b = a.var ≢ b.var

@@ -1,6 +1,6 @@
 -- A line that is accepted and added leaves the search ready.
 use Rattle.std.proofs.Common.{◌≡◌, ℕ, ◌+◌, ◌<◌, ◌≤◌, true, List, [], ◌∷◌, ◌++◌, false, get_or, set, length, refl, sym, ap, ◌∙◌, subst, inl, inr, ⊎_elim, arith, eq-eqb, ◌≢◌, ◌⊎◌, All, AllPairs, Contains, Some, map}
-use Rattle.std.proofs.lemmas.{Bool.{ne_eqb, or_right}, List.{get_or_append_left, length_push, Elements.{Contains-push, Contains-push_cases, Contains-append_left, All-head, All-tail, All-push}}}
+use Rattle.std.proofs.lemmas.{Bool.{ne_eqb, or_right, cases_lt}, List.{get_or_append_left, length_push, Elements.{Contains-push, Contains-push_cases, Contains-append_left, All-head, All-tail, All-push}, get_or_push}}
 use Rattle.cnf_formula.specs.{Literals.LitValue, Formulas.FormulaValue, Lines.ProofLineValue, declared.line.LratLine.TheVariants.Addition}
 use Rattle.proof_rules.specs.{declared.verdict.LineVerdict.TheVariants.Accepted as AcceptedVerdict, Held.{Entry, CheckerValue, start_of, clause_at}, Judging.verdict_of, Refuting.{is_fresh, with_line, after_lines, Refutes}}
 use Rattle.proof_rules.{specs.Learning.AllFresh, proofs.{InTurn.{after_more, implied_more, implied_accepted}, Kept.keeps_append}}
@@ -9,7 +9,6 @@ use Rattle.trail_core.specs.Meaning.{CoreValue}
 use Rattle.sat_core.{specs.{inner.Holding.{IsSame, IsHeldAs, AreNamed, AreAmongOr, AreHeld, IsNext}, Ready.{AreNumbered, AreWritten, IsHolding, IsReady}}, proofs.{Asleep.woken_stays, Members.both_more}}
 use Rattle.sleeping_clauses.specs.{Naming.IsListed, Sleeping.{SleepersValue, IsAsleep}, declared.awake.Awake.Awake}
 use Rattle.list_laws.proofs.Places.{by_place_push}
-use Rattle.std.proofs.lemmas.{List.get_or_push, Bool.cases_lt}
 
 -- ---- one line more
 

@@ -1,9 +1,8 @@
 -- A total core makes a literal of each of its clauses true.
-use Rattle.std.{specs.List.list_any, proofs.{Common.{Bool, true, false, List, sym, ◌∙◌, ⊎_elim, Contains, All}, lemmas.{Bool.{false≢true, cases_Bool}, List.{Elements.All-contains, Folds.Any-from_list_any}}}}
+use Rattle.std.{specs.List.list_any, proofs.{Common.{List, sym, ◌∙◌, ⊎_elim, Contains, All, arith}, lemmas.{Bool.{false≢true, cases_Bool}, List.{Elements.All-contains, Folds.Any-from_list_any}}}}
 use Rattle.cnf_formula.specs.{Literals.{LitValue, negation, no, has_literal}, Formulas.IsAbout}
 use Rattle.trail_core.specs.{Assigned.IsOpen, Search.IsSatisfied, Meaning.{CoreValue, trues}}
 use Rattle.sat_core.{specs.inner.Totals.IsTotal, proofs.Members.{any_by, found_by, stands_by, stands_or_not}}
-use Rattle.std.proofs.Common.{arith}
 
 -- an open literal's variable is open, as false too
 open_no : (ts : List LitValue) (l : LitValue) → (Contains ts l → ⊥) → (Contains ts (negation l) → ⊥) → IsOpen ts (no l.var)

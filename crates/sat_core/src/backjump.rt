@@ -1,7 +1,7 @@
 //! Going back from a conflict (backjump), and adding what was learned from it.
 
-ghost use Rattle.std.specs.Prelude.{◌≡◌, ◌≢◌, ◌+◌, ◌<◌, ◌≤◌, [], ◌∷◌, ◌++◌, Contains, AllPairs, All, length, slice_index, take, IfOk, OnOk};
-ghost use Rattle.cnf_formula.specs.{Literals.LitValue, Formulas.IsAbout};
+ghost use Rattle.std.specs.Prelude.{◌≡◌, ◌+◌, ◌<◌, [], ◌∷◌, ◌++◌, Contains, length, slice_index, take, IfOk, OnOk};
+ghost use Rattle.cnf_formula.specs.Literals.{LitValue};
 ghost use Rattle.trail_core.specs.{Assigned.IsFalse, Meaning.trues, Formed.IsTrail};
 ghost use Rattle.sat_core.specs.inner.Jumping.{HasLevel, AreUpTo, IsBacked, front_of};
 

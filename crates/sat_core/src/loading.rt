@@ -172,8 +172,7 @@ fn core_of(alloc: Global, own: u32, clauses: &ClauseList) -> Result<Core, OutOfM
     if are_all_apart(alloc, own, clauses)? {
         return Core::of_clauses(alloc, own, clauses);
     }
-    let once = once_in_each(alloc, own, clauses)?;
-    Core::of_clauses(alloc, own, &once)
+    Core::of_clauses(alloc, own, &once_in_each(alloc, own, clauses)?)
 }
 
 /// Each of these is a literal that there is. It costs nothing.

@@ -1,7 +1,7 @@
-use Rattle.std.proofs.{Common.{◌≡◌, take, sym, subst, inl, inr, arith, Contains}, lemmas.List.take_all}
+use Rattle.std.proofs.{Common.{sym, subst, inl, inr, arith, Contains}, lemmas.List.take_all}
 use Rattle.cnf_formula.specs.Literals.{LitValue}
 use Rattle.trail_core.specs.Meaning.{trues}
-use Rattle.sat_core.{specs.inner.Jumping.AreUpTo, proofs.{Jumping.{IsHighest, highest_more}, backjump.highest.Goals.{then-level-top, else-level-top}}}
+use Rattle.sat_core.{specs.inner.Jumping.AreUpTo, proofs.{Jumping.{highest_more}, backjump.highest.Goals.{then-level-top, else-level-top}}}
 use Rattle.sat_core.proofs.backjump.highest.Goals as goal
 
 pub level-level-requires : goal.level-level-requires

@@ -1,4 +1,4 @@
-use Rattle.std.proofs.{Common.{arith, ap, ◌∙◌, length, take}, lemmas.List.{length-set}}
+use Rattle.std.proofs.{Common.{ap, ◌∙◌, length, take}, lemmas.List.{length-set}}
 use Rattle.sat_core.proofs.Loaded.{keeping_new, next_taken}
 use Rattle.sat_core.proofs.loading.are_apart.Goals as goal
 

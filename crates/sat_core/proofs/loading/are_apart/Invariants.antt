@@ -1,4 +1,4 @@
-use Rattle.std.proofs.Common.{◌≡◌, ℕ, ◌≤◌, length, get_or, take}
+use Rattle.std.proofs.Common.{◌≡◌, length, take}
 use Rattle.sat_core.proofs.Loaded.{IsKeeping}
 use Rattle.sat_core.proofs.loading.are_apart.Given as goal
 

@@ -1,5 +1,5 @@
-use Rattle.std.proofs.Common.{◌≡◌, length, ap, subst, arith, flat_map}
-use Rattle.sat_core.{specs.inner.Loading.IsLoaded, proofs.Loaded.{IsNumbered, clauses_own, numbered_from, ready_loaded}}
+use Rattle.std.proofs.Common.{length, ap, subst, arith}
+use Rattle.sat_core.{specs.inner.Loading.IsLoaded, proofs.Loaded.{numbered_from, ready_loaded}}
 use Rattle.sat_core.proofs.loading.load.Goals as goal
 
 pub returns-clause-ready : goal.returns-clause-ready

@@ -1,6 +1,6 @@
-use Rattle.std.proofs.{Common.{◌≡◌, ◌<◌, List, [], ◌∷◌, ◌++◌, length, get_or, sym, ap, ◌∙◌, subst, arith, ◌≢◌, All, AllPairs}, lemmas.List.{take_all, Elements.{All-push, All-contains}}}
+use Rattle.std.proofs.{Common.{◌≡◌, ◌<◌, List, [], ◌∷◌, ◌++◌, length, get_or, sym, ap, ◌∙◌, subst, arith, ◌≢◌, All, AllPairs}, lemmas.List.{Elements.{All-push, All-contains}}}
 use Rattle.cnf_formula.specs.{Literals.LitValue, Formulas.{IsAbout, IsClause}}
-use Rattle.sat_core.{specs.inner.{Holding.IsSame, Loading.IsLoaded}, proofs.Loaded.{codes_within, kept_about, loaded_more}}
+use Rattle.sat_core.{specs.inner.{Holding.IsSame}, proofs.Loaded.{kept_about, loaded_more}}
 use Rattle.sat_core.proofs.loading.once_in_each.Goals as goal
 
 pub loop-place-preserved : goal.loop-place-preserved

@@ -1,4 +1,4 @@
-use Rattle.std.proofs.{Common.{◌≡◌, ◌∷◌, ◌++◌, [], Bool, false, List, arith, ⊎_elim}, lemmas.List.{length_push, get_or_append_left, get_or_push}}
+use Rattle.std.proofs.{Common.{◌≡◌, ◌∷◌, ◌++◌, [], Bool, false, List, arith}, lemmas.List.{length_push, get_or_append_left, get_or_push}}
 use Rattle.sat_core.proofs.model.model_of.Goals as goal
 
 pub loop-index-preserved : goal.loop-index-preserved

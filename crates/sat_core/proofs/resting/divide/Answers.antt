@@ -2,7 +2,7 @@ use Rattle.std.proofs.{Common.{◌≡◌, ℕ, ◌+◌, ◌<◌, true, List, [],
 use Rattle.cnf_formula.specs.{Literals.LitValue, Formulas.IsClause}
 use Rattle.trail_core.specs.Meaning.{CoreValue}
 use Rattle.sleeping_clauses.specs.{declared.awake.Awake.Awake, Naming.IsListed, Sleeping.SleepersValue}
-use Rattle.sat_core.proofs.{Listed.{clause_is, once_is}, Divided.{dividing_awake, dividing_asleep}}
+use Rattle.sat_core.proofs.{Listed.{clause_is}, Divided.{dividing_awake, dividing_asleep}}
 use Rattle.sat_core.proofs.resting.divide.Goals as goal
 
 name_is : (clauses : List (List LitValue)) (awake : Awake) (place read : ℕ) → IsListed clauses awake → place < length clauses → read ≡ get_or awake.names.items (place + 1) read → read ≡ get_or awake.names.items (place + 1) 0

@@ -1,6 +1,4 @@
-use Rattle.std.proofs.Common.{◌≡◌, length, sym, ap, ◌∙◌, subst, arith, All}
-use Rattle.cnf_formula.specs.Formulas.{IsClause}
-use Rattle.sat_core.{specs.inner.Dividing.IsDividing, proofs.Listed.all_once}
+use Rattle.std.proofs.Common.{◌≡◌, length, ap, arith}
 use Rattle.sat_core.proofs.resting.divided.Goals as goal
 
 pub loop-place-preserved : goal.loop-place-preserved

@@ -1,10 +1,9 @@
-use Rattle.std.{proofs.{Common.{◌≡◌, true, length, map, Result, Ok, Err, sym, ap, ◌∙◌, subst, arith}, lemmas.{Result.IfOk-at_ok, Bool.true≢false}}, specs.Result.{IsOk, OnOk}}
+use Rattle.std.{proofs.{Common.{◌≡◌, length, map, Result, Ok, Err, sym, ap, ◌∙◌, subst, arith}, lemmas.{Result.IfOk-at_ok, Bool.true≢false}}, specs.Result.{IsOk, OnOk}}
 use Rattle.cnf_formula.specs.{Formulas.Satisfies, declared.line.LratLine.TheVariants.Addition}
-use Rattle.proof_rules.specs.{declared.verdict.LineVerdict.TheVariants.Accepted, Judging.verdict_of, Refuting.{Refutes, SpentLog}}
-use Rattle.ledger_rules.specs.Logs.{checker_of}
+use Rattle.proof_rules.specs.{Refuting.{Refutes, SpentLog}}
 use Rattle.trail_core.specs.Meaning.{trues}
 use Rattle.sat_core.specs.{Ready.{AreNumbered, AreShort}, inner.{Totals.AreValues, Ending.IsEnded}, declared.{solving.SatAnswer.SatAnswer, searching.End.{End, TheVariants.{Total, Refuted, Spent}}}}
-use Rattle.sat_core.proofs.{Caused.{handed_other, no_answer, on_fault, still}, Going.ended_agrees, Ending.log_by, Modelled.model_satisfies, Ternary.few_spent}
+use Rattle.sat_core.proofs.{Going.ended_agrees, Ending.log_by, Modelled.model_satisfies, Ternary.few_spent}
 use Rattle.sat_core.proofs.solving.solve.Goals as goal
 
 -- what holds of a success before it holds of a success

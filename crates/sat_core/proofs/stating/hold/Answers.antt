@@ -1,5 +1,5 @@
-use Rattle.std.proofs.Common.{arith, ◌≡◌, [], ◌∷◌, ◌++◌, refl, sym, ap, ◌∙◌, subst}
-use Rattle.sat_core.{specs.inner.Stating.AreStated, proofs.{Readiness.{IsGrown, ready_more}, Turning.grown_guided, Stated.stated_more}}
+use Rattle.std.proofs.Common.{◌≡◌, [], ◌∷◌, ◌++◌, sym, ap, ◌∙◌, subst}
+use Rattle.sat_core.{specs.inner.Stating.AreStated, proofs.{Readiness.{IsGrown, ready_more}, Stated.stated_more}}
 use Rattle.sat_core.proofs.stating.hold.Goals as goal
 
 pub returns-clause-stated : goal.returns-clause-stated

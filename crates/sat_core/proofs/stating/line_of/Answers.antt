@@ -1,7 +1,7 @@
-use Rattle.std.proofs.Common.{arith, ◌≡◌, sym, ap, ◌∙◌, subst, Contains, get_or, true}
+use Rattle.std.proofs.Common.{◌≡◌, sym, ap, ◌∙◌, subst, Contains, get_or, true}
 use Rattle.cnf_formula.specs.Literals.{LitValue, code_of}
 use Rattle.conflict_analysis.{specs.{Met.lit_at, UnitLines.denied}, proofs.Resolved.place_read}
-use Rattle.sat_core.proofs.{Hinted.hints_names, Turning.none_by, Stated.{HasUnitLine, stating_is, stating_about}}
+use Rattle.sat_core.proofs.{Hinted.hints_names, Turning.none_by, Stated.{HasUnitLine, stating_is}}
 use Rattle.sat_core.proofs.stating.line_of.Goals as goal
 
 pub named-requires : goal.named-requires

@@ -1,5 +1,5 @@
 use Rattle.std.proofs.{Common.{◌≡◌, ◌<◌, ◌+◌, [], ◌∷◌, ◌++◌, length, take, sym, ap, ◌∙◌, subst, arith}, lemmas.List.{take_more, take_all}}
-use Rattle.sat_core.{specs.inner.Stating.AreStated, proofs.{Listed.{clause_is, once_is}, Stated.{stated_nil, stated_more}}}
+use Rattle.sat_core.{specs.inner.Stating.AreStated, proofs.{Listed.{clause_is}, Stated.{stated_more}}}
 use Rattle.sat_core.proofs.stating.stated_by.Goals as goal
 
 pub loop-place-preserved : goal.loop-place-preserved

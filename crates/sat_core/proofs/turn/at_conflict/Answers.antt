@@ -1,9 +1,5 @@
-use Rattle.std.proofs.{Common.{◌≡◌, ◌++◌, ◌∷◌, length, [], map, refl, sym, ap, ◌∙◌, subst, inr, arith, vec_len, Contains}, lemmas.{Bool.eqb-true, List.nil_from_length, Result.IfOk-from_err}}
-use Rattle.cnf_formula.specs.declared.line.LratLine.TheVariants.{Addition}
-use Rattle.proof_rules.specs.Refuting.{Refutes}
-use Rattle.sleeping_clauses.specs.Sleeping.{sleeping}
-use Rattle.sat_core.{specs.Ready.IsReady, proofs.{Caused.{after, answered, answered_after, handed_on, no_memory, no_memory_after, of_ledger, unmoved}, Ending.{closed_few, no_room}, Going.{ready_at, still_written, written_then, written_to}}}
-use Rattle.sat_core.proofs.Turning.{guided_more, none_by, not_empty, turn_about, turn_above, turn_accepted, turn_backed, turn_fresh, turn_over, turn_refuted, turn_written}
+use Rattle.std.proofs.{Common.{◌≡◌, length, [], sym, ap, ◌∙◌, subst, arith, vec_len, Contains}, lemmas.{Bool.eqb-true, List.nil_from_length}}
+use Rattle.sat_core.{specs.Ready.IsReady, proofs.{Ending.closed_few, Going.{ready_at, written_then, written_to}, Turning.{none_by, not_empty, turn_about, turn_fresh, turn_refuted, turn_written}}}
 use Rattle.sat_core.proofs.turn.at_conflict.Goals as goal
 
 pub returns-then-is_empty-clause-turned : goal.returns-then-is_empty-clause-turned

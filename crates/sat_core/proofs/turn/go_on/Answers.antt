@@ -1,5 +1,4 @@
-use Rattle.std.proofs.Common.{refl, sym, ◌∙◌, subst, [], ◌∷◌, ◌++◌}
-use Rattle.sat_core.{specs.Ready.IsReady, proofs.{Jumping.backed_differ, Readiness.{IsGrown, ready_more}, Turning.grown_guided}}
+use Rattle.sat_core.{proofs.{Readiness.{IsGrown, ready_more}}}
 use Rattle.sat_core.proofs.turn.go_on.Goals as goal
 
 pub returns-clause-ready : goal.returns-clause-ready

@@ -1,5 +1,4 @@
-use Rattle.std.proofs.Common.{arith}
-use Rattle.sat_core.proofs.{Hinted.hints_names, Readiness.ready_same}
+use Rattle.sat_core.proofs.{Hinted.hints_names}
 use Rattle.sat_core.proofs.turn.line_of_conflict.Goals as goal
 
 pub named-requires : goal.named-requires

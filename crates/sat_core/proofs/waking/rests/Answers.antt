@@ -1,7 +1,7 @@
-use Rattle.std.proofs.Common.{arith, ◌≡◌, true, sym, subst, rules, Some, Contains}
+use Rattle.std.proofs.Common.{◌≡◌, true, sym, subst, rules, Some, Contains}
 use Rattle.cnf_formula.specs.Literals.{LitValue}
 use Rattle.trail_core.specs.{Assigned.IsValue, Meaning.trues}
-use Rattle.sat_core.proofs.{Once.consistent_by, Spent.{true_rests, open_rests}}
+use Rattle.sat_core.proofs.{Once.consistent_by, Spent.{true_rests}}
 use Rattle.sat_core.proofs.waking.rests.Goals as goal
 
 pub returns-in-Some-true : goal.returns-in-Some-true
