@@ -1,7 +1,7 @@
 //! Unit propagation by two watched literals, over the clauses that watch a literal which became
 //! false.
 
-ghost use Rattle.std.specs.Prelude.{false, ◌≡◌, ◌≢◌, ◌⊎◌, ℕ, ◌+◌, ◌*◌, ◌<◌, ◌≤◌, IsTrue, [], Option, Some, None, MatchOption, length, slice_index, Contains, All};
+ghost use Rattle.std.specs.Prelude.{false, ◌≡◌, ◌≢◌, ◌⊎◌, ℕ, ◌+◌, ◌*◌, ◌<◌, ◌≤◌, IsTrue, [], Option, Some, None, MatchOption, length, get_or, slice_index, Contains, All};
 ghost use Rattle.cnf_formula.specs.{Literals.{LitValue, code_of}, Formulas.IsAbout};
 ghost use Rattle.trail_core.specs.{Assigned.IsFalse, Trails.lits_of, Watching.{AreRows, watch_count, row_at, list_at}, Kept.{IsShort, IsDue, IsKept, IsDone}, Search.{CanScan, Scanned, IsSatisfied, IsFalsified, Implied, clauses_of}};
 
@@ -11,19 +11,44 @@ use crate::trail::Trail;
 use crate::watch::Watch;
 use cnf_formula::Lit;
 
-/// A literal of the clause, other than this one, that is not false.
-fn another(clause: &[Lit], trail: &Trail, this: Lit) -> Option<Lit>
-    requires { All (IsAbout trail.now.vars) clause.now }
+/// A literal of a clause, and where among its literals it stands.
+#[derive(Clone, Copy)]
+struct Standing {
+    lit: Lit,
+    place: usize,
+}
+
+/// A literal of the clause, other than this one, that is not false and stands from one place on and
+/// before another.
+fn another_in(clause: &[Lit], trail: &Trail, this: Lit, from: usize, to: usize) -> Option<Standing>
+    requires about { All (IsAbout trail.now.vars) clause.now }
+    requires to { to ≤ length clause.now }
     ensures { MatchOption result
-        ((o : LitValue) → Contains clause.now o → (o ≡ this) ⊎ IsFalse (lits_of trail.now.steps) o)
-        (λ l. Contains clause.now l × (l ≢ this) × (IsFalse (lits_of trail.now.steps) l → ⊥)) }
+        ((k : ℕ) (d : LitValue) → from ≤ k → k < to → (get_or clause.now k d ≡ this) ⊎ IsFalse (lits_of trail.now.steps) (get_or clause.now k d))
+        (λ found. Contains clause.now found.lit × (found.lit ≢ this) × (IsFalse (lits_of trail.now.steps) found.lit → ⊥) × (found.place < length clause.now)) }
 {
-    for lit in clause {
-        if *lit != this && !trail.is_false(*lit) {
-            return Some(*lit);
+    for place in from..to {
+        let lit = clause[place];
+        if !trail.is_false(lit) && lit != this {
+            return Some(Standing { lit, place });
         }
     }
     None
+}
+
+/// A literal of the clause, other than this one, that is not false. The look for it goes round, from
+/// a place on.
+fn another(clause: &[Lit], trail: &Trail, this: Lit, from: usize) -> Option<Standing>
+    requires { All (IsAbout trail.now.vars) clause.now }
+    ensures { MatchOption result
+        ((o : LitValue) → Contains clause.now o → (o ≡ this) ⊎ IsFalse (lits_of trail.now.steps) o)
+        (λ found. Contains clause.now found.lit × (found.lit ≢ this) × (IsFalse (lits_of trail.now.steps) found.lit → ⊥) × (found.place < length clause.now)) }
+{
+    let from = from.min(clause.len());
+    match another_in(clause, trail, this, from, clause.len()) {
+        Some(found) => Some(found),
+        None => another_in(clause, trail, this, 0, from),
+    }
 }
 
 /// Visits a clause that watches a literal which is false, by its entry at a place of the literal's
@@ -59,9 +84,9 @@ fn visit_clause(
         lists.replace(falsified, place, watch.blocked_by(other));
         return None;
     }
-    if let Some(lit) = another(store.clause(id), trail, other) {
-        store.watch(id, other, lit);
-        lists.shift(falsified, place, lit, watch.blocked_by(other));
+    if let Some(found) = another(store.clause(id), trail, other, store.next(id)) {
+        store.watch(id, other, found.lit, found.place as u32);
+        lists.shift(falsified, place, found.lit, watch.blocked_by(other));
         return None;
     }
     if trail.is_false(other) {

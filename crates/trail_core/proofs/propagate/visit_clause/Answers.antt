@@ -12,17 +12,17 @@ known c = grind (arith, entry_within)
 
 pair : (c : Joined-eq) → Pair c.args.store.now c.clause-id.result c.args.falsified c.if-eq.other
 pair c =
-    let o : IsOther c.watched-first.result.0 c.watched-first.result.1 c.args.falsified c.if-eq.other = elim c.if-eq.branch [
-      | then-eq w ↦ inl (same_lit c.watched-first.result.0 c.args.falsified (sym c.eq.ensures ∙ w.if-eq.true), w.other-is)
-      | else-eq w ↦ inr (other_lit c.watched-first.result.0 c.args.falsified (sym c.eq.ensures ∙ w.if-eq.false), w.other-is)
+    let o : IsOther c.watched.result.0 c.watched.result.1 c.args.falsified c.if-eq.other = elim c.if-eq.branch [
+      | then-eq w ↦ inl (same_lit c.watched.result.0 c.args.falsified (sym c.eq.ensures ∙ w.if-eq.true), w.other-is)
+      | else-eq w ↦ inr (other_lit c.watched.result.0 c.args.falsified (sym c.eq.ensures ∙ w.if-eq.false), w.other-is)
     ] in
-    pair_is c.args.trail.now.vars c.args.store.now c.args.lists.now c.clause-id.result c.args.place c.args.falsified c.watched-first.result.0 c.watched-first.result.1 c.if-eq.other c.requires.can.are_rows c.requires.can.watched c.requires.within (c.clause-id.ensures ∙ c.requires.is) (c.watched-first.ensures.first no_row) (c.watched-first.ensures.second no_row) o
+    pair_is c.args.trail.now.vars c.args.store.now c.args.lists.now c.clause-id.result c.args.place c.args.falsified c.watched.result.0 c.watched.result.1 c.if-eq.other c.requires.can.are_rows c.requires.can.watched c.requires.within (c.clause-id.ensures ∙ c.requires.is) (c.watched.ensures.first no_row) (c.watched.ensures.second no_row) o
 
 about : (c : Joined-eq) → IsAbout c.args.trail.now.vars c.if-eq.other
 about c = grind (arith, pair, All-contains)
 
-found : (c : In-Some) → Found (lits_of c.args.trail.now.steps) (row_at c.args.store.now c.clause-id.result).lits c.if-eq.other c.in-Some.lit
-found c = record { stands = subst (λ xs. Contains xs c.in-Some.lit) (c.clause.ensures.lits no_row) c.in-Some.ensures.0; differs = c.in-Some.ensures.1; not_false = c.in-Some.ensures.2 }
+found : (c : In-Some) → Found (lits_of c.args.trail.now.steps) (row_at c.args.store.now c.clause-id.result).lits c.if-eq.other c.in-Some.found.lit
+found c = record { stands = subst (λ xs. Contains xs c.in-Some.found.lit) (c.clause.ensures.lits no_row) c.in-Some.ensures.0; differs = c.in-Some.ensures.1; not_false = c.in-Some.ensures.2 }
 
 pub is_true-requires : goal.is_true-requires
 is_true-requires c = (about (goal.at.is_true-requires c).Joined-eq).within
@@ -47,12 +47,12 @@ shift-requires-clause-to_known c =
     let t = c.args.trail.now in
     let row = c.requires.can.are_rows c.clause-id.result (known (goal.at.shift-requires-clause-to_known c).After-clause-id) in
     let n = found (goal.at.shift-requires-clause-to_known c).In-Some in
-    omega (arith, code_within t.vars c.in-Some.lit (All-contains (IsAbout t.vars) (row_at c.args.store.now c.clause-id.result).lits c.in-Some.lit row.within n.stands), c.requires.can.are_lists.lists_len)
+    omega (arith, code_within t.vars c.in-Some.found.lit (All-contains (IsAbout t.vars) (row_at c.args.store.now c.clause-id.result).lits c.in-Some.found.lit row.within n.stands), c.requires.can.are_lists.lists_len)
 
 pub shift-requires-clause-room : goal.shift-requires-clause-room
 shift-requires-clause-room c =
     let at = goal.at.shift-requires-clause-room c in
-    found_room c.args.store.now c.args.lists.now (lits_of c.args.trail.now.steps) c.clause-id.result c.args.falsified c.if-eq.other c.in-Some.lit c.requires.can.watched (pair at.Joined-eq) c.requires.is_false (found at.In-Some)
+    found_room c.args.store.now c.args.lists.now (lits_of c.args.trail.now.steps) c.clause-id.result c.args.falsified c.if-eq.other c.in-Some.found.lit c.requires.can.watched (pair at.Joined-eq) c.requires.is_false (found at.In-Some)
 
 pub returns-in-Some : goal.returns-in-Some
 returns-in-Some c =
@@ -63,7 +63,7 @@ returns-in-Some c =
     let falsified = c.args.falsified in
     let place = c.args.place in
     let other = c.if-eq.other in
-    let x = c.in-Some.lit in
+    let x = c.in-Some.found.lit in
     let k = code_of falsified in
     let p = pair (goal.at.returns-in-Some c).Joined-eq in
     let n = found (goal.at.returns-in-Some c).In-Some in
