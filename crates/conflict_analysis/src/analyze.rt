@@ -12,7 +12,6 @@ use crate::shrinking::walk_middle;
 use crate::walk::{BOTTOM, KEPT, OPEN, Walk};
 use cnf_formula::{Lit, OutOfMemory, ProofLine};
 use std::alloc::Global;
-use std::mem;
 use trail_core::{ClauseId, Core};
 
 /// Resolves steps of the last level from the end of the trail on, until a single one waits. Gives
@@ -132,7 +131,8 @@ pub fn line_at(
     if let Some(point) = point {
         lits.push(point.negated())?;
     }
-    let mut hints = mem::replace(&mut walk.hints, Vec::new(alloc));
+    let mut hints = Vec::with_capacity(alloc, walk.hints.len().saturating_add(1))?;
+    hints.extend_from_slice(&walk.hints)?;
     hints.reverse();
     hints.push(hint(conflict))?;
     Ok(ProofLine { id, lits, hints })

@@ -40,7 +40,7 @@ returns-clause-learned c =
       left = left_point core old point c.in_ok-point.ensures.point;
     } in
     let hint : to_z w64 (of_z w64 c.hint.result) ≡ pos (c.args.conflict + 1) = to_z-of_z w64 c.hint.result (search rules) ∙ c.hint.ensures in
-    let hints = c.in_ok-push-2.ensures.items ∙ ap (λ x. c.reverse.new.self.items ++ x ∷ []) hint ∙ ap (λ xs. xs ++ pos (c.args.conflict + 1) ∷ []) (c.reverse.ensures.items ∙ ap (λ v. reverse v.items) c.replace-hints.ensures.value) in
+    let hints = c.in_ok-push-2.ensures.items ∙ ap (λ x. c.reverse.new.self.items ++ x ∷ []) hint ∙ ap (λ xs. xs ++ pos (c.args.conflict + 1) ∷ []) (c.reverse.ensures.items ∙ ap reverse (c.in_ok-extend_from_slice.ensures.items ∙ ap (λ xs. xs ++ c.deref.result.now) c.in_ok-hints.ensures.items ∙ c.deref.ensures.value)) in
     elim c.match-point.branch [
       | in-Some+in_ok-push b ↦
           let lits = ap (λ v. v.items) b.lits-is ∙ b.in_ok-push.ensures.items ∙ ap (λ xs. xs ++ b.negated.result ∷ []) c.in_ok-lits.ensures ∙ ap (λ x. w.lits ++ x ∷ []) b.negated.ensures ∙ ap (λ q. w.lits ++ point_lits q) (sym b.in-Some.is) in
