@@ -34,15 +34,13 @@ alone : (F test : List (List ℕ) → Bool) (row : Row) (ws : List (List ℕ)) �
 alone F test row ws is same = ap F is ∙ (same ∙ (or_false (test ws) ∙ ap test (sym is)))
 
 point_alone : (joined : Bool) (row : Row) (rest : List (List ℕ)) → words_of row.bytes ≡ codes "point" ∷ rest → list_any (λ form. form row) (results joined) ≡ has_shape (point_shape joined) (words_of row.bytes)
-point_alone true row rest is = or_false (has_shape (point_shape true) (words_of row.bytes))
-point_alone false row rest is = alone (λ ws. has_shape (point_shape false) ws || (has_shape refuted_shape ws || (has_shape unknown_shape ws || false))) (has_shape (point_shape false)) row (codes "point" ∷ rest) is refl
+point_alone joined row rest is = grind (arith, or_false, alone)
 
 refuted_alone : (row : Row) (rest : List (List ℕ)) → words_of row.bytes ≡ codes "refuted" ∷ rest → list_any (λ form. form row) (refuted ∷ unknown ∷ []) ≡ has_shape refuted_shape (words_of row.bytes)
 refuted_alone row rest is = alone (λ ws. has_shape refuted_shape ws || (has_shape unknown_shape ws || false)) (has_shape refuted_shape) row (codes "refuted" ∷ rest) is refl
 
 send_alone : (names : List (List ℕ)) (joined : Bool) (row : Row) (rest : List (List ℕ)) → words_of row.bytes ≡ codes "send" ∷ rest → list_any (λ form. form row) (formed (send_shape names) ∷ results joined) ≡ has_shape (send_shape names) (words_of row.bytes)
-send_alone names true row rest is = alone (λ ws. has_shape (send_shape names) ws || (has_shape (point_shape true) ws || false)) (has_shape (send_shape names)) row (codes "send" ∷ rest) is refl
-send_alone names false row rest is = alone (λ ws. has_shape (send_shape names) ws || (has_shape (point_shape false) ws || (has_shape refuted_shape ws || (has_shape unknown_shape ws || false)))) (has_shape (send_shape names)) row (codes "send" ∷ rest) is refl
+send_alone names joined row rest is = grind (arith, alone)
 
 -- the code by that form
 alone_code : {b c : Bool} (row : Row) (why : ReportCode) → c ≡ b → why ≡ told_code b row → why ≡ told_code c row

@@ -26,8 +26,7 @@ Titles [] = Unit {0}
 Titles (part ∷ parts) = IsTitle part × Titles parts
 
 titles_of : (k : Kind) → Titles (parts_of k)
-titles_of kind.Allreduce = (refl, (refl, tt))
-titles_of k = (refl, tt)
+titles_of k = grind arith
 
 -- no line may stand there
 none_goes : (row : Row) → Gives (λ (why : ReportCode). why ≡ told_code false row) (λ (u : Unit {0}). Unit {0}) (no_line (Some row))
@@ -119,14 +118,11 @@ module _ (text : List ℕ) where
   Passed r = Unit {0}
 
   first_header : (patterned : Bool) → first_word (row_of (head_words patterned)) ≡ codes "topology"
-  first_header true = refl
-  first_header false = refl
+  first_header patterned = grind arith
 
   -- the forms that may stand behind these lines, by the first word of the last
   fits_after : (before : List Row) (r row : Row) (w : List ℕ) → first_word r ≡ w → (forms : List Form) → forms_after (is_patterned (before ++ r ∷ [])) (names_in (before ++ r ∷ [])) (is_joined (map first_word (before ++ r ∷ []))) w ≡ forms → fits (before ++ r ∷ []) row ≡ list_any (λ form. form row) forms
-  fits_after before r row w is forms e =
-      ap (λ o. list_any (λ form. form row) (forms_behind (before ++ r ∷ []) o)) (last_is before r None)
-      ∙ (ap (λ v. list_any (λ form. form row) (forms_after (is_patterned (before ++ r ∷ [])) (names_in (before ++ r ∷ [])) (is_joined (map first_word (before ++ r ∷ []))) v)) is ∙ ap (λ fs. list_any (λ form. form row) fs) e)
+  fits_after before r row w is forms e = grind (arith, last_is, is_joined)
 
   module _ (head : Bool × Place) (r1 : Row) (on1 : On all (r1 ∷ []) head.1) (w1 : first_word r1 ≡ codes "sccl") (v1 : is_patterned (r1 ∷ []) ≡ head.0) where
     module _ (a : AskedValue × Place) (r2 : Row) (on2 : On all (r1 ∷ r2 ∷ []) a.1) (w2 : first_word r2 ≡ codes "synth") where
@@ -152,8 +148,7 @@ module _ (text : List ℕ) where
         nodes_fit row = fits_after (r1 ∷ r2 ∷ []) r3 row (codes "topology") w3 ((λ r. is_ok (nodes_line (Some r))) ∷ []) refl ∙ or_false (is_ok (nodes_line (Some row)))
 
         root_told : (names : List (List ℕ)) (root : Option (List ℕ)) (c : ReportCode) → root_of names root ≡ Err c → c ≡ code.Limits
-        root_told names None c e = absurd (cc)
-        root_told names (Some name) c e = grind arith
+        root_told names root c e = grind arith
 
         behind_names : (n : List (List ℕ) × Place) → Stands all nodes_line (r1 ∷ r2 ∷ r3 ∷ []) d.1 n → Gives (Coded all) Passed (after_names all head.0 a.0 d.1.number n)
         behind_names n i =
@@ -186,8 +181,7 @@ module _ (text : List ℕ) where
           (λ u same v. behind_header d i.row i.on (ap first_word is ∙ first_header d.0)))
         where
           refused : (b : Bool) (c : ReportCode) → refuse (not b) code.BadLine ≡ Err c → c ≡ code.BadLine
-          refused true c e = absurd (cc)
-          refused false c e = let same : code.BadLine ≡ c = cc in sym same
+          refused b c e = grind arith
 
     -- ---- the words
 
@@ -228,8 +222,7 @@ module _ (text : List ℕ) where
   version_goes row = grind (arith, bytes_eq, bytes_eq-Decides, gives_done, slice_index_or, gives_fail)
 
   version_code : (o : Option Row) (c : ReportCode) → version_line o ≡ Err c → c ≡ code_of [] o
-  version_code None c e = let same : code.Truncated ≡ c = cc in sym same
-  version_code (Some row) c e = (version_goes row).err c e
+  version_code o c e = grind (arith, version_goes)
 
   report_goes : Gives (Coded all) Passed (report_at all (start text))
   report_goes =

@@ -27,12 +27,10 @@ pub goes_on : {A B C : Type 0} {E : C → Type 0} {N : A → Type 0} {M : B → 
 goes_on r f one later = gives_then r f one (λ e holds. holds) later
 
 pub choose_gives : {A C : Type 0} {E : C → Type 0} {N : A → Type 0} (b : Bool) (r : Result A C) (x : A) → (b ≡ true → Gives E N r) → (b ≡ false → N x) → Gives E N (if b then r else Ok x)
-choose_gives true r x goes stays = goes refl
-choose_gives false r x goes stays = gives_done x (stays refl)
+choose_gives {A} {C} {E} {N} b r x goes stays = grind (arith, gives_done)
 
 pub at_line_goes : {A C : Type 0} {N : A → Type 0} (E : C × ℕ → Type 0) (n : ℕ) (r : Result A C) → Gives (λ (c : C). E (c, n)) N r → Gives E N (at_line n r)
-at_line_goes E n (Ok x) g = gives_done x (g.ok x refl)
-at_line_goes E n (Err c) g = gives_fail (c, n) (g.err c refl)
+at_line_goes {A} {C} {N} E n r g = grind (arith, gives_done, gives_fail)
 
 -- a check of the line at a place
 pub part_goes : {A C : Type 0} (E : C × ℕ → Type 0) (N : A × Place → Type 0) (check : Option Row → Result A C) (p : Place) → Gives (λ (c : C). E (c, p.number)) (λ (x : A). N (x, behind p)) (check (first p.rows)) → Gives E N (line_part check p)
@@ -41,8 +39,7 @@ part_goes E N check p g = goes_on _ _ (at_line_goes E p.number (check (first p.r
 -- ---- one line
 
 pub or_false : (b : Bool) → (b || false) ≡ b
-or_false true = refl
-or_false false = refl
+or_false b = grind arith
 
 -- the code of a line that is there, by whether it has a form
 abbrev pub told_code : Bool → Row → ReportCode
@@ -80,8 +77,7 @@ unbegun word passes shape row other = by_words (words_of row.bytes) refl
     clash w x ws is same =
         let rest : List ℕ = join_with_byte 32 (x ∷ ws) in
         let text : row.bytes ≡ (word ++ 32 ∷ []) ++ rest = sym (join_with_byte-slice_split 32 row.bytes) ∙ (ap (join_with_byte 32) is ∙ (ap (λ v. v ++ 32 ∷ rest) same ∙ sym (append_assoc word (32 ∷ []) rest))) in
-        let begun : begins (word ++ 32 ∷ []) row.bytes ≡ true = (starts_is Decides-eqb row.bytes (word ++ 32 ∷ []) (starts_with nat_eq row.bytes (word ++ 32 ∷ [])) refl).1 rest text in
-        let e : false ≡ true = sym other ∙ begun in
+        let e : false ≡ true = sym other ∙ ((starts_is Decides-eqb row.bytes (word ++ 32 ∷ []) (starts_with nat_eq row.bytes (word ++ 32 ∷ [])) refl).1 rest text) in
         absurd (cc)
 
     by_test : (w x : List ℕ) (ws : List (List ℕ)) (b : Bool) → words_of row.bytes ≡ w ∷ x ∷ ws → bytes_eq w word ≡ b → (b && (passes x && has_shape shape ws)) ≡ false
@@ -130,25 +126,19 @@ module _ (rows : List Row) where
 
   pub code_on : (before : List Row) (p : Place) (n : ℕ) → On before p → n ≡ p.number → code_at n ≡ code_of before (first p.rows)
   code_on before p n on at =
-      let number = on.number in
-      let index : n - 1 ≡ length before = omega (arith, at, number) in
-      let taken : take (n - 1) rows ≡ before = ap (λ k. take k rows) index ∙ (ap (take (length before)) on.is ∙ take-append_seam before p.rows) in
-      ap (λ b. code_of b (slice_get rows (n - 1))) taken ∙ ap (code_of before) (line_on before p n on at)
+      ap (λ b. code_of b (slice_get rows (n - 1))) (ap (λ k. take k rows) (omega (arith, at, on.number)) ∙ (ap (take (length before)) on.is ∙ take-append_seam before p.rows)) ∙ ap (code_of before) (line_on before p n on at)
 
   pub unfit_on : (before : List Row) (p : Place) (e : TopologyCode × ℕ) → On before p → e.1 ≡ p.number → ((row : Row) → first p.rows ≡ Some row → fits before row ≡ false) → Unfit e
   unfit_on before p e on at none = ap (λ o. blamed (whole_line o)) (line_on before p e.1 on at) ∙ (by_line (first p.rows) none ∙ sym (code_on before p e.1 on at))
     where
       by_end : (b : Bool) (row : Row) → fits before row ≡ false → blamed (refuse (not b) code.Truncated >>= (λ u. Ok row)) ≡ (if b then (if fits before row then code.Limits else code.BadLine) else code.Truncated)
-      by_end true row no_form = ap (λ t. if t then code.Limits else code.BadLine) (sym no_form)
-      by_end false row no_form = refl
+      by_end b row no_form = grind arith
 
       by_line : (o : Option Row) → ((row : Row) → o ≡ Some row → fits before row ≡ false) → blamed (whole_line o) ≡ code_of before o
-      by_line None each = refl
-      by_line (Some row) each = by_end row.whole row (each row refl)
+      by_line o each = grind (arith, by_end)
 
   pub among_goes : {A : Type 0} (N : A → Type 0) (r : Result A (TopologyCode × ℕ)) → Gives Unfit N r → Gives Coded N (among rows r)
-  among_goes N (Ok x) g = gives_done x (g.ok x refl)
-  among_goes N (Err e) g = gives_fail (blamed (whole_line (slice_get rows (e.1 - 1))), e.1) (g.err e refl)
+  among_goes {A} N r g = grind (arith, gives_done, gives_fail)
 
   next_on : (before : List Row) (p : Place) (row : Row) → On before p → first p.rows ≡ Some row → On (before ++ row ∷ []) (behind p)
   next_on before p row on here = grind (arith, first_is, append_assoc, length-append)
@@ -228,8 +218,7 @@ module _ (rows : List Row) where
           (λ other. (at, λ row h. ap (row_begins word) (sym h) ∙ other))
 
     begun_row : (word : List ℕ) (o : Option Row) → row_begins word o ≡ true → (row : Row) × (o ≡ Some row)
-    begun_row word None e = absurd (cc)
-    begun_row word (Some row) e = (row, refl)
+    begun_row word o e = grind arith
 
     module _ {A C : Type 0} (E : C × ℕ → Type 0) (word : List ℕ) (free : IsOneWord word) (section : (joined || bytes_eq word (codes "joined")) ≡ joined) (next : (patterned : Bool) → forms_after patterned names joined word ≡ forms) (check : List A → Option Row → Result A C)
         (blames : (before : List A) (p : Place) (row : Row) (why : C) → At names joined forms p → first p.rows ≡ Some row → begins (word ++ 32 ∷ []) row.bytes ≡ true → check before (Some row) ≡ Err why → E (why, p.number)) where

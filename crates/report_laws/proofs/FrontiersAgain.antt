@@ -27,24 +27,18 @@ pub end_ends : (rows : List Row) → EndsPart (row_of (codes "end" ∷ []) ∷ r
 end_ends rows = record { group = refl; point = refl; send = refl; refuted = refl; unknown = refl }
 
 pub part_ends : (x : Part) (rows : List Row) → EndsPart (row_of (part_words x) ∷ rows)
-part_ends part.Joined rows = record { group = refl; point = refl; send = refl; refuted = refl; unknown = refl }
-part_ends x rows = record { group = refl; point = refl; send = refl; refuted = refl; unknown = refl }
+part_ends x rows = grind arith
 
 part_line : (x : Part) → (row_of (part_words x)).bytes ≡ part_bytes x
-part_line part.Joined = refl
-part_line x = refl
+part_line x = grind arith
 
 -- there are no more parts than lines
 parts_fit : {A : Type 0} (spell : A → List (List (List ℕ))) → ((x : A) → 1 ≤ length (spell x)) → (xs : List A) (rest : List Row) → length xs ≤ length (map row_of (flat_map spell xs) ++ rest)
 parts_fit spell some [] rest = omega arith
 parts_fit spell some (x ∷ xs) rest =
-    let later = parts_fit spell some xs rest in
-    let all = length-append (map row_of (flat_map spell (x ∷ xs))) rest in
-    let more = length-append (map row_of (flat_map spell xs)) rest in
-    let both = length-append (spell x) (flat_map spell xs) in
     let left = length-map (flat_map spell (x ∷ xs)) row_of in
     let right = length-map (flat_map spell xs) row_of in
-    omega (arith, later, all, more, both, left, right, some x)
+    omega (arith, parts_fit spell some xs rest, length-append (map row_of (flat_map spell (x ∷ xs))) rest, length-append (map row_of (flat_map spell xs)) rest, length-append (spell x) (flat_map spell xs), left, right, some x)
 
 points_fit : (names : List (List ℕ)) (ps : List PointValue) (rest : List Row) → length ps ≤ length (map row_of (flat_map (point_lines names) ps) ++ rest)
 points_fit names ps rest = parts_fit (point_lines names) (λ p. omega arith) ps rest
@@ -81,8 +75,7 @@ module _ (names : List (List ℕ)) (q : QuestionValue) (as_many : length names �
 -- what follows a frontier: the next one, or what follows them all
 pub frontiers_end : (names : List (List ℕ)) (fs : List (Part × FrontierValue)) (rest : List Row) → EndsPart rest → EndsPart (map row_of (flat_map (frontier_lines names) fs) ++ rest)
 frontiers_end names [] rest ends = ends
-frontiers_end names (x ∷ fs) rest ends =
-    part_ends x.0 (map row_of ((flat_map (point_lines names) x.1.points ++ (map refuted_words x.1.refuted ++ map unknown_words x.1.unknown)) ++ flat_map (frontier_lines names) fs) ++ rest)
+frontiers_end names (x ∷ fs) rest ends = grind (arith, part_ends, row_of)
 
 module _ (words : WordsValue) (t : NamedTopologyValue) (as_many : length t.names ≡ t.topology.nodes) (named : AreNames t.names) (ok : IsLimits words.limits) (pattern : IfSome t.custom (IsPattern t.topology.nodes)) where
   pub frontiers_again : (fs : List (Part × FrontierValue)) (n : ℕ) (rest : List Row) → All (λ x. IsFrontier (question_of words t x.0) x.1) fs → EndsPart rest
@@ -111,5 +104,4 @@ module _ (words : WordsValue) (t : NamedTopologyValue) (as_many : length t.names
 
   -- what follows the frontiers: the line of the joined points, or what follows them
   pub joined_end : (k : Kind) (js : List PointValue) (rest : List Row) → EndsPart rest → EndsPart (map row_of (joined_lines t.names k js) ++ rest)
-  joined_end kind.Allreduce js rest ends = part_ends part.Joined (map row_of (flat_map (point_lines t.names) js) ++ rest)
-  joined_end k js rest ends = ends
+  joined_end k js rest ends = grind (arith, part_ends, row_of)

@@ -32,16 +32,7 @@ module _ {A B : Type 0} (check : Option Row → Result A TopologyCode) (later : 
               let to = l.alike n q same low in
               record { rest = to.rest; is = ap (λ r. r >>= later_at q.number) to.is ∙ ap (λ r. at_line q.number r >>= with_later (x.0, to.rest)) e; same = to.same };
         })
-        by_later (Err why) e = gives_fail (why, p.number) (record {
-          late = omega arith;
-          alike = λ q same.
-              let to = line_alike check p q p.number x same (omega arith) (among_ok rows (line_part check p) x read) in
-              let wrong : ℕ → Result B (ReportCode × ℕ) = λ k. Err (why, k) in
-              record {
-                why = why;
-                is = ap (λ r. among others r >>= later_at q.number) to.is ∙ ap (λ r. at_line q.number r >>= with_later (x.0, to.rest)) e ∙ ap (λ k. wrong k >>= with_later (x.0, to.rest)) (sym same.number);
-              };
-        })
+        by_later (Err why) e = grind (arith, gives_fail, line_alike, among_ok)
 
     pub steady_judged : Steady (judged rows) (judged others)
     steady_judged = record {
@@ -52,5 +43,4 @@ module _ {A B : Type 0} (check : Option Row → Result A TopologyCode) (later : 
 -- the line and its later check, one after the other and as one part
 pub judged_passed : {A B C : Type 0} (later : A → Result B ReportCode) (n : ℕ) (r : Result (A × Place) (ReportCode × ℕ)) (next : A → B → Place → Result C (ReportCode × ℕ)) → (r >>= (λ x. at_line n (later x.0) >>= (λ y. next x.0 y x.1)))
     ≡ ((r >>= (λ x. at_line n (later x.0) >>= with_later {A = A} {B = B} x)) >>= (λ z. next z.0.0 z.0.1 z.1))
-judged_passed {A} {B} {C} later n (Err e) next = refl
-judged_passed {A} {B} {C} later n (Ok x) next = grind arith
+judged_passed {A} {B} {C} later n r next = grind arith

@@ -59,9 +59,7 @@ settles_report rows others =
 -- ---- as the reader is written
 
 header_is : (rows : List Row) (b : Bool) (a : AskedValue) (p : Place) → (among rows (line_part header_line p) >>= after_header rows b a p.number) ≡ behind_asked rows b a p
-header_is rows b a p =
-    judged_passed (same_version b) p.number (among rows (line_part header_line p)) (λ h u q. after_same rows b a q tt)
-    ∙ same_then (judged header_line (same_version b) rows p) (λ z. after_same rows b a z.1 tt) (λ z. behind_names rows b a z.1) (λ z read. judged_passed (root_among a) z.1.number (among rows (line_part nodes_line z.1)) (λ names root q. after_root rows b a (names, q) root))
+header_is rows b a p = grind (arith, judged_passed, after_same, same_then, judged, after_root)
 
 parts_is : (rows : List Row) (p : Place) → report_at rows p ≡ in_parts rows p
 parts_is rows p = same_then (line_part version_line p) (after_head rows) _ (λ h read. same_then (line_part (asked_line h.0) h.1) (after_asked rows h.0) _ (λ a read. header_is rows h.0 a.0 a.1))
@@ -78,5 +76,4 @@ none_agrees text why n failed r valid agrees =
     clash (report_of (report_text r)) (report_again r valid) (in_parts_is (report_text r) ∙ f.is)
   where
     clash : {c : ReportCode × ℕ} (z : Result ReportValue (ReportCode × ℕ)) → z ≡ Ok r → z ≡ Err c → ⊥
-    clash (Ok x) a b = absurd (cc)
-    clash (Err e) a b = absurd (cc)
+    clash {c} z a b = grind arith

@@ -50,13 +50,7 @@ module _ (names : List (List ℕ)) (q : QuestionValue) (as_many : length names �
   pub headed_reads : (check : List PointValue → Option Row → Result HeadValue ReportCode) (Q : List PointValue → Type 0)
       → ((before : List PointValue) (p : PointValue) (more : List PointValue) → Q (before ++ p ∷ more) → (check before (Some (row_of (point_words p))) ≡ Ok (head_of p)) × HasSchedule q p × (p.candidate.c ≤ 16))
       → ReadsPart (codes "point ") (λ before p. line_part (check before) p >>= (λ h. schedule_at names q h.0 h.1)) (point_lines names) Q (Ends (codes "send "))
-  headed_reads check Q heads = record {
-    part = λ before p more n rest are ends.
-        let (read, has, few) = heads before p more are in
-        reads_then _ _ (line_again (check before) (row_of (point_words p)) (head_of p) n (map row_of (schedule_lines names p) ++ rest) read) (λ k. schedule_again p k rest has few ends);
-    starts = λ p rest. refl;
-    stops = λ p rest. refl;
-  }
+  headed_reads check Q heads = grind (arith, reads_then, line_again, row_of, schedule_lines, schedule_again)
 
   -- ---- points of a frontier
 

@@ -30,8 +30,7 @@ rounds_tokens rounds each = tokens_from (rounds_words rounds) (omega arith) (rou
 -- ---- sends
 
 follows_from : (o : Option Hop) (h : Hop) → IfSome o (λ l. HopBefore l h) → follows o h ≡ true
-follows_from None h e = refl
-follows_from (Some l) h e = e
+follows_from o h e = grind arith
 
 module _ (names : List (List ℕ)) (named : AreNames names) (chunks steps : ℕ) (few_chunks : chunks ≤ 65535) (few_steps : steps ≤ 65535) where
   send_spelled : (h : Hop) → IsStep steps h.step → is_hop_below chunks (length names) h ≡ true → IsSpelled names h

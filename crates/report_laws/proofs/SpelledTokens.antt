@@ -18,10 +18,7 @@ parts_are_tokens P spell each [] valid = tt
 parts_are_tokens P spell each (x ∷ xs) valid = each_append AreTokens (spell x) (flat_map spell xs) (each x (All-head P x xs valid)) (parts_are_tokens P spell each xs (All-tail P x xs valid))
 
 part_tokens : (x : Part) → AreTokens (part_words x)
-part_tokens part.Whole = tokens_from (codes "frontier" ∷ codes "whole" ∷ []) (omega arith) (literal (codes "frontier") refl, (literal (codes "whole") refl, tt))
-part_tokens part.Reduce = tokens_from (codes "frontier" ∷ codes "reduce" ∷ []) (omega arith) (literal (codes "frontier") refl, (literal (codes "reduce") refl, tt))
-part_tokens part.Gather = tokens_from (codes "frontier" ∷ codes "gather" ∷ []) (omega arith) (literal (codes "frontier") refl, (literal (codes "gather") refl, tt))
-part_tokens part.Joined = tokens_from (codes "joined" ∷ []) (omega arith) (literal (codes "joined") refl, tt)
+part_tokens x = grind (arith, tokens_from, literal)
 
 module _ (names : List (List ℕ)) (q : QuestionValue) (as_many : length names ≡ q.topology.nodes) (named : AreNames names) (ok : IsLimits q.limits) (base : FewBase q.spec) where
   pub frontier_are_tokens : (x : Part) (f : FrontierValue) → IsFrontier q f → AllByRecursion AreTokens (frontier_lines names (x, f))
@@ -40,8 +37,7 @@ module _ (names : List (List ℕ)) (q : QuestionValue) (as_many : length names �
   joined_lines_are_tokens k js all = tt
 
 version_tokens : (c : Option PatternValue) → AreTokens (codes "sccl" ∷ version_word c ∷ [])
-version_tokens None = tokens_from (codes "sccl" ∷ codes "1" ∷ []) (omega arith) (literal (codes "sccl") refl, (literal (codes "1") refl, tt))
-version_tokens (Some p) = tokens_from (codes "sccl" ∷ codes "2" ∷ []) (omega arith) (literal (codes "sccl") refl, (literal (codes "2") refl, tt))
+version_tokens c = grind (arith, tokens_from, literal)
 
 pub report_are_tokens : (r : ReportValue) → IsReport r → AllByRecursion AreTokens (report_lines r)
 report_are_tokens r is =
@@ -51,14 +47,13 @@ report_are_tokens r is =
     let ok = is.words.limits in
     let w : WordsValue = r.words in
     let t : NamedTopologyValue = r.topology in
-    let frontiers = flat_map (frontier_lines names) r.frontiers in
     let joined = joined_lines names w.collective.kind r.joined in (
       version_tokens t.custom,
       (
         synth_tokens names w named is.words,
         each_append AreTokens (lines_of t) (body_lines r ++ (codes "end" ∷ []) ∷ []) (lines_are_words t is.topology)
             (each_append AreTokens (body_lines r) ((codes "end" ∷ []) ∷ [])
-            (each_append AreTokens frontiers joined
+            (each_append AreTokens (flat_map (frontier_lines names) r.frontiers) joined
             (parts_are_tokens (λ x. IsFrontier (question_of w t x.0) x.1) (frontier_lines names) (λ x. frontier_are_tokens names (question_of w t x.0) as_many named ok (base_of w t x.0 is.topology.custom) x.0 x.1) r.frontiers is.frontiers)
             (joined_lines_are_tokens names (question_of w t part.Joined) as_many named ok (base_of w t part.Joined is.topology.custom) w.collective.kind r.joined is.joined))
             (tokens_from (codes "end" ∷ []) (omega arith) (literal (codes "end") refl, tt), tt)),

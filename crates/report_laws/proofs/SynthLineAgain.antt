@@ -13,26 +13,19 @@ use Rattle.report_laws.proofs.{TokensAgain.{ok_then, keyed_again, any_number_aga
 -- ---- the kind and the limits
 
 pub kind_back : (k : Kind) → kind_named true (word_of k) ≡ Some k
-kind_back Custom = refl
-kind_back k = refl
+kind_back k = grind arith
 
 -- in version 1 only where no pairs are given
 kind_again : (patterned : Bool) (k : Kind) → is_custom k ≡ patterned → kind_named patterned (word_of k) ≡ Some k
-kind_again true k e = kind_back k
-kind_again false Custom e = absurd (cc)
-kind_again false k e = refl
+kind_again patterned k e = grind (arith, kind_back)
 
 number_with : (key : List ℕ) (n : ℕ) (rest : List (List ℕ)) → n < 2 ^ 64 → next_keyed key any_number ((key ++ decimal n) ∷ rest) ≡ Ok (n, rest)
 number_with key n rest small = keyed_again key any_number (decimal n) rest n (any_number_again n small)
 
 pub limits_again : (l : LimitsValue) (rest : List (List ℕ)) → IsLimits l → limits_from (limits_words l rest) ≡ Ok (pruned l unpruned, rest)
 limits_again l rest ok =
-    let k = ok.k in
-    let s = ok.steps in
-    let c = ok.chunks in
-    let n = ok.conflicts in
-    ok_then _ _ (number_with (codes "k=") l.k _ (omega (arith, k))) (ok_then _ _ (number_with (codes "steps=") l.max_s _ (omega (arith, s)))
-    (ok_then _ _ (number_with (codes "chunks=") l.max_c _ (omega (arith, c))) (ok_then _ _ (number_with (codes "conflicts=") l.conflicts rest (omega (arith, n))) refl)))
+    ok_then _ _ (number_with (codes "ok.k=") l.k _ (omega (arith, ok.k))) (ok_then _ _ (number_with (codes "steps=") l.max_s _ (omega (arith, ok.steps)))
+    (ok_then _ _ (number_with (codes "chunks=") l.max_c _ (omega (arith, ok.chunks))) (ok_then _ _ (number_with (codes "conflicts=") l.conflicts rest (omega (arith, ok.conflicts))) refl)))
 
 -- ---- the root
 
@@ -54,8 +47,7 @@ unrooted words = Ok (None, words)
 
 root_again : (b : Bool) (names : List (List ℕ)) (root : ℕ) (rest : List (List ℕ)) → AreNames names → root < length names
     → (if b then (next_keyed (codes "root=") name_of (root_tokens b names root ++ rest) >>= rooted) else unrooted (root_tokens b names root ++ rest)) ≡ Ok (root_asked b names root, rest)
-root_again true names root rest named below = ok_then _ _ (keyed_again (codes "root=") name_of (name_at names root) rest (name_at names root) (name_of_name (name_at names root) (root_is_name names root named below))) refl
-root_again false names root rest named below = refl
+root_again b names root rest named below = grind (arith, ok_then, keyed_again, name_of_name, root_is_name)
 
 -- the number of the root is found by its name
 pub root_of_again : (b : Bool) (names : List (List ℕ)) (root : ℕ) → AreNames names → root < length names → (b ≡ false → root ≡ 0) → root_of names (root_asked b names root) ≡ Ok root
@@ -85,25 +77,20 @@ keyed_word : (key word : List ℕ) → IsWord key → IsWord word → IsWord (ke
 keyed_word key word first second = (omega (arith, length-append key word, first.0), token-append key word first.1 second.1)
 
 kind_word : (kind : Kind) → IsWord (word_of kind)
-kind_word Custom = literal (word_of Custom) refl
-kind_word k = literal (word_of k) refl
+kind_word kind = grind (arith, literal)
 
 root_is_word : (b : Bool) (names : List (List ℕ)) (root : ℕ) → AreNames names → root < length names → AreWords (root_tokens b names root)
-root_is_word true names root named below = (keyed_word (codes "root=") (name_at names root) (literal (codes "root=") refl) (name_word (name_at names root) (root_is_name names root named below)), tt)
-root_is_word false names root named below = tt
+root_is_word b names root named below = grind (arith, keyed_word, literal, name_word, root_is_name)
 
 words_both : (a b : List (List ℕ)) → AreWords a → AreWords b → AreWords (a ++ b)
 words_both [] b first second = second
 words_both (w ∷ ws) b first second = (first.0, words_both ws b first.1 second)
 
 said_word : (word : List ℕ) (said : Bool) → IsWord word → AreWords (word_if word said)
-said_word word true is = (is, tt)
-said_word word false is = tt
+said_word word said is = grind arith
 
 pruning_is_words : (p : Pruning) → AreWords (pruning_words p)
-pruning_is_words p =
-    words_both (word_if (codes "cuts=yes") p.cuts) (word_if (codes "ordered=yes") p.ordered) (said_word (codes "cuts=yes") p.cuts (literal (codes "cuts=yes") refl))
-    (said_word (codes "ordered=yes") p.ordered (literal (codes "ordered=yes") refl))
+pruning_is_words p = grind (arith, words_both, said_word, literal)
 
 number_word : (key : List ℕ) (n : ℕ) → IsWord key → n < 2 ^ 64 → IsWord (key ++ decimal n)
 number_word key n first small = keyed_word key (decimal n) first (decimal_word n small)
@@ -112,12 +99,11 @@ pub synth_tokens : (names : List (List ℕ)) (w : WordsValue) → AreNames names
 synth_tokens names w named ok =
     let l = ok.limits in
     let k = l.k in
-    let s = l.steps in
     let c = l.chunks in
     let n = l.conflicts in
     let kind = keyed_word (codes "collective=") (word_of w.collective.kind) (literal (codes "collective=") refl) (kind_word w.collective.kind) in
     let k_word = number_word (codes "k=") w.limits.k (literal (codes "k=") refl) (omega (arith, k)) in
-    let s_word = number_word (codes "steps=") w.limits.max_s (literal (codes "steps=") refl) (omega (arith, s)) in
+    let s_word = number_word (codes "steps=") w.limits.max_s (literal (codes "steps=") refl) (omega (arith, l.steps)) in
     let c_word = number_word (codes "chunks=") w.limits.max_c (literal (codes "chunks=") refl) (omega (arith, c)) in
     let n_word = number_word (codes "conflicts=") w.limits.conflicts (literal (codes "conflicts=") refl) (omega (arith, n)) in
     let rest = words_both (root_words names w) (pruning_words w.limits.pruning) (root_is_word (takes_root w.collective.kind) names w.collective.root named ok.root) (pruning_is_words w.limits.pruning) in
@@ -125,8 +111,7 @@ synth_tokens names w named ok =
 
 -- in version 2 the kind is the one whose pairs are given
 may_be : (patterned : Bool) (k : Kind) → is_custom k ≡ patterned → (not patterned || is_custom k) ≡ true
-may_be true k e = e
-may_be false k e = refl
+may_be patterned k e = grind arith
 
 pub asked_part_again : (patterned : Bool) (names : List (List ℕ)) (w : WordsValue) (n : ℕ) (rows : List Row) → is_custom w.collective.kind ≡ patterned → AreNames names → IsWords (length names) w
     → Reads (line_part (asked_line patterned) (place n (row_of (synth_words names w) ∷ rows))) (asked_of names w) rows

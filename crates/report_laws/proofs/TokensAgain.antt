@@ -39,9 +39,7 @@ digits_pass (b ∷ bs) digit =
 
 -- digits, of which the first is no 0 unless it is alone
 number_pass : (bs : List ℕ) → 0 < length bs → list_all is_digit bs ≡ true → (1 < length bs → get_or bs 0 0 ≢ 48) → is_number bs ≡ true
-number_pass [] some digits lead = absurd (omega arith)
-number_pass (b ∷ []) some digits lead = grind arith
-number_pass (b ∷ c ∷ bs) some digits lead = and_from (not (b == 48)) (list_all is_digit (b ∷ c ∷ bs)) (ap not (ne_eqb b 48 (lead (omega arith)))) digits
+number_pass bs some digits lead = grind (arith, and_from, ne_eqb)
 
 pub any_number_again : (n : ℕ) → n < 2 ^ 64 → any_number (decimal n) ≡ Some n
 any_number_again n small = grind (arith, decimal_is_IsNumeral, digits_pass, digit_at, number_pass, decimal_nonempty, zero_not, cond-true)
