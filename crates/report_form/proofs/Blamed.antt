@@ -29,8 +29,7 @@ broadcast_valid = let t = report_take (report_text broadcast_report) broadcast_r
 
 -- a report's text has a line
 some_line : (c : Option PatternValue) (rest : List (List (List ℕ))) → [] ≡ take 1 (rows_of (text_of ((codes "sccl" ∷ version_word c ∷ []) ∷ rest))) → ⊥
-some_line None rest e = absurd (cc)
-some_line (Some p) rest e = absurd (cc)
+some_line c rest e = grind arith
 
 pub empty_fails : FailsFirstAt [] 1
 unfolding report_text

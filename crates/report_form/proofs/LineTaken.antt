@@ -9,8 +9,7 @@ pub record WholeTaken (line : Option Row) (row : Row) : Type 0 where
   pub whole : row.whole ≡ true
 
 pub whole_take : (line : Option Row) (row : Row) → whole_line line ≡ Ok row → WholeTaken line row
-whole_take None row e = absurd (cc)
-whole_take (Some r) row e = grind (arith, refuse_ok, ok_is, not-false)
+whole_take line row e = grind (arith, refuse_ok, ok_is, not-false)
 
 -- a whole line whose bytes fall into these words
 pub whole_words : (line : Option Row) (row : Row) (words : List (List ℕ)) → whole_line line ≡ Ok row → words_of row.bytes ≡ words → line ≡ Some (row_of words)
@@ -61,8 +60,7 @@ module _ {A B : Type 0} (shape : List (List ℕ) → Result A ReportCode) (rule 
       → (line : Option Row) (x : B) → on_words (ruled_by shape rule made) line ≡ Ok x → (line ≡ Some (row_of (spell x))) × N x
   ruled_spelled spell N each line x e =
       let t = ruled_take line x e in
-      let P : B → Type 0 = λ y. Spelled spell N t.words y in
-      let (same, holds) = subst P t.same (each t.words t.found t.shaped t.kept) in
+      let (same, holds) = subst (λ y. Spelled spell N t.words y) t.same (each t.words t.found t.shaped t.kept) in
       (t.is ∙ ap (λ ws. Some (row_of ws)) same, holds)
 
   pub ruled_gives : (spell : B → List (List ℕ)) (N : B → Type 0) → ((words : List (List ℕ)) (a : A) → shape words ≡ Ok a → rule a ≡ true → Spelled spell N words (made a))
@@ -82,8 +80,7 @@ fixed_gives bytes words tokens p = line_gives (fixed_line bytes) (λ u. words) p
     there : (line : Option Row) (u : Unit {0}) → fixed_line bytes line ≡ Ok u → line ≡ Some (row_of words)
     there line u e =
         let (row, found, e1) = bind_ok (whole_line line) (λ r. refuse (not (bytes_eq r.bytes bytes)) code.BadLine) u e in
-        let is : row.bytes ≡ bytes = (bytes_eq-Decides row.bytes bytes).0 (not-false (bytes_eq row.bytes bytes) (refuse_alone (not (bytes_eq row.bytes bytes)) code.BadLine u e1)) in
-        whole_words line row words found (ap words_of is ∙ tokens)
+        whole_words line row words found (ap words_of ((bytes_eq-Decides row.bytes bytes).0 (not-false (bytes_eq row.bytes bytes) (refuse_alone (not (bytes_eq row.bytes bytes)) code.BadLine u e1))) ∙ tokens)
 
 pub nothing_take : (p : Place) (x : Unit {0} × Place) → line_part no_line p ≡ Ok x → p.rows ≡ []
 nothing_take p x e = grind (arith, part_ok)

@@ -47,14 +47,11 @@ some_rounds zero r low high = record { rounds = []; many = refl; each = All-nil 
 some_rounds (suc s) r low high =
     let f : ℕ = min 9 (r - s) in
     let later = some_rounds s (r - f) (omega (arith, low)) (omega (arith, low, high)) in
-    let many = later.many in
-    let total = later.total in
-    let both : f + (r - f) ≡ r = omega (arith, low) in
     record {
       rounds = f ∷ later.rounds;
-      many = omega (arith, many);
+      many = omega (arith, later.many);
       each = All-cons IsRound f later.rounds (record { some = omega (arith, low); few = omega arith }) later.each;
-      total = sum_by-cons (λ (x : ℕ). x) f later.rounds ∙ ap (λ n. f + n) total ∙ both;
+      total = sum_by-cons (λ (x : ℕ). x) f later.rounds ∙ ap (λ n. f + n) later.total ∙ (omega (arith, low));
     }
 
 -- ---- sends
@@ -105,8 +102,7 @@ abbrev pub headed : HeadValue → List (List ℕ)
 headed head = point_words (point_of head [] [])
 
 pub same_head : (q : QuestionValue) (head : HeadValue) (x : PointValue) → Scheduled q head x → headed head ≡ point_words x
-same_head q head x s =
-    ap (λ c. point_words (record { candidate = c; schedule = x.schedule; mark = head.mark })) (sym s.candidate) ∙ ap (λ m. point_words (record { candidate = x.candidate; schedule = x.schedule; mark = m })) (sym s.mark)
+same_head q head x s = grind arith
 
 -- a point of this head may stand behind those before it
 pub record Headed (q : QuestionValue) (Q : List PointValue → Type 0) (before : List PointValue) (head : HeadValue) : Type 0 where
@@ -168,18 +164,12 @@ module _ (names : List (List ℕ)) (q : QuestionValue) (as_many : length names �
       let taken = head_take words h shape in
       let parts = and_parts (is_within q h.candidate) (comes_next (last_or None (solved_by before)) h.candidate) rule in
       let w : IsWithin q h.candidate = (decides_within q h.candidate).0 parts.0 in
-      let some = w.some_steps in
-      let steps = w.steps in
-      let rounds = w.rounds in
-      let most = ok.steps in
-      let more = ok.k in
-      let W : Candidate → Type 0 = IsWithin q in
       let M : Mark → Type 0 = λ m. (m ≡ mark.Optimal) ⊎ (m ≡ mark.Open) in (
         taken.stands,
         record {
-          some = some_rounds h.candidate.s h.candidate.r w.all_rounds (omega (arith, some, rounds, more));
-          keeps = λ x s. let within : IsWithin q x.candidate = subst W (sym s.candidate) w in record {
-            each = All-push (IsPrintedPoint q) before x are.each (record { has = s.has some (omega (arith, steps, most)); within = within; mark = subst M (sym s.mark) taken.mark });
+          some = some_rounds h.candidate.s h.candidate.r w.all_rounds (omega (arith, w.some_steps, w.rounds, ok.k));
+          keeps = λ x s. let within : IsWithin q x.candidate = subst (IsWithin q) (sym s.candidate) w in record {
+            each = All-push (IsPrintedPoint q) before x are.each (record { has = s.has w.some_steps (omega (arith, w.steps, ok.steps)); within = within; mark = subst M (sym s.mark) taken.mark });
             listed = push_part q (λ y. y.candidate) before x are.listed within (ap (comes_next (last_or None (solved_by before))) s.candidate ∙ parts.1);
           };
         },

@@ -76,8 +76,7 @@ head_words false = codes "sccl" ∷ codes "1" ∷ []
 head_words true = codes "sccl" ∷ codes "2" ∷ []
 
 pub head_spelled : (c : Option PatternValue) → head_words (is_some c) ≡ codes "sccl" ∷ version_word c ∷ []
-head_spelled None = refl
-head_spelled (Some p) = refl
+head_spelled c = grind arith
 
 version_gives : (p : Place) → Gives (λ (e : ReportCode × ℕ). e.1 ≡ p.number) (λ (x : Bool × Place). Unit {0} × Between (head_words x.0 ∷ []) p x.1) (line_part version_line p)
 version_gives p = line_gives version_line head_words p (λ b e. (there (first p.rows) b e, tt))
@@ -88,25 +87,19 @@ version_gives p = line_gives version_line head_words p (λ b e. (there (first p.
         whole_words line row (head_words b) found (version_words (codes "sccl 1") (codes "sccl 2") head_words refl refl row.bytes b (need_is (version_of row.bytes) code.BadLine b e1))
 
 same_is : (a b : Bool) → is_same a b ≡ true → a ≡ b
-same_is true true e = refl
-same_is true false e = sym e
-same_is false true e = e
-same_is false false e = refl
+same_is a b e = grind arith
 
 -- the pattern is there exactly where the kind is the one whose pairs are given
 pub pattern_fits : (k : Kind) (c : Option PatternValue) → is_custom k ≡ is_some c → fits_kind k c ≡ true
-pattern_fits k None e = ap not e
-pattern_fits k (Some p) e = e
+pattern_fits k c e = grind arith
 
 -- ---- the topology
 
 pub among_ok : {A : Type 0} (rows : List Row) (r : Result A (TopologyCode × ℕ)) (x : A) → among rows r ≡ Ok x → r ≡ Ok x
-among_ok rows (Ok y) x e = let same : y ≡ x = ok_is {C = ReportCode × ℕ} y x e in ap (λ z. Ok z) same
-among_ok rows (Err c) x e = absurd (cc)
+among_ok {A} rows r x e = grind (arith, ok_is)
 
 among_gives : {A : Type 0} {N : A → Type 0} (E : ℕ → Type 0) (rows : List Row) (r : Result A (TopologyCode × ℕ)) → Gives (λ (e : TopologyCode × ℕ). E e.1) N r → Gives (λ (e : ReportCode × ℕ). E e.1) N (among rows r)
-among_gives E rows (Ok x) g = gives_done x (g.ok x refl)
-among_gives E rows (Err c) g = record { ok = λ x e. absurd (cc); err = λ e h. let at : c.1 ≡ e.1 = cc in subst E at (g.err c refl) }
+among_gives {A} {N} E rows r g = grind (arith, gives_done)
 
 at_line_gives : {A : Type 0} (n : ℕ) (r : Result A ReportCode) → Gives (λ (e : ReportCode × ℕ). e.1 ≡ n) (λ (x : A). r ≡ Ok x) (at_line n r)
 at_line_gives n r = record { ok = λ x e. at_line_ok n r x e; err = λ e h. (line_err n r e h).1 }
@@ -168,10 +161,7 @@ module _ (b : Bool) (a : AskedValue) (asked : IsAsked b a) where
     later = lines_of z.0 ++ lines_behind (words_from a z.1) z.0 w
 
     made_lines : head_words b ∷ asked_words a ∷ later ≡ report_lines made
-    made_lines =
-        ap (λ c. head_words c ∷ asked_words a ∷ later) (sym is.shown)
-        ∙ ap (λ ws. ws ∷ asked_words a ∷ later) (head_spelled z.0.custom)
-        ∙ ap (λ ws. (codes "sccl" ∷ version_word z.0.custom ∷ []) ∷ ws ∷ later) words_are.spelled
+    made_lines = grind (arith, asked_words, head_spelled, words_are)
 
     made_stops : (p q : Place) (n : ℕ) → Between (head_words b ∷ asked_words a ∷ []) p q → Cut later q n → Stops report_lines IsReport p n
     made_stops p q n front cut = record { value = made; valid = made_valid; cut = subst (λ (ls : List (List (List ℕ))). Cut ls p n) made_lines (cut_on (head_words b ∷ asked_words a ∷ []) later p q n front cut) }
@@ -204,12 +194,10 @@ some_asked : (b : Bool) → (a : AskedValue) × IsAsked b a
 some_asked b = (record { kind = if b then kind.Custom else kind.Allgather; limits = record { k = 0; max_s = 1; max_c = 1; conflicts = 1; pruning = unpruned }; root = None }, record { limits = record { k = omega arith; some_steps = omega arith; steps = omega arith; some_chunks = omega arith; chunks = omega arith; some_conflicts = omega arith; conflicts = omega arith }; fits = no_root b; kind = of_version b })
   where
     no_root : (c : Bool) → RootFits (takes_root (if c then kind.Custom else kind.Allgather)) None
-    no_root true = refl
-    no_root false = refl
+    no_root c = grind arith
 
     of_version : (c : Bool) → is_custom (if c then kind.Custom else kind.Allgather) ≡ c
-    of_version true = refl
-    of_version false = refl
+    of_version c = grind arith
 
 some_report : (b : Bool) → (r : ReportValue) × IsReport r × (rest : List (List (List ℕ))) × (head_words b ∷ rest ≡ report_lines r)
 some_report b =
@@ -289,8 +277,7 @@ report_gives rows p =
     (λ r t.
     let first : List (List (List ℕ)) = head_words h.0 ∷ asked_words a.0 ∷ lines_of z.0 in
     let lines = then_on (head_words h.0 ∷ asked_words a.0 ∷ []) (lines_of z.0) p a.1 c.1 front topology in
-    let P : ReportValue → Type 0 = λ x. IsReport x × (p.rows ≡ map row_of (report_lines x)) in
-    subst P t.is (
+    subst (λ x. IsReport x × (p.rows ≡ map row_of (report_lines x))) t.is (
       made_valid h.0 a.0 ta.0 z is t.behind t.valid,
       lines.rows ∙ ap (λ rs. map row_of first ++ rs) t.rows ∙ sym (map-append row_of first (lines_behind (words_from a.0 root) z.0 t.behind)) ∙ ap (map row_of) (made_lines h.0 a.0 ta.0 z is t.behind t.valid),
     ))

@@ -62,8 +62,7 @@ numbers_take [] ns e = let same : [] ≡ ns = ok_is {C = ReportCode} [] ns e in 
 numbers_take (w ∷ ws) ns e =
     let (n, r1, e1) = need_ok (small_number w) BadLine (λ m. numbers_from ws >>= (λ ms. Ok (m ∷ ms))) ns e in
     let (ms, r2, e2) = bind_ok (numbers_from ws) (λ ks. Ok (n ∷ ks)) ns e1 in
-    let same : n ∷ ms ≡ ns = ok_is {C = ReportCode} (n ∷ ms) ns e2 in
-    ap (λ v. v ∷ ws) (up_to_found 65535 n w r1).0 ∙ (ap (λ vs. decimal n ∷ vs) (numbers_take ws ms r2) ∙ ap (map decimal) same)
+    ap (λ v. v ∷ ws) (up_to_found 65535 n w r1).0 ∙ (ap (λ vs. decimal n ∷ vs) (numbers_take ws ms r2) ∙ ap (map decimal) (ok_is {C = ReportCode} (n ∷ ms) ns e2))
 
 pub rounds_take : (words : List (List ℕ)) (rounds : List ℕ) → rounds_from words ≡ Ok rounds → words ≡ rounds_words rounds
 rounds_take words rounds e = grind (arith, bind_ok, fixed_take, numbers_take)

@@ -33,8 +33,7 @@ kind_standard : (w : List ℕ) (k : Kind) → kind_named false w ≡ Some k → 
 kind_standard w k e = standard k (ap (kind_named false) (sym (kind_is false w k e)) ∙ e)
   where
     standard : (x : Kind) → kind_named false (word_of x) ≡ Some x → is_custom x ≡ false
-    standard Custom h = absurd (cc)
-    standard x h = refl
+    standard x h = grind arith
 
 name_is : (w name : List ℕ) → name_of w ≡ Some name → (w ≡ name) × (is_name name ≡ true)
 name_is w name e = let (good, found) = if_some (is_name w) (Some w) name e in let same = same_Some w name found in (same, ap is_name (sym same) ∙ good)
@@ -52,14 +51,10 @@ pub limits_take : (words : List (List ℕ)) (x : LimitsValue × List (List ℕ))
 limits_take words =
     pass_then _ _ _ _ (keyed_take (codes "k=") any_number words) (λ k t1. pass_then _ _ _ _ (keyed_take (codes "steps=") any_number k.1) (λ s t2. pass_then _ _ _ _ (keyed_take (codes "chunks=") any_number s.1)
     (λ c t3. pass_then _ _ _ _ (keyed_take (codes "conflicts=") any_number c.1) (λ n t4. pass_done _ _ (λ ok.
-    let most_k = ok.k in
-    let most_s = ok.steps in
-    let most_c = ok.chunks in
-    let most_n = ok.conflicts in
-    let e1 = any_number_is t1.value k.0 t1.read_as (omega (arith, most_k)) in
-    let e2 = any_number_is t2.value s.0 t2.read_as (omega (arith, most_s)) in
-    let e3 = any_number_is t3.value c.0 t3.read_as (omega (arith, most_c)) in
-    let e4 = any_number_is t4.value n.0 t4.read_as (omega (arith, most_n)) in
+    let e1 = any_number_is t1.value k.0 t1.read_as (omega (arith, ok.k)) in
+    let e2 = any_number_is t2.value s.0 t2.read_as (omega (arith, ok.steps)) in
+    let e3 = any_number_is t3.value c.0 t3.read_as (omega (arith, ok.chunks)) in
+    let e4 = any_number_is t4.value n.0 t4.read_as (omega (arith, ok.conflicts)) in
     cc)))))
 
 -- ---- the root
@@ -84,8 +79,7 @@ root_take kind words = grind (arith, pass_then, keyed_take, name_is, pass_done)
 -- ---- what may be left out
 
 said_is : (word : List ℕ) (words : List (List ℕ)) → words ≡ word_if word (said_from word words).0 ++ (said_from word words).1
-said_is word [] = refl
-said_is word (w ∷ ws) = grind (arith, bytes_eq, bytes_eq-Decides)
+said_is word words = grind (arith, bytes_eq-Decides)
 
 pub pruning_take : (words : List (List ℕ)) (p : Pruning) → pruning_from words ≡ Ok p → words ≡ pruning_words p
 pruning_take words =
@@ -130,8 +124,7 @@ asked_take patterned words =
 
 -- the kind is that of the version
 kind_of_version : (patterned : Bool) (k : Kind) → (patterned ≡ false → is_custom k ≡ false) → (not patterned || is_custom k) ≡ true → is_custom k ≡ patterned
-kind_of_version true k standard may = may
-kind_of_version false k standard may = standard refl
+kind_of_version patterned k standard may = grind (arith, standard)
 
 pub record IsAsked (patterned : Bool) (a : AskedValue) : Type 0 where
   pub limits : IsLimits a.limits
@@ -161,8 +154,7 @@ words_take names a root some ok fits e = chosen (takes_root a.kind) refl fits
 
     chosen : (b : Bool) → b ≡ takes_root a.kind → RootFits b a.root → WordsTaken names a root
     chosen true takes (name, is, good) =
-        let found : node_of names name ≡ Some root = need_is (node_of names name) code.Limits root (ap (root_of names) (sym is) ∙ e) in
-        let (below, named) = node_is names name root found in
+        let (below, named) = node_is names name root (need_is (node_of names name) code.Limits root (ap (root_of names) (sym is) ∙ e)) in
         record {
           spelled = ap (λ o. front (root_tokens o)) is
               ∙ (ap (λ v. front ((codes "root=" ++ v) ∷ [])) (sym named)

@@ -14,8 +14,7 @@ pub decides_no_worse : (a b : Candidate) → Decides (is_no_worse a b) (NoWorse 
 decides_no_worse a b = Decides-and (nat_le a.s b.s) (nat_le (a.r * b.c) (b.r * a.c)) (leb_decides _ _) (leb_decides _ _)
 
 pub decides_better : (a b : Candidate) → Decides (is_better a b) (Better a b)
-decides_better a b = Decides-and (is_no_worse a b) (nat_lt a.s b.s || nat_lt (a.r * b.c) (b.r * a.c)) (decides_no_worse a b)
-    (Decides-or (nat_lt a.s b.s) (nat_lt (a.r * b.c) (b.r * a.c)) (Decides-ltb _ _) (Decides-ltb _ _))
+decides_better a b = grind (arith, decides_no_worse)
 
 pub decides_before : (a b : Candidate) → Decides (is_before a b) (Before a b)
 decides_before a b = grind (arith, Decides-and, nat_lt, Decides-eqb, Decides-ltb, Decides-or)

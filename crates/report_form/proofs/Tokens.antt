@@ -23,16 +23,13 @@ abbrev pub with_rest : {A : Type 0} → List (List ℕ) → A → Result (A × L
 with_rest ws x = Ok (x, ws)
 
 pub word_take : {A : Type 0} (read : List ℕ → Option A) (words : List (List ℕ)) (x : A × List (List ℕ)) → next_word read words ≡ Ok x → WordTaken read words x
-word_take read [] x e = absurd (cc)
-word_take {A} read (w ∷ ws) x e = grind (arith, need_ok, ok_is)
+word_take {A} read words x e = grind (arith, need_ok, ok_is)
 
 pub fixed_take : (word : List ℕ) (words rest : List (List ℕ)) → fixed_word word words ≡ Ok rest → words ≡ word ∷ rest
-fixed_take word [] rest e = absurd (cc)
-fixed_take word (w ∷ ws) rest e = grind (arith, refuse_ok, bytes_eq, bytes_eq-Decides, not-false, ok_is)
+fixed_take word words rest e = grind (arith, refuse_ok, bytes_eq-Decides, not-false, ok_is)
 
 pub no_more_take : (words : List (List ℕ)) (u : Unit {0}) → no_more words ≡ Ok u → words ≡ []
-no_more_take [] u e = refl
-no_more_take (w ∷ ws) u e = absurd (cc)
+no_more_take words u e = grind arith
 
 -- ---- numbers and names
 
@@ -52,8 +49,7 @@ digits_all (b ∷ bs) e =
     let range = and_parts (nat_le 48 b) (nat_le b 57) parts.0 in
     let low = leb-true 48 b range.0 in
     let high = leb-true b 57 range.1 in
-    let is = digit_is b low high in
-    (omega (arith, is, low, high), digits_all bs parts.1)
+    (omega (arith, digit_is b low high, low, high), digits_all bs parts.1)
 
 -- a canonical number that is small enough is spelled by its digits
 pub canonical : (token : List ℕ) → is_number token ≡ true → digits_value 10 token < 2 ^ 64 → token ≡ decimal (digits_value 10 token)
