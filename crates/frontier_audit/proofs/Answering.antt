@@ -14,12 +14,10 @@ up_any [] x = refl
 up_any (u ∷ us) x = ap (λ b. same_candidate x u.candidate || b) (up_any us x)
 
 listed_one : (a l g : Bool) → l ≡ true → (a || l || g) ≡ true
-listed_one true l g e = ap (λ b. true || b || g) e
-listed_one false l g e = ap (λ b. false || b || g) e
+listed_one a l g e = grind arith
 
 other_one : (a l g : Bool) → l ≡ false → (a || g) ≡ (a || l || g)
-other_one true l g e = ap (λ b. true || b || g) (sym e)
-other_one false l g e = ap (λ b. false || b || g) (sym e)
+other_one a l g e = grind arith
 
 -- the first that fails a test is the first that is refused for it
 first_refused : {X C : Type 0} (test : X → Bool) (code : X → C) (xs : List X) → option_map code (find (λ x. not (test x)) xs) ≡ denial_of (each (λ x. refuse (not (test x)) (code x)) xs)

@@ -21,18 +21,14 @@ module _ (q : QuestionValue) where
   links b = if b then reversed_of q.topology else q.topology
 
   nodes_on : (b : Bool) → (links b).nodes ≡ q.topology.nodes
-  nodes_on true = refl
-  nodes_on false = refl
+  nodes_on b = grind arith
 
 module _ (q : QuestionValue) (asked : IsAuditable q) where
   small_over : (b : Bool) → adds_up q.spec ≡ b → IsSmallQuestion (copying_question (links q b) q.spec q.limits)
-  small_over true e = small_by_copying (reversed_of q.topology) q.spec q.limits (turned_topology q.topology asked.topology) asked.spec asked.single asked.limits
-      (subst (λ n. n ≤ size_limit) (sym (copied_size q) ∙ same_size (reversed_of q.topology) q.spec q.limits) asked.size)
-  small_over false e = small_by_copying q.topology q.spec q.limits asked.topology asked.spec asked.single asked.limits asked.size
+  small_over b e = grind (arith, small_by_copying, turned_topology, copied_size, same_size)
 
   within_over : (b : Bool) (x : Candidate) → IsWithin q x → IsWithin (copying_question (links q b) q.spec q.limits) x
-  within_over true x w = within_by (reversed_of q.topology) q.limits x q.spec (copied_spec q.spec) (sym (same_allowed q.spec q.topology.nodes x.c)) w
-  within_over false x w = within_by q.topology q.limits x q.spec (copied_spec q.spec) (sym (same_allowed q.spec q.topology.nodes x.c)) w
+  within_over b x w = grind (arith, within_by, same_allowed)
 
   formula_over : (b : Bool) (x : Candidate) → adds_up q.spec ≡ b → formula_for (copying_question (links q b) q.spec q.limits) x ≡ formula_for q x
   formula_over true x e = reduced_formula q x e asked.single
@@ -74,19 +70,16 @@ module _ (c : Option PatternValue) (root nodes count : ℕ) where
   chunks_at k p = chunks_in (spec_of (record { kind = kind_of k p; root = root }) c) nodes count
 
   reduced_chunks : (o : Option PatternValue) → chunks_in (spec_of (record { kind = kind.Reducescatter; root = root }) o) nodes count ≡ chunks_in (spec_of (record { kind = kind.Allreduce; root = root }) o) nodes count
-  reduced_chunks None = refl
-  reduced_chunks (Some p) = refl
+  reduced_chunks o = grind arith
 
   gathered_chunks : (o : Option PatternValue) → chunks_in (spec_of (record { kind = kind.Allgather; root = root }) o) nodes count ≡ chunks_in (spec_of (record { kind = kind.Allreduce; root = root }) o) nodes count
-  gathered_chunks None = refl
-  gathered_chunks (Some p) = refl
+  gathered_chunks o = grind arith
 
   abbrev Whole : Kind → Part → Type 0
   Whole k p = chunks_at k p ≡ chunks_at k part.Whole
 
   as_many : (k : Kind) → All (Whole k) (parts_of k)
-  as_many kind.Allreduce = grind (arith, All-cons, reduced_chunks, gathered_chunks, All-nil)
-  as_many k = All-cons (Whole k) part.Whole [] refl (All-nil (Whole k))
+  as_many k = grind (arith, reduced_chunks, gathered_chunks)
 
 module _ (r : ReportValue) (ok : IsReport r) (p : Part) (has : Contains (parts_of r.words.collective.kind) p) where
   abbrev asks : Part → QuestionValue

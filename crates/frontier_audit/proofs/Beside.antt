@@ -16,21 +16,16 @@ use Rattle.frontier_audit.proofs.Passing.{then_ok, ok_then, refused_not}
 
 module _ (test : List ℕ → Bool) (refused : Reason) (x : Candidate) where
   tested : (b : Bool) → refuse (not b) (refused, x) ≡ judged (if b then Stands else Refused) refused x
-  tested true = refl
-  tested false = refl
+  tested b = grind arith
 
   pub alone : (file : Option (List ℕ)) → (need file (ProofMissing, x) >>= (λ bytes. refuse (not (test bytes)) (refused, x))) ≡ judged (file_verdict test file) refused x
-  alone None = refl
-  alone (Some bytes) = tested (test bytes)
+  alone file = grind (arith, tested)
 
   first : (file : Option (List ℕ)) (rest : Checked Denial) → (need file (ProofMissing, x) >>= (λ bytes. refuse (not (test bytes)) (refused, x) >>= (λ _. rest))) ≡ (judged (file_verdict test file) refused x >>= (λ _. rest))
-  first None rest = refl
-  first (Some bytes) rest = ap (λ r. r >>= (λ _. rest)) (tested (test bytes))
+  first file rest = grind (arith, tested)
 
 stands : (v : FileVerdict) (refused : Reason) (x : Candidate) → judged v refused x ≡ Ok tt → v ≡ Stands
-stands Missing refused x e = absurd (cc)
-stands Refused refused x e = absurd (cc)
-stands Stands refused x e = refl
+stands v refused x e = grind arith
 
 -- ---- a refuted candidate
 

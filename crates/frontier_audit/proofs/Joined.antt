@@ -15,15 +15,10 @@ hop_decides : (a b : Hop) → Decides (same_hop a b) (a ≡ b)
 hop_decides a b = grind (arith, Decides-like, Decides-and, Decides-eqb)
 
 mark_is : (m n : Mark) → same_mark m n ≡ true → m ≡ n
-mark_is mark.Optimal mark.Optimal e = refl
-mark_is mark.Open mark.Open e = refl
-mark_is (mark.Joined a) (mark.Joined b) e = ap (λ n. mark.Joined n) (eqb-true a b e)
-mark_is _ _ e = absurd (cc)
+mark_is m n e = grind (arith, eqb-true)
 
 mark_itself : (m : Mark) → same_mark m m ≡ true
-mark_itself mark.Optimal = refl
-mark_itself mark.Open = refl
-mark_itself (mark.Joined a) = eq-eqb a a refl
+mark_itself m = grind (arith, eq-eqb)
 
 point_decides : (a b : PointValue) → Decides (same_point a b) (a ≡ b)
 point_decides a b = grind (arith, Decides-like, Decides-and, same_decides, bytes_eq-Decides, slice_eq-Decides, hop_decides, mark_is, mark_itself)

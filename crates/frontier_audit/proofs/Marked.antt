@@ -26,12 +26,10 @@ abbrev pub AllBetterRefuted : QuestionValue → FrontierValue → Candidate → 
 AllBetterRefuted q f x = (y : Candidate) → IsWithin q y → Better y x → Contains f.refuted y
 
 implied : (b l : Bool) → (not b || l) ≡ true → b ≡ true → l ≡ true
-implied true l e h = e
-implied false l e h = absurd (cc)
+implied b l e h = grind arith
 
 implies : (b l : Bool) → (b ≡ true → l ≡ true) → (not b || l) ≡ true
-implies true l h = h refl
-implies false l h = refl
+implies b l h = grind arith
 
 pub optimal_decides : (q : QuestionValue) (f : FrontierValue) (x : Candidate) → Decides (is_optimal q f x) (AllBetterRefuted q f x)
 optimal_decides q f x = (one_way, back)
@@ -49,15 +47,7 @@ optimal_decides q f x = (one_way, back)
         (λ k d low. let w = each_within q k d low in implies _ _ (λ b. contains_listed f.refuted _ (h _ w ((decides_better _ x).0 b))))
 
 pub mark_by : (b : Bool) (m : Mark) → is_mark b m ≡ true → ((m ≡ mark.Optimal) ↔ (b ≡ true)) × ((m ≡ mark.Optimal) ⊎ (m ≡ mark.Open))
-mark_by true mark.Optimal e = ((λ h. refl, λ h. refl), inl refl)
-mark_by false mark.Open e = ((λ h. absurd (cc), λ h. absurd (cc)), inr refl)
-mark_by _ _ e = absurd (cc)
+mark_by b m e = grind arith
 
 pub by_mark : (b : Bool) (m : Mark) → (m ≡ mark.Optimal) ↔ (b ≡ true) → (m ≡ mark.Optimal) ⊎ (m ≡ mark.Open) → is_mark b m ≡ true
-by_mark true mark.Optimal h o = refl
-by_mark true mark.Open h o = absurd (let e = h.1 refl in cc)
-by_mark true (mark.Joined n) h o = absurd (let e = h.1 refl in cc)
-by_mark false mark.Optimal h o = absurd (let e = h.0 refl in cc)
-by_mark false mark.Open h o = refl
-by_mark false (mark.Joined n) h (inl e) = absurd (cc)
-by_mark false (mark.Joined n) h (inr e) = absurd (cc)
+by_mark b m h o = grind arith

@@ -24,12 +24,10 @@ due_alike t a b p = go (same_point (join_of a b) p) refl
     sums z = says_sums (joined_verdict_of t (chunks_of kind.Allreduce t.nodes z.candidate.c) z.schedule a.candidate.s)
 
     with_true : (x : Bool) → x ≡ (x && true)
-    with_true true = refl
-    with_true false = refl
+    with_true x = grind arith
 
     with_false : (x : Bool) → false ≡ (x && false)
-    with_false true = refl
-    with_false false = refl
+    with_false x = grind arith
 
     go : (s : Bool) → same_point (join_of a b) p ≡ s → (s && sums p) ≡ (is_join t (a, b) && s)
     go true e = ap sums (sym (point_is (join_of a b) p e)) ∙ with_true (is_join t (a, b))
@@ -73,8 +71,7 @@ module _ (t : TopologyValue) (joined : List PointValue) where
   one_goes pair before e more = join_goes t pair more joined before (sym e) ∙ ap (λ n. joins_checked t more (drop n joined)) (sym (add-one before))
 
   pub say_then : (first second : Pairs) (before middle now : ℕ) (d : Option Denial) → JoinsSay t first joined before middle None → JoinsSay t second joined middle now d → JoinsSay t (first ++ second) joined before now d
-  say_then first second before middle now None a b = λ more. ap (λ ps. joins_checked t ps (drop before joined)) (append_assoc first second more) ∙ (a (second ++ more) ∙ b more)
-  say_then first second before middle now (Some d) a b = λ more. ap denial_of (ap (λ ps. joins_checked t ps (drop before joined)) (append_assoc first second more) ∙ a (second ++ more)) ∙ b more
+  say_then first second before middle now d a b = grind (arith, joins_checked, drop, append_assoc, denial_of)
 
   pub say_stop : (first second : Pairs) (before middle now : ℕ) (d : Denial) → JoinsSay t first joined before middle (Some d) → JoinsSay t (first ++ second) joined before now (Some d)
   say_stop first second before middle now d a more = ap (λ ps. denial_of (joins_checked t ps (drop before joined))) (append_assoc first second more) ∙ a (second ++ more)

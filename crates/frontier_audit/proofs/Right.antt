@@ -52,8 +52,7 @@ part_passes part q files f right shelf = record {
 -- ---- no part is an allreduce
 
 pub apart : (k : Kind) → All (λ x. kind_of k x ≢ kind.Allreduce) (parts_of k)
-apart kind.Allreduce = grind (arith, All-cons, All-nil)
-apart k = All-cons (λ x. kind_of k x ≢ kind.Allreduce) part.Whole [] (λ e. absurd (cc)) (All-nil (λ x. kind_of k x ≢ kind.Allreduce))
+apart k = grind arith
 
 pub each_apart : (r : ReportValue) → IsReport r → All (λ x. kind_of r.words.collective.kind x.0 ≢ kind.Allreduce) r.frontiers
 each_apart r ok = grind (arith, nat_tests, common_steps, all_map, apart)
@@ -62,13 +61,11 @@ each_apart r ok = grind (arith, nat_tests, common_steps, all_map, apart)
 
 -- a pattern is no allreduce
 pub apart_in : (c : Collective) (o : Option PatternValue) → c.kind ≢ kind.Allreduce → kind_in (spec_of c o) ≢ kind.Allreduce
-apart_in c None apart e = apart e
-apart_in c (Some p) apart e = absurd (cc)
+apart_in c o apart = grind (arith, apart)
 
 -- an allreduce has no pattern
 pub unpatterned : (o : Option PatternValue) → fits_kind kind.Allreduce o ≡ true → o ≡ None
-unpatterned None e = refl
-unpatterned (Some p) e = absurd (cc)
+unpatterned o e = grind arith
 
 pub verified_right : (r : ReportValue) (files : Files) → IsReport r → audit_of r files ≡ Verified → (part : Part) (f : FrontierValue) → Contains r.frontiers (part, f) → All (λ x. IsSolvable (question r part) x → ⊥) f.refuted → RightFrontier (question r part) f
 verified_right r files ok e part f at unsolvable =
@@ -91,8 +88,7 @@ pub verified_joins : (r : ReportValue) (files : Files) → IsReport r → audit_
 verified_joins r files ok e same = grind (arith, are_joined, joinable, only_then, report_passes)
 
 joins_pass : (k : Kind) (r : ReportValue) → (k ≡ kind.Allreduce → joins_checked r.topology.topology (pairs_of (points_of is_reduce r.frontiers) (points_of is_gather r.frontiers)) r.joined ≡ Ok tt) → joins_of k r ≡ Ok tt
-joins_pass kind.Allreduce r h = h refl
-joins_pass _ r h = refl
+joins_pass k r h = grind arith
 
 joined_passes : (r : ReportValue) → IsReport r → (r.words.collective.kind ≡ kind.Allreduce → joins_checked r.topology.topology (pairs_of (points_of is_reduce r.frontiers) (points_of is_gather r.frontiers)) r.joined ≡ Ok tt) → joined_checked r r.frontiers ≡ Ok tt
 joined_passes r ok h =

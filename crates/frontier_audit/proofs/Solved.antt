@@ -10,12 +10,10 @@ use Rattle.report_form.specs.Reports.{HasSchedule}
 use Rattle.frontier_audit.specs.Solutions.{is_solution}
 
 solves_said : (v : Verdict) → says_solves v ≡ true → v ≡ verdict.Solves
-solves_said verdict.Solves e = refl
-solves_said _ e = absurd (cc)
+solves_said v e = grind arith
 
 pub sums_said : (v : SumVerdict) → says_sums v ≡ true → v ≡ sums.Sums
-sums_said sums.Sums e = refl
-sums_said _ e = absurd (cc)
+sums_said v e = grind arith
 
 solves_by : (t : TopologyValue) (pre post : PlacementValue) (s : ScheduleValue) (n r : ℕ) → length s.rounds ≡ n → sum s.rounds ≡ r → says_solves (verdict_of t pre post s) ≡ true → Solves t pre post s n r
 solves_by t pre post s n r steps rounds e = grind (arith, tells_solves, solves_said)
@@ -34,12 +32,10 @@ module _ (q : QuestionValue) (p : PointValue) where
   judged b = if b then says_sums (sum_verdict_of q.topology (demand_for q p.candidate) p.schedule) else says_solves (verdict_of q.topology (instance_for q p.candidate).pre (instance_for q p.candidate).post p.schedule)
 
   achieves_by : HasSchedule q p → (b : Bool) → judged b ≡ true → Achieves b q p.candidate p.schedule
-  achieves_by h true e = sums_by q.topology (demand_for q p.candidate) p.schedule p.candidate.s p.candidate.r h.steps h.rounds e
-  achieves_by h false e = solves_by q.topology (instance_for q p.candidate).pre (instance_for q p.candidate).post p.schedule p.candidate.s p.candidate.r h.steps h.rounds e
+  achieves_by h b e = grind (arith, sums_by, solves_by)
 
   by_achieving : (b : Bool) → Achieves b q p.candidate p.schedule → judged b ≡ true
-  by_achieving true a = by_summing q.topology (demand_for q p.candidate) p.schedule p.candidate.s p.candidate.r a
-  by_achieving false a = by_solving q.topology (instance_for q p.candidate).pre (instance_for q p.candidate).post p.schedule p.candidate.s p.candidate.r a
+  by_achieving b a = grind (arith, by_summing, by_solving)
 
   pub solved_by : HasSchedule q p → is_solution q p ≡ true → IsSolvedBy q p.candidate p.schedule
   solved_by h e = record { valid = h.schedule; in_range = h.in_range; achieves = achieves_by h (adds_up q.spec) e }

@@ -24,8 +24,7 @@ same_turned a b = same_from_decides (same_candidate a b) (same_candidate b a) (s
 
 -- a test for the same candidate as each in the list
 pub listed_by : (test : Candidate → Bool) (x : Candidate) (xs : List Candidate) → ((y : Candidate) → test y ≡ same_candidate y x) → list_any test xs ≡ is_listed xs x
-listed_by test x [] is = refl
-listed_by test x (y ∷ ys) is = ap (λ b. b || list_any test ys) (is y ∙ same_turned y x) ∙ ap (λ b. same_candidate x y || b) (listed_by test x ys is)
+listed_by test x xs is = grind (arith, same_turned)
 
 pub listed_contains : (xs : List Candidate) (x : Candidate) → is_listed xs x ≡ true → Contains xs x
 listed_contains xs x e = grind (arith, Any-from_list_any, same_is)
@@ -36,9 +35,7 @@ contains_listed xs x (k, low, at) = list_any_at (same_candidate x) xs k x low (a
 -- ---- a search's order leaves the same candidates
 
 swapped : (a b c : Bool) → (a || (b || c)) ≡ (b || (a || c))
-swapped true true c = refl
-swapped true false c = refl
-swapped false b c = refl
+swapped a b c = grind arith
 
 any_put : (p : Candidate → Bool) (x : Candidate) (ys : List Candidate) → list_any p (put_in_order x ys) ≡ (p x || list_any p ys)
 any_put p x [] = refl
@@ -86,12 +83,10 @@ any_passing p g keep a (suc n) j low high k h = ⊎_elim
     others = filter keep (range_with_len (a + 1) n)
 
     first : (b : Bool) → b ≡ true → p (g a) ≡ true → list_any p (map g (if b then a ∷ others else others)) ≡ true
-    first true e d = or_left (p (g a)) (list_any p (map g others)) d
-    first false e d = absurd (cc)
+    first b e d = grind (arith, or_left, others)
 
     later : (b : Bool) → list_any p (map g others) ≡ true → list_any p (map g (if b then a ∷ others else others)) ≡ true
-    later true d = or_right (p (g a)) (list_any p (map g others)) d
-    later false d = d
+    later b d = grind (arith, or_right, others)
 
 pub step_listed : (q : QuestionValue) (x : Candidate) → IsWithin q x → is_listed (in_search_order (candidates_of_step q x.s)) x ≡ true
 step_listed q x w =

@@ -19,9 +19,7 @@ use Rattle.candidate_formula.{specs.{Formulas.formula_for, Pruned.is_cut_away}, 
 
 -- a part has a pattern where the whole has one
 pub parts_fit : (k : Kind) (c : Option PatternValue) → fits_kind k c ≡ true → All (λ x. fits_kind (kind_of k x) c ≡ true) (parts_of k)
-parts_fit kind.Allreduce None e = grind (arith, All-cons, All-nil)
-parts_fit kind.Allreduce (Some p) e = absurd (cc)
-parts_fit k c e = All-cons (λ x. fits_kind (kind_of k x) c ≡ true) part.Whole [] e (All-nil (λ x. fits_kind (kind_of k x) c ≡ true))
+parts_fit k c e = grind arith
 
 spec_is : (r : ReportValue) (part : Part) (f : FrontierValue) → IsReport r → Contains r.frontiers (part, f) → IsSpec r.topology.topology.nodes (question r part).spec
 spec_is r part f ok at = grind (arith, all_map, parts_fit, All-contains, fitting_spec)
@@ -56,8 +54,7 @@ module _ (q : QuestionValue) (x : Candidate) (topology : IsTopology q.topology) 
 
 -- one or the other
 by_either : (b : Bool) → (b ≡ true → ⊥) → (b ≡ false → ⊥) → ⊥
-by_either true on off = on refl
-by_either false on off = off refl
+by_either b on off = grind arith
 
 module _ (r : ReportValue) (part : Part) (f : FrontierValue) (x : Candidate) (ok : IsReport r) (at : Contains r.frontiers (part, f)) (of : Contains f.refuted x) where
   alone : kind_in (question r part).spec ≢ kind.Allreduce
@@ -66,8 +63,7 @@ module _ (r : ReportValue) (part : Part) (f : FrontierValue) (x : Candidate) (ok
   formula_is_exact : Satisfiable (formula_for (question r part) x) ↔ IsSolvable (question r part) x
   formula_is_exact =
       let frontier = All-contains (λ y. IsFrontier (question_of r.words r.topology y.0) y.1) r.frontiers (part, f) ok.frontiers at in
-      let within = All-contains (IsWithin (question r part)) f.refuted x frontier.refuted of in
-      exactly_solved (question r part) x ok.topology.topology (spec_is r part f ok at) alone ok.words.limits within
+      exactly_solved (question r part) x ok.topology.topology (spec_is r part f ok at) alone ok.words.limits (All-contains (IsWithin (question r part)) f.refuted x frontier.refuted of)
 
 -- what is cut away has no solution, and the formula of another has a proof beside it
 pub no_solution : (r : ReportValue) (files : Files) (part : Part) (f : FrontierValue) (x : Candidate) → IsReport r → ShelfRight r files → Contains r.frontiers (part, f) → Contains f.refuted x → IsSolvable (question r part) x → ⊥

@@ -44,8 +44,7 @@ verdict_of None = Verified
 verdict_of (Some (p, (reason, x))) = Denied reason p x
 
 same_verdict : (checked : Checked (Part × Denial)) → verdict_of (denial_of checked) ≡ verdict_from checked
-same_verdict (Ok u) = refl
-same_verdict (Err (p, (reason, x))) = refl
+same_verdict checked = grind arith
 
 -- what the answer of the checks says of the report
 pub record IsJudged (tells : Bool) (shelf : Files) (r : ReportValue) (v : AuditVerdict) : Type 0 where
