@@ -50,10 +50,6 @@ alone_code row why same e = e ∙ ap (λ t. told_code t row) (sym same)
 no_form : (word : List ℕ) (shape : List Token) (row : Row) → begins (word ++ 32 ∷ []) row.bytes ≡ false → has_shape (Word word ∷ small ∷ shape) (words_of row.bytes) ≡ false
 no_form word shape row other = unbegun word (λ w. is_some (number_up_to 65535 w)) shape row other
 
--- a line that begins so stands there
-there : (word : List ℕ) (o : Option Row) (row : Row) → row_begins word o ≡ true → o ≡ Some row → begins word row.bytes ≡ true
-there word o row begun is = ap (row_begins word) (sym is) ∙ begun
-
 -- the line that begins the part of a frontier
 abbrev pub IsTitle : Part → Type 0
 IsTitle part = slice_index_or (words_of (part_bytes part)) 0 [] ≡ codes "frontier"
@@ -84,7 +80,7 @@ module _ (rows : List Row) (names : List (List ℕ)) where
       point_goes p at begun =
           let g = goes_on _ (λ h. schedule_at names q h.0 h.1)
           (line_goes rows names joined (results joined) (codes "point") joined (rounds ∷ []) (or_false joined) (λ b. refl) (on_words (ruled_by shape rule made)) p at refl
-          (λ row here. let front = there (codes "point ") (first p.rows) row begun here in
+          (λ row here. let front = ap (row_begins (codes "point ")) (sym here) ∙ begun in
           gives_like (λ why is. alone_code row why (point_alone joined row (tail_of (codes "point") row) (begins_is (codes "point") row.bytes refl front)) is) (λ h is. first_of_front (codes "point") row refl front) (ruled_goes (has_shape (point_shape joined)) shape rule made told row)))
           (λ h read at_head. schedule_goes h.0 h.1 at_head) in
           record { ok = λ x read. (g.ok x read, piece_shortens (codes "point ") (λ before. on_words (ruled_by shape rule made)) (λ h. schedule_at names q h.0 h.1) (steady_schedule names q) [] p x begun read); err = g.err }

@@ -25,13 +25,6 @@ abbrev Titles : List Part → Type 0
 Titles [] = Unit {0}
 Titles (part ∷ parts) = IsTitle part × Titles parts
 
-titles_of : (k : Kind) → Titles (parts_of k)
-titles_of k = grind arith
-
--- no line may stand there
-none_goes : (row : Row) → Gives (λ (why : ReportCode). why ≡ told_code false row) (λ (u : Unit {0}). Unit {0}) (no_line (Some row))
-none_goes row = grind (arith, gives_fail)
-
 module _ (rows : List Row) (words : WordsValue) (t : NamedTopologyValue) where
   frontiers_go : (parts : List Part) → Titles parts → (p : Place) → At rows t.names false [] p → Gives (Coded rows) (λ (x : List (Part × FrontierValue) × Place). At rows t.names false [] x.1) (frontiers_from words t parts p)
   frontiers_go [] titles p at = gives_done _ at
@@ -52,12 +45,12 @@ module _ (rows : List Row) (words : WordsValue) (t : NamedTopologyValue) where
     where
       by_line : (o : Option Row) → first p.rows ≡ o → Gives (λ (why : ReportCode). Coded rows (why, p.number)) (λ (u : Unit {0}). Unit {0}) (no_line o)
       by_line None here = gives_done tt tt
-      by_line (Some row) here = gives_like (λ why is. coded_at rows t.names joined [] p row why at here is) (λ u v. v) (none_goes row)
+      by_line (Some row) here = gives_like (λ why is. coded_at rows t.names joined [] p row why at here is) (λ u v. v) (grind (arith, gives_fail))
 
   body_goes : (p : Place) → At rows t.names false [] p → Gives (Coded rows) (λ (x : ReportValue). Unit {0}) (body_of words t p)
   unfolding body_of
   body_goes p at =
-      goes_on _ _ (frontiers_go (parts_of words.collective.kind) (titles_of words.collective.kind) p at)
+      goes_on _ _ (frontiers_go (parts_of words.collective.kind) (grind arith) p at)
       (λ f read here. goes_on _ _ (joined_goes words.collective.kind f.1 here)
       (λ j more there. goes_on _ _ (title_goes rows t.names there.0 there.0 (codes "end") (codes "end") [] refl (or_false there.0) (λ b. refl) j.1 there.1)
       (λ e ended last. goes_on _ _ (nothing_goes there.0 e.1 last) (λ u none v. gives_done _ tt))))
@@ -117,9 +110,6 @@ module _ (text : List ℕ) where
   abbrev Passed : ReportValue → Type 0
   Passed r = Unit {0}
 
-  first_header : (patterned : Bool) → first_word (row_of (head_words patterned)) ≡ codes "topology"
-  first_header patterned = grind arith
-
   -- the forms that may stand behind these lines, by the first word of the last
   fits_after : (before : List Row) (r row : Row) (w : List ℕ) → first_word r ≡ w → (forms : List Form) → forms_after (is_patterned (before ++ r ∷ [])) (names_in (before ++ r ∷ [])) (is_joined (map first_word (before ++ r ∷ []))) w ≡ forms → fits (before ++ r ∷ []) row ≡ list_any (λ form. form row) forms
   fits_after before r row w is forms e = grind (arith, last_is, is_joined)
@@ -132,11 +122,8 @@ module _ (text : List ℕ) where
           words4 : words_of r4.bytes ≡ nodes_words n.0
           words4 = ap (λ r. words_of r.bytes) is4 ∙ words_again (nodes_words n.0) (tokens_from (nodes_words n.0) (omega arith) (nodes_are_words n.0 named))
 
-          w4 : first_word r4 ≡ codes "nodes"
-          w4 = ap (λ ws. slice_index_or ws 0 []) words4
-
           at_groups : At all n.0 false [] n.1
-          at_groups = grind (arith, words4, is_joined, w4, fits_after)
+          at_groups = grind (arith, words4, is_joined, fits_after)
 
           root_goes : (root : ℕ) → Gives (Coded all) Passed (after_root all head.0 a.0 n root)
           root_goes root =
@@ -147,15 +134,12 @@ module _ (text : List ℕ) where
         nodes_fit : (row : Row) → fits (r1 ∷ r2 ∷ r3 ∷ []) row ≡ is_ok (nodes_line (Some row))
         nodes_fit row = fits_after (r1 ∷ r2 ∷ []) r3 row (codes "topology") w3 ((λ r. is_ok (nodes_line (Some r))) ∷ []) refl ∙ or_false (is_ok (nodes_line (Some row)))
 
-        root_told : (names : List (List ℕ)) (root : Option (List ℕ)) (c : ReportCode) → root_of names root ≡ Err c → c ≡ code.Limits
-        root_told names root c e = grind arith
-
         behind_names : (n : List (List ℕ) × Place) → Stands all nodes_line (r1 ∷ r2 ∷ r3 ∷ []) d.1 n → Gives (Coded all) Passed (after_names all head.0 a.0 d.1.number n)
         behind_names n i =
             let (spelled, named) = nodes_line_take (Some i.row) n.0 i.read in
             let is : i.row ≡ row_of (nodes_words n.0) = same_Some i.row (row_of (nodes_words n.0)) spelled in
             let coded : (c : ReportCode) → root_of n.0 a.0.root ≡ Err c → Coded all (c, d.1.number) = λ c e. told_on all (r1 ∷ r2 ∷ r3 ∷ []) d.1 i.row c on3 i.here
-            (root_told n.0 a.0.root c e ∙ (ap (λ b. if b then code.Limits else code.Truncated) (sym (ap (λ r. r.whole) is)) ∙ ap (λ b. told_code b i.row) (sym (nodes_fit i.row ∙ ap is_ok i.read)))) in
+            ((grind arith) ∙ (ap (λ b. if b then code.Limits else code.Truncated) (sym (ap (λ r. r.whole) is)) ∙ ap (λ b. told_code b i.row) (sym (nodes_fit i.row ∙ ap is_ok i.read)))) in
             goes_on _ _ (at_line_goes {N = λ (root : ℕ). Unit {0}} (Coded all) d.1.number (root_of n.0 a.0.root) (record { ok = λ root e. tt; err = coded })) (λ root read u. root_goes n i.row i.on is named root)
 
         behind_header : Gives (Coded all) Passed (after_same all head.0 a.0 d.1 tt)
@@ -178,7 +162,7 @@ module _ (text : List ℕ) where
             err = λ c e. told_on all (r1 ∷ r2 ∷ []) a.1 i.row c on2 i.here
                 (refused (is_same d.0 head.0) c e ∙ (ap (λ b. if b then code.BadLine else code.Truncated) (sym (ap (λ r. r.whole) is)) ∙ ap (λ b. told_code b i.row) (sym (header_fits i.row))));
           }))
-          (λ u same v. behind_header d i.row i.on (ap first_word is ∙ first_header d.0)))
+          (λ u same v. behind_header d i.row i.on (ap first_word is ∙ (grind arith))))
         where
           refused : (b : Bool) (c : ReportCode) → refuse (not b) code.BadLine ≡ Err c → c ≡ code.BadLine
           refused b c e = grind arith
@@ -187,9 +171,6 @@ module _ (text : List ℕ) where
 
     abbrev asked_test : List (List ℕ) → Bool
     asked_test words = list_any (λ k. has_shape (asked_shape k) words) (kinds_of head.0)
-
-    asked_fits : (row : Row) → fits (r1 ∷ []) row ≡ asked_test (words_of row.bytes)
-    asked_fits row = grind (arith, fits_after)
 
     asked_first : (ks : List Kind) (row : Row) → list_any (λ k. has_shape (asked_shape k) (words_of row.bytes)) ks ≡ true → first_word row ≡ codes "synth"
     asked_first [] row e = absurd (cc)
@@ -201,7 +182,7 @@ module _ (text : List ℕ) where
 
     asked_code : (o : Option Row) (c : ReportCode) → asked_line head.0 o ≡ Err c → c ≡ code_of (r1 ∷ []) o
     asked_code None c e = let same : code.Truncated ≡ c = cc in sym same
-    asked_code (Some row) c e = (ruled_goes asked_test (asked_from head.0) (may_be_asked head.0) (λ v. v) (asked_told head.0) row).err c e ∙ ap (λ b. told_code b row) (sym (asked_fits row))
+    asked_code (Some row) c e = (ruled_goes asked_test (asked_from head.0) (may_be_asked head.0) (λ v. v) (asked_told head.0) row).err c e ∙ ap (λ b. told_code b row) (sym (grind (arith, fits_after)))
 
     head_goes : Gives (Coded all) Passed (after_head all head)
     head_goes =
@@ -221,12 +202,9 @@ module _ (text : List ℕ) where
   version_goes : (row : Row) → Gives (λ (c : ReportCode). c ≡ told_code false row) (λ (b : Bool). Said row b) (version_line (Some row))
   version_goes row = grind (arith, bytes_eq, bytes_eq-Decides, gives_done, slice_index_or, gives_fail)
 
-  version_code : (o : Option Row) (c : ReportCode) → version_line o ≡ Err c → c ≡ code_of [] o
-  version_code o c e = grind (arith, version_goes)
-
   report_goes : Gives (Coded all) Passed (report_at all (start text))
   report_goes =
-      goes_on _ _ (stands_goes all (Coded all) version_line [] (start text) on0 (λ x e. absurd (cc)) (λ c e. version_code (first all) c e ∙ sym (code_on all [] (start text) 1 on0 refl)))
+      goes_on _ _ (stands_goes all (Coded all) version_line [] (start text) on0 (λ x e. absurd (cc)) (λ c e. (grind (arith, version_goes)) ∙ sym (code_on all [] (start text) 1 on0 refl)))
       (λ head read i. let said = (version_goes i.row).ok head.0 i.read in head_goes head i.row i.on said.word said.version)
 
 pub code_is : (text : List ℕ) (why : ReportCode) (n : ℕ) → report_of text ≡ Err (why, n) → Coded (rows_of text) (why, n)

@@ -131,11 +131,8 @@ module _ (rows : List Row) where
   pub unfit_on : (before : List Row) (p : Place) (e : TopologyCode × ℕ) → On before p → e.1 ≡ p.number → ((row : Row) → first p.rows ≡ Some row → fits before row ≡ false) → Unfit e
   unfit_on before p e on at none = ap (λ o. blamed (whole_line o)) (line_on before p e.1 on at) ∙ (by_line (first p.rows) none ∙ sym (code_on before p e.1 on at))
     where
-      by_end : (b : Bool) (row : Row) → fits before row ≡ false → blamed (refuse (not b) code.Truncated >>= (λ u. Ok row)) ≡ (if b then (if fits before row then code.Limits else code.BadLine) else code.Truncated)
-      by_end b row no_form = grind arith
-
       by_line : (o : Option Row) → ((row : Row) → o ≡ Some row → fits before row ≡ false) → blamed (whole_line o) ≡ code_of before o
-      by_line o each = grind (arith, by_end)
+      by_line o each = grind arith
 
   pub among_goes : {A : Type 0} (N : A → Type 0) (r : Result A (TopologyCode × ℕ)) → Gives Unfit N r → Gives Coded N (among rows r)
   among_goes {A} N r g = grind (arith, gives_done, gives_fail)
@@ -217,13 +214,10 @@ module _ (rows : List Row) where
           (λ begun. goes_on _ _ (each before p at begun) (λ x read gone. let shorter = gone.1 in parts_go fuel (before ++ x.0 ∷ []) x.1 (omega (arith, shorter, few)) gone.0))
           (λ other. (at, λ row h. ap (row_begins word) (sym h) ∙ other))
 
-    begun_row : (word : List ℕ) (o : Option Row) → row_begins word o ≡ true → (row : Row) × (o ≡ Some row)
-    begun_row word o e = grind arith
-
     module _ {A C : Type 0} (E : C × ℕ → Type 0) (word : List ℕ) (free : IsOneWord word) (section : (joined || bytes_eq word (codes "joined")) ≡ joined) (next : (patterned : Bool) → forms_after patterned names joined word ≡ forms) (check : List A → Option Row → Result A C)
         (blames : (before : List A) (p : Place) (row : Row) (why : C) → At names joined forms p → first p.rows ≡ Some row → begins (word ++ 32 ∷ []) row.bytes ≡ true → check before (Some row) ≡ Err why → E (why, p.number)) where
       line_goes_on : (before : List A) (p : Place) → At names joined forms p → row_begins (word ++ 32 ∷ []) (first p.rows) ≡ true → Gives E (λ x. At names joined forms x.1 × (length x.1.rows < length p.rows)) (line_part (check before) p)
-      line_goes_on before p at begun = grind (arith, begun_row, part_goes, onward, first_of_front, one_less)
+      line_goes_on before p at begun = grind (arith, part_goes, onward, first_of_front, one_less)
 
       pub lines_go : (p : Place) → At names joined forms p → Gives E (Behind (word ++ 32 ∷ [])) (lines_at (word ++ 32 ∷ []) check p)
       lines_go p at = subst (λ (r : Result (List A × Place) (C × ℕ)). Gives E (Behind (word ++ 32 ∷ [])) r) (sym (lines_are_parts (word ++ 32 ∷ []) check p))

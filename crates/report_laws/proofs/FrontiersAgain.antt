@@ -29,9 +29,6 @@ end_ends rows = record { group = refl; point = refl; send = refl; refuted = refl
 pub part_ends : (x : Part) (rows : List Row) → EndsPart (row_of (part_words x) ∷ rows)
 part_ends x rows = grind arith
 
-part_line : (x : Part) → (row_of (part_words x)).bytes ≡ part_bytes x
-part_line x = grind arith
-
 -- there are no more parts than lines
 parts_fit : {A : Type 0} (spell : A → List (List (List ℕ))) → ((x : A) → 1 ≤ length (spell x)) → (xs : List A) (rest : List Row) → length xs ≤ length (map row_of (flat_map spell xs) ++ rest)
 parts_fit spell some [] rest = omega arith
@@ -60,7 +57,7 @@ module _ (names : List (List ℕ)) (q : QuestionValue) (as_many : length names �
       let rows : List Row = map row_of points ++ second in
       let split : map row_of (points ++ (refuted ++ unknown)) ++ rest ≡ rows = rows_split points (refuted ++ unknown) rest ∙ ap (λ rs. map row_of points ++ rs) (rows_split refuted unknown rest) in
       subst (λ (rs : List Row). Reads (frontier_at names q x (place n (row_of (part_words x) ∷ rs))) f rest) (sym split)
-      (reads_then _ _ (fixed_part_again (part_bytes x) (part_words x) n rows (part_line x))
+      (reads_then _ _ (fixed_part_again (part_bytes x) (part_words x) n rows (grind arith))
       (λ k. reads_then _ _ (parts_again (codes "point ") (frontier_point_at names q) (point_lines names) (ArePoints names q as_many) (Ends (codes "send ")) (point_reads names q as_many named ok base) (length rows) [] f.points k second (points_fit names f.points second) (points_are f is)
       (behind_lines (codes "point ") refuted_words f.refuted third (λ y. refl) (behind_lines (codes "point ") unknown_words f.unknown rest (λ y. refl) ends.point))
       (behind_lines (codes "send ") refuted_words f.refuted third (λ y. refl) (behind_lines (codes "send ") unknown_words f.unknown rest (λ y. refl) ends.send)))
@@ -89,10 +86,6 @@ module _ (words : WordsValue) (t : NamedTopologyValue) (as_many : length t.names
 
   -- ---- joined points
 
-  -- a kind that joins no points has no line of them
-  none_again : (js : List PointValue) (n : ℕ) (rest : List Row) → js ≡ [] → Reads {C = ReportCode} (Ok ([], place n rest)) js rest
-  none_again js n rest none = reads_as _ (sym none) (reads_here [] n rest)
-
   pub joined_again : (k : Kind) (js : List PointValue) (n : ℕ) (rest : List Row) → All (IsJoinedPoint (question_of words t part.Joined)) js → (k ≢ kind.Allreduce → js ≡ []) → EndsPart rest
       → Reads (joined_at k words t (place n (map row_of (joined_lines t.names k js) ++ rest))) js rest
   joined_again kind.Allreduce js n rest all only ends =
@@ -100,7 +93,7 @@ module _ (words : WordsValue) (t : NamedTopologyValue) (as_many : length t.names
       let rows : List Row = map row_of (flat_map (point_lines t.names) js) ++ rest in
       reads_then _ (λ h. parts_at (codes "point ") (joined_point_at t.names q) h.1) (fixed_part_again (part_bytes part.Joined) (part_words part.Joined) n rows refl)
       (λ k. parts_again (codes "point ") (joined_point_at t.names q) (point_lines t.names) (λ ps. All (IsJoinedPoint q) ps) (Ends (codes "send ")) (joined_reads t.names q as_many named ok (base_of words t part.Joined pattern)) (length rows) [] js k rest (points_fit t.names js rest) all ends.point ends.send)
-  joined_again k js n rest all only ends = none_again js n rest (only (λ e. cc))
+  joined_again k js n rest all only ends = reads_as _ (sym (only (λ e. cc))) (reads_here [] n rest)
 
   -- what follows the frontiers: the line of the joined points, or what follows them
   pub joined_end : (k : Kind) (js : List PointValue) (rest : List Row) → EndsPart rest → EndsPart (map row_of (joined_lines t.names k js) ++ rest)

@@ -17,9 +17,6 @@ module _ {A B : Type 0} (check : Option Row → Result A TopologyCode) (later : 
   judged rows p = among rows (line_part check p) >>= later_at p.number
 
   module _ (rows others : List Row) where
-    checked_line : Steady (λ p. among rows (line_part check p)) (λ p. among others (line_part check p))
-    checked_line = steady_among rows others (line_part check) (line_part check) (steady_line check)
-
     -- behind the line that was read
     later_at_line : (p : Place) (x : A × Place) → among rows (line_part check p) ≡ Ok x → ReadsLike (λ q. among others (line_part check q)) p x → SteadyAt (later_at p.number x) (judged others) p
     later_at_line p x read l = by_later (later x.0) refl
@@ -36,7 +33,7 @@ module _ {A B : Type 0} (check : Option Row → Result A TopologyCode) (later : 
 
     pub steady_judged : Steady (judged rows) (judged others)
     steady_judged = record {
-      at = λ p. gives_then (among rows (line_part check p)) (later_at p.number) (checked_line.at p)
+      at = λ p. gives_then (among rows (line_part check p)) (later_at p.number) ((steady_among rows others (line_part check) (line_part check) (steady_line check)).at p)
           (λ e f. record { late = f.late; alike = λ q same. let w = f.alike q same in record { why = w.why; is = ap (λ r. r >>= later_at q.number) w.is } }) (λ x read l. later_at_line p x read l);
     }
 

@@ -61,11 +61,8 @@ settles_report rows others =
 header_is : (rows : List Row) (b : Bool) (a : AskedValue) (p : Place) → (among rows (line_part header_line p) >>= after_header rows b a p.number) ≡ behind_asked rows b a p
 header_is rows b a p = grind (arith, judged_passed, after_same, same_then, judged, after_root)
 
-parts_is : (rows : List Row) (p : Place) → report_at rows p ≡ in_parts rows p
-parts_is rows p = same_then (line_part version_line p) (after_head rows) _ (λ h read. same_then (line_part (asked_line h.0) h.1) (after_asked rows h.0) _ (λ a read. header_is rows h.0 a.0 a.1))
-
 in_parts_is : (text : List ℕ) → report_of text ≡ in_parts (rows_of text) (start text)
-in_parts_is text = report_is text ∙ parts_is (rows_of text) (start text)
+in_parts_is text = grind (arith, report_is, same_then, after_head, after_asked, header_is)
 
 -- no valid report has the lines of a text up to the one that is blamed
 pub none_agrees : (text : List ℕ) (why : ReportCode) (n : ℕ) → report_of text ≡ Err (why, n) → (r : ReportValue) → IsReport r → Agrees n text r → ⊥

@@ -57,11 +57,8 @@ module _ (names : List (List ℕ)) (q : QuestionValue) (as_many : length names �
   few_chunks : (x : Candidate) → IsWithin q x → x.c ≤ 16
   few_chunks x w = grind arith
 
-  mark_small : (p : PointValue) → IsPrintedPoint q p → MarkIsSmall p.mark
-  mark_small p is = grind arith
-
   head_tokens : (p : PointValue) → IsPrintedPoint q p → AreTokens (point_words p)
-  head_tokens p is = tokens_from (point_words p) (omega arith) (head_are_words p.candidate p.mark (within_small q ok p.candidate is.within) (mark_small p is))
+  head_tokens p is = tokens_from (point_words p) (omega arith) (head_are_words p.candidate p.mark (within_small q ok p.candidate is.within) (grind arith))
 
   pub point_reads : ReadsPart (codes "point ") (frontier_point_at names q) (point_lines names) (ArePoints names q as_many) (Ends (codes "send "))
   unfolding frontier_point_at

@@ -46,10 +46,6 @@ version_reads b n rows = grind (arith, line_again, row_of, head_words)
 same_itself : (b : Bool) → is_same b b ≡ true
 same_itself b = grind arith
 
--- the kind is the one whose pairs are given exactly where a pattern is
-pub kind_of_pattern : (k : Kind) (c : Option PatternValue) → fits_kind k c ≡ true → is_custom k ≡ is_some c
-kind_of_pattern k c e = grind (arith, not-true)
-
 -- the lines, part by part
 abbrev report_rows : ReportValue → List Row
 report_rows r =
@@ -67,7 +63,7 @@ rows_read rows r is =
     let b : Bool = is_some t.custom in
     let ok = is.topology.names in
     let last : List Row = map row_of (behind_topology r) in
-    reads_end _ _ (version_reads b 1 _) (λ k1. reads_end _ _ (asked_part_again b t.names words k1 _ (kind_of_pattern words.collective.kind t.custom is.pattern) ok is.words)
+    reads_end _ _ (version_reads b 1 _) (λ k1. reads_end _ _ (asked_part_again b t.names words k1 _ (grind (arith, not-true)) ok is.words)
     (λ k2. reads_end _ _ (reads_among rows _ (header_reads b k2 _)) (λ k3. ok_then _ _ (ap (λ x. at_line k2 (refuse (not x) code.BadLine)) (same_itself b))
     (reads_end _ _ (reads_among rows _ (nodes_reads t.names k3 _ ok)) (λ k4. ok_then _ _ (ap (at_line k3) (root_of_again (takes_root words.collective.kind) t.names words.collective.root ok is.words.root is.words.no_root))
     (reads_end _ _ (reads_among rows _ (groups_of_read t k4 last is.topology (body_ends r is))) (λ k5. reads_end _ _ (reads_among rows _ (pattern_of_read t k5 last is.topology))

@@ -53,19 +53,12 @@ node_told names shape f next words = word_told (node_of names) (λ w. is_some (n
 some_if : {A : Type 0} (b : Bool) (x : A) → b ≡ is_some (if b then Some x else None)
 some_if {A} b x = grind arith
 
--- digits have no leading zero where they are 0 or the first of them is more
-is_decimal_is : (w : List ℕ) → is_decimal w ≡ is_number w
-is_decimal_is w = grind (arith, ltb-true, le-leb, leb-true, eqb-false, lt-ltb, eqb-true, and-true)
-
 any_passes : (w : List ℕ) → is_decimal w ≡ is_some (any_number w)
-any_passes w = is_decimal_is w ∙ some_if (is_number w) (digits_value 10 w)
+any_passes w = grind (arith, some_if, ltb-true, le-leb, leb-true, eqb-false, lt-ltb, eqb-true, and-true)
 
 keyed_told : {A B : Type 0} (key : List ℕ) (read : List ℕ → Option A) (passes : List ℕ → Bool) (shape : List Token) (f : A × List (List ℕ) → Result B ReportCode) → ((w : List ℕ) → passes w ≡ is_some (read w)) → ((x : A) (ws : List (List ℕ)) → Shaped shape ws (f (x, ws)))
     → (words : List (List ℕ)) → Shaped (key_with key passes ∷ shape) words (next_keyed key read words >>= f)
 keyed_told {A} key read passes shape f same next words = grind (arith, word_told, is_some)
-
-may_told : {B : Type 0} (word : List ℕ) (shape : List Token) (f : Bool × List (List ℕ) → Result B ReportCode) → ((said : Bool) (ws : List (List ℕ)) → Shaped shape ws (f (said, ws))) → (words : List (List ℕ)) → Shaped (May word ∷ shape) words (f (said_from word words))
-may_told {B} word shape f next words = grind arith
 
 -- ---- candidates
 
@@ -150,7 +143,7 @@ abbrev said_shape : List Token
 said_shape = May (codes "cuts=yes") ∷ May (codes "ordered=yes") ∷ []
 
 pruning_told : (words : List (List ℕ)) → Shaped said_shape words (pruning_from words)
-pruning_told words = grind (arith, may_told, end_told)
+pruning_told words = grind (arith, end_told)
 
 abbrev after_kind : Kind × List (List ℕ) → Result AskedValue ReportCode
 after_kind kind = limits_from kind.1 >>= (λ l. root_from kind.0 l.1 >>= (λ root. pruning_from root.1 >>= (λ p. Ok (asked kind.0 (pruned l.0 p) root.0))))

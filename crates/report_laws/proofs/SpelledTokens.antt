@@ -36,9 +36,6 @@ module _ (names : List (List ℕ)) (q : QuestionValue) (as_many : length names �
       (part_tokens part.Joined, parts_are_tokens (IsJoinedPoint q) (point_lines names) (joined_are_tokens names q as_many named ok base) js all)
   joined_lines_are_tokens k js all = tt
 
-version_tokens : (c : Option PatternValue) → AreTokens (codes "sccl" ∷ version_word c ∷ [])
-version_tokens c = grind (arith, tokens_from, literal)
-
 pub report_are_tokens : (r : ReportValue) → IsReport r → AllByRecursion AreTokens (report_lines r)
 report_are_tokens r is =
     let names = r.topology.names in
@@ -48,7 +45,7 @@ report_are_tokens r is =
     let w : WordsValue = r.words in
     let t : NamedTopologyValue = r.topology in
     let joined = joined_lines names w.collective.kind r.joined in (
-      version_tokens t.custom,
+      (grind (arith, tokens_from, literal)),
       (
         synth_tokens names w named is.words,
         each_append AreTokens (lines_of t) (body_lines r ++ (codes "end" ∷ []) ∷ []) (lines_are_words t is.topology)

@@ -15,10 +15,6 @@ use Rattle.report_laws.proofs.{TokensAgain.{ok_then, keyed_again, any_number_aga
 pub kind_back : (k : Kind) → kind_named true (word_of k) ≡ Some k
 kind_back k = grind arith
 
--- in version 1 only where no pairs are given
-kind_again : (patterned : Bool) (k : Kind) → is_custom k ≡ patterned → kind_named patterned (word_of k) ≡ Some k
-kind_again patterned k e = grind (arith, kind_back)
-
 number_with : (key : List ℕ) (n : ℕ) (rest : List (List ℕ)) → n < 2 ^ 64 → next_keyed key any_number ((key ++ decimal n) ∷ rest) ≡ Ok (n, rest)
 number_with key n rest small = keyed_again key any_number (decimal n) rest n (any_number_again n small)
 
@@ -66,7 +62,7 @@ asked_of names w = record { kind = w.collective.kind; limits = w.limits; root = 
 
 pub asked_again : (patterned : Bool) (names : List (List ℕ)) (w : WordsValue) → is_custom w.collective.kind ≡ patterned → AreNames names → IsWords (length names) w → asked_from patterned (synth_words names w) ≡ Ok (asked_of names w)
 asked_again patterned names w version named ok =
-    ok_then _ _ (keyed_again (codes "collective=") (kind_named patterned) (word_of w.collective.kind) _ w.collective.kind (kind_again patterned w.collective.kind version))
+    ok_then _ _ (keyed_again (codes "collective=") (kind_named patterned) (word_of w.collective.kind) _ w.collective.kind (grind (arith, kind_back)))
     (ok_then _ _ (limits_again w.limits (root_words names w ++ pruning_words w.limits.pruning) ok.limits) (ok_then _ _ (root_again (takes_root w.collective.kind) names w.collective.root (pruning_words w.limits.pruning) named ok.root)
     (ok_then _ _ (pruning_again w.limits.pruning) refl)))
 
@@ -79,18 +75,12 @@ keyed_word key word first second = (omega (arith, length-append key word, first.
 kind_word : (kind : Kind) → IsWord (word_of kind)
 kind_word kind = grind (arith, literal)
 
-root_is_word : (b : Bool) (names : List (List ℕ)) (root : ℕ) → AreNames names → root < length names → AreWords (root_tokens b names root)
-root_is_word b names root named below = grind (arith, keyed_word, literal, name_word, root_is_name)
-
 words_both : (a b : List (List ℕ)) → AreWords a → AreWords b → AreWords (a ++ b)
 words_both [] b first second = second
 words_both (w ∷ ws) b first second = (first.0, words_both ws b first.1 second)
 
-said_word : (word : List ℕ) (said : Bool) → IsWord word → AreWords (word_if word said)
-said_word word said is = grind arith
-
 pruning_is_words : (p : Pruning) → AreWords (pruning_words p)
-pruning_is_words p = grind (arith, words_both, said_word, literal)
+pruning_is_words p = grind (arith, words_both, literal)
 
 number_word : (key : List ℕ) (n : ℕ) → IsWord key → n < 2 ^ 64 → IsWord (key ++ decimal n)
 number_word key n first small = keyed_word key (decimal n) first (decimal_word n small)
@@ -106,15 +96,11 @@ synth_tokens names w named ok =
     let s_word = number_word (codes "steps=") w.limits.max_s (literal (codes "steps=") refl) (omega (arith, l.steps)) in
     let c_word = number_word (codes "chunks=") w.limits.max_c (literal (codes "chunks=") refl) (omega (arith, c)) in
     let n_word = number_word (codes "conflicts=") w.limits.conflicts (literal (codes "conflicts=") refl) (omega (arith, n)) in
-    let rest = words_both (root_words names w) (pruning_words w.limits.pruning) (root_is_word (takes_root w.collective.kind) names w.collective.root named ok.root) (pruning_is_words w.limits.pruning) in
+    let rest = words_both (root_words names w) (pruning_words w.limits.pruning) (grind (arith, keyed_word, literal, name_word, root_is_name)) (pruning_is_words w.limits.pruning) in
     tokens_from (synth_words names w) (omega arith) (literal (codes "synth") refl, (kind, (k_word, (s_word, (c_word, (n_word, rest))))))
-
--- in version 2 the kind is the one whose pairs are given
-may_be : (patterned : Bool) (k : Kind) → is_custom k ≡ patterned → (not patterned || is_custom k) ≡ true
-may_be patterned k e = grind arith
 
 pub asked_part_again : (patterned : Bool) (names : List (List ℕ)) (w : WordsValue) (n : ℕ) (rows : List Row) → is_custom w.collective.kind ≡ patterned → AreNames names → IsWords (length names) w
     → Reads (line_part (asked_line patterned) (place n (row_of (synth_words names w) ∷ rows))) (asked_of names w) rows
 asked_part_again patterned names w n rows version named ok =
     ruled_part (asked_from patterned) (may_be_asked patterned) (λ a. a) (synth_words names w) (asked_of names w) (synth_tokens names w named ok) (asked_again patterned names w version named ok)
-    (and_from (are_limits w.limits) (not patterned || is_custom w.collective.kind) ((decides_limits w.limits).1 ok.limits) (may_be patterned w.collective.kind version)) n rows
+    (and_from (are_limits w.limits) (not patterned || is_custom w.collective.kind) ((decides_limits w.limits).1 ok.limits) (grind arith)) n rows
