@@ -8,12 +8,9 @@ pub record WholeTaken (line : Option Row) (row : Row) : Type 0 where
   pub is : line ≡ Some row
   pub whole : row.whole ≡ true
 
-pub whole_take : (line : Option Row) (row : Row) → whole_line line ≡ Ok row → WholeTaken line row
-whole_take line row e = grind (arith, refuse_ok, ok_is, not-false)
-
 -- a whole line whose bytes fall into these words
 pub whole_words : (line : Option Row) (row : Row) (words : List (List ℕ)) → whole_line line ≡ Ok row → words_of row.bytes ≡ words → line ≡ Some (row_of words)
-whole_words line row words e same = let t = whole_take line row e in t.is ∙ ap (λ r. Some r) (row_back row words t.whole same)
+whole_words line row words e same = grind (arith, row_back, refuse_ok, ok_is, not-false)
 
 -- a whole line, by a check of its tokens
 abbrev pub on_words : {A : Type 0} → (List (List ℕ) → Result A ReportCode) → Option Row → Result A ReportCode

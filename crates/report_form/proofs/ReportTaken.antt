@@ -86,13 +86,6 @@ version_gives p = line_gives version_line head_words p (λ b e. (there (first p.
         let (row, found, e1) = bind_ok (whole_line line) (λ r. need (version_of r.bytes) code.BadLine) b e in
         whole_words line row (head_words b) found (version_words (codes "sccl 1") (codes "sccl 2") head_words refl refl row.bytes b (need_is (version_of row.bytes) code.BadLine b e1))
 
-same_is : (a b : Bool) → is_same a b ≡ true → a ≡ b
-same_is a b e = grind arith
-
--- the pattern is there exactly where the kind is the one whose pairs are given
-pub pattern_fits : (k : Kind) (c : Option PatternValue) → is_custom k ≡ is_some c → fits_kind k c ≡ true
-pattern_fits k c e = grind arith
-
 -- ---- the topology
 
 pub among_ok : {A : Type 0} (rows : List Row) (r : Result A (TopologyCode × ℕ)) (x : A) → among rows r ≡ Ok x → r ≡ Ok x
@@ -123,9 +116,6 @@ name_for (Some name) = name
 alone : (name : List ℕ) → AreDistinct (name ∷ [])
 alone name = λ i j d ordered h. absurd (omega (arith, ordered, h))
 
-one_name : (takes : Bool) (root : Option (List ℕ)) → RootFits takes root → AreNames (name_for root ∷ [])
-one_name takes root fits = grind (arith, All-cons, All-nil, alone)
-
 root_found : (root : Option (List ℕ)) → root_of (name_for root ∷ []) root ≡ Ok 0
 root_found None = refl
 root_found (Some name) = ap (λ o. need o code.Limits) (node_again (name ∷ []) 0 (alone name) (omega arith))
@@ -144,24 +134,21 @@ module _ (b : Bool) (a : AskedValue) (asked : IsAsked b a) where
   one_node = (named_with one_names [] one_pattern.value, 0)
 
   one_rooted : IsRooted b a one_node
-  one_rooted = record { named = named_valid one_names [] one_pattern.value (one_name (takes_root a.kind) a.root asked.fits) (groups_nil 1) one_pattern.valid.valid; shown = one_pattern.valid.shown; found = root_found a.root }
+  one_rooted = grind (arith, named_valid, one_pattern, groups_nil, root_found, alone)
 
   module _ (z : Rooted) (is : IsRooted b a z) (w : Behind) (valid : AreBehind (words_from a z.1) z.0 w) where
     abbrev made : ReportValue
     made = report (words_from a z.1) z.0 w.0 w.1
 
-    words_are : WordsTaken z.0.names a z.1
-    words_are = words_take z.0.names a z.1 is.named.names.some asked.limits asked.fits is.found
-
     made_valid : IsReport made
-    made_valid = grind (arith, pattern_fits)
+    made_valid = grind arith
 
     -- its lines behind the first two
     abbrev later : List (List (List ℕ))
     later = lines_of z.0 ++ lines_behind (words_from a z.1) z.0 w
 
     made_lines : head_words b ∷ asked_words a ∷ later ≡ report_lines made
-    made_lines = grind (arith, asked_words, head_spelled, words_are)
+    made_lines = grind (arith, asked_words, head_spelled, words_take)
 
     made_stops : (p q : Place) (n : ℕ) → Between (head_words b ∷ asked_words a ∷ []) p q → Cut later q n → Stops report_lines IsReport p n
     made_stops p q n front cut = record { value = made; valid = made_valid; cut = subst (λ (ls : List (List (List ℕ))). Cut ls p n) made_lines (cut_on (head_words b ∷ asked_words a ∷ []) later p q n front cut) }
@@ -256,7 +243,7 @@ report_gives rows p =
     gives_then _ _ (among_gives (λ n. n ≡ a.1.number) rows (line_part header_line a.1) (header_gives a.1)) (λ e line. stop e.1 (one_stops h.0 a.0 ta.0 a.1 e.1 line))
     (λ d rd td. gives_then _ _ (at_line_gives a.1.number (refuse (not (is_same d.0 h.0)) code.BadLine)) (λ e line. stop e.1 (one_stops h.0 a.0 ta.0 a.1 e.1 line))
     (λ u ru kept.
-    let same : d.0 ≡ h.0 = same_is d.0 h.0 (not-false (is_same d.0 h.0) (refuse_alone (not (is_same d.0 h.0)) code.BadLine u kept)) in
+    let same : d.0 ≡ h.0 = grind arith in
     let header : Between (spelling.head_words h.0 ∷ []) a.1 d.1 = subst (λ (b : Bool). Between (spelling.head_words b ∷ []) a.1 d.1) same td.1 in
     gives_then _ _ (among_gives (λ n. n ≡ d.1.number) rows (line_part nodes_line d.1) (nodes_give d.1)) (λ e line. stop e.1 (node_stops h.0 a.0 ta.0 a.1 d.1 e.1 header line))
     (λ n rn tn. gives_then _ _ (at_line_gives d.1.number (root_of n.0 a.0.root)) (λ e line. stop e.1 (node_stops h.0 a.0 ta.0 a.1 d.1 e.1 header line))

@@ -40,17 +40,12 @@ unknown_take words =
 abbrev pub head : Candidate → Mark → HeadValue
 head x m = record { candidate = x; mark = m }
 
-pub mark_take : (w : List ℕ) (m : Mark) → mark_named w ≡ Some m → (w ∷ [] ≡ mark_words m) × ((m ≡ mark.Optimal) ⊎ (m ≡ mark.Open))
-mark_take w m e = grind (arith, bytes_eq, bytes_eq-Decides)
-
 pub record HeadTaken (words : List (List ℕ)) (h : HeadValue) : Type 0 where
   pub stands : words ≡ codes "point" ∷ candidate_words h.candidate ++ mark_words h.mark
   pub mark : (h.mark ≡ mark.Optimal) ⊎ (h.mark ≡ mark.Open)
 
 pub head_take : (words : List (List ℕ)) (h : HeadValue) → head_from words ≡ Ok h → HeadTaken words h
-head_take words =
-    pass_then _ _ _ _ (fixed_take (codes "point") words) (λ a e1. pass_then _ _ _ _ (candidate_take a) (λ y e2. pass_then _ _ _ _ (word_take mark_named y.1)
-    (λ m t. pass_then _ _ _ _ (no_more_take m.1) (λ u e4. let (token, which) = mark_take t.word m.0 t.read_as in pass_done _ _ (record { stands = (let e3 = t.stands in cc); mark = which })))))
+head_take words = grind (arith, pass_then, fixed_take, candidate_take, word_take, no_more_take, pass_done, bytes_eq-Decides)
 
 pub joined_head_take : (words : List (List ℕ)) (x : Candidate × ℕ) → joined_head_from words ≡ Ok x → words ≡ codes "point" ∷ candidate_words x.0 ++ mark_words (mark.Joined x.1)
 joined_head_take words = grind (arith, pass_then, fixed_take, candidate_take, number_take, no_more_take, pass_done)

@@ -35,9 +35,6 @@ kind_standard w k e = standard k (ap (kind_named false) (sym (kind_is false w k 
     standard : (x : Kind) → kind_named false (word_of x) ≡ Some x → is_custom x ≡ false
     standard x h = grind arith
 
-name_is : (w name : List ℕ) → name_of w ≡ Some name → (w ≡ name) × (is_name name ≡ true)
-name_is w name e = let (good, found) = if_some (is_name w) (Some w) name e in let same = same_Some w name found in (same, ap is_name (sym same) ∙ good)
-
 -- ---- the limits
 
 abbrev pub limits : ℕ → ℕ → ℕ → ℕ → LimitsValue
@@ -74,7 +71,7 @@ pub record RootTaken (takes : Bool) (words : List (List ℕ)) (x : Option (List 
   pub fits : RootFits takes x.0
 
 pub root_take : (kind : Kind) (words : List (List ℕ)) (x : Option (List ℕ) × List (List ℕ)) → root_from kind words ≡ Ok x → RootTaken (takes_root kind) words x
-root_take kind words = grind (arith, pass_then, keyed_take, name_is, pass_done)
+root_take kind words = grind (arith, pass_then, keyed_take, pass_done)
 
 -- ---- what may be left out
 
@@ -122,10 +119,6 @@ asked_take patterned words =
       kind = kind_fits patterned t.value k.0 t.read_as;
     }))))))
 
--- the kind is that of the version
-kind_of_version : (patterned : Bool) (k : Kind) → (patterned ≡ false → is_custom k ≡ false) → (not patterned || is_custom k) ≡ true → is_custom k ≡ patterned
-kind_of_version patterned k standard may = grind (arith, standard)
-
 pub record IsAsked (patterned : Bool) (a : AskedValue) : Type 0 where
   pub limits : IsLimits a.limits
   pub fits : RootFits (takes_root a.kind) a.root
@@ -137,7 +130,7 @@ asked_gives patterned p = ruled_gives (asked_from patterned) (may_be_asked patte
     let taken = asked_take patterned words a shape in
     let (within, may) = and_parts (are_limits a.limits) (not patterned || is_custom a.kind) rule in
     let ok = (decides_limits a.limits).0 within in
-    (taken.stands ok, record { limits = ok; fits = taken.fits; kind = kind_of_version patterned a.kind taken.kind may })) p
+    (taken.stands ok, record { limits = ok; fits = taken.fits; kind = (grind (arith, taken.kind)) })) p
 
 -- ---- with the names
 

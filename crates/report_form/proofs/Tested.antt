@@ -7,9 +7,6 @@ use Rattle.report_form.specs.Tests.{are_limits, is_within, is_no_worse, is_bette
 pub leb_decides : (a b : ℕ) → Decides (nat_le a b) (a ≤ b)
 leb_decides a b = (leb-true a b, le-leb a b)
 
-itself : (b : Bool) → Decides b (IsTrue b)
-itself b = (λ e. e, λ e. e)
-
 pub decides_no_worse : (a b : Candidate) → Decides (is_no_worse a b) (NoWorse a b)
 decides_no_worse a b = Decides-and (nat_le a.s b.s) (nat_le (a.r * b.c) (b.r * a.c)) (leb_decides _ _) (leb_decides _ _)
 
@@ -30,7 +27,7 @@ decides_within q x =
     (λ h. record { some_steps = h.0.0.0.0.0; steps = h.0.0.0.0.1; all_rounds = h.0.0.0.1; rounds = h.0.0.1; chunks = h.0.1; allowed = h.1 })
     (λ h. (((((h.some_steps, h.steps), h.all_rounds), h.rounds), h.chunks), h.allowed))
     (six (nat_le 1 x.s) (nat_le x.s q.limits.max_s) (nat_le x.s x.r) (nat_le x.r (x.s + q.limits.k)) (nat_le x.c q.limits.max_c) (allows (kind_in q.spec) q.topology.nodes x.c)
-    (leb_decides _ _) (leb_decides _ _) (leb_decides _ _) (leb_decides _ _) (leb_decides _ _) (itself _))
+    (leb_decides _ _) (leb_decides _ _) (leb_decides _ _) (leb_decides _ _) (leb_decides _ _) ((λ e. e, λ e. e)))
 
 pub decides_limits : (l : LimitsValue) → Decides (are_limits l) (IsLimits l)
 decides_limits l = grind (arith, Decides-like, Decides-and, nat_le, six, leb_decides)
