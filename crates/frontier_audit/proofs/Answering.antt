@@ -13,9 +13,6 @@ up_any : (us : List UnknownValue) (x : Candidate) → is_given_up us x ≡ is_li
 up_any [] x = refl
 up_any (u ∷ us) x = ap (λ b. same_candidate x u.candidate || b) (up_any us x)
 
-listed_one : (a l g : Bool) → l ≡ true → (a || l || g) ≡ true
-listed_one a l g e = grind arith
-
 other_one : (a l g : Bool) → l ≡ false → (a || g) ≡ (a || l || g)
 other_one a l g e = grind arith
 
@@ -26,7 +23,7 @@ first_refused test code (x ∷ xs) = grind (arith, first_refused test code xs)
 
 left_says : (f : FrontierValue) (xs : List Candidate) → find (λ x. not (is_left_answered f x)) (unrefuted_among f.refuted xs) ≡ find (λ x. not (is_answered f x)) xs
 left_says f [] = refl
-left_says f (x ∷ xs) = grind (arith, listed_one, up_any, other_one, left_says f xs)
+left_says f (x ∷ xs) = grind (arith, up_any, other_one, left_says f xs)
 
 -- ---- marks
 

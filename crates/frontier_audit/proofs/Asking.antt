@@ -20,22 +20,13 @@ module _ (q : QuestionValue) where
   abbrev links : Bool → TopologyValue
   links b = if b then reversed_of q.topology else q.topology
 
-  nodes_on : (b : Bool) → (links b).nodes ≡ q.topology.nodes
-  nodes_on b = grind arith
-
 module _ (q : QuestionValue) (asked : IsAuditable q) where
-  small_over : (b : Bool) → adds_up q.spec ≡ b → IsSmallQuestion (copying_question (links q b) q.spec q.limits)
-  small_over b e = grind (arith, small_by_copying, turned_topology, copied_size, same_size)
-
-  within_over : (b : Bool) (x : Candidate) → IsWithin q x → IsWithin (copying_question (links q b) q.spec q.limits) x
-  within_over b x w = grind (arith, within_by, same_allowed)
-
   formula_over : (b : Bool) (x : Candidate) → adds_up q.spec ≡ b → formula_for (copying_question (links q b) q.spec q.limits) x ≡ formula_for q x
   formula_over true x e = reduced_formula q x e asked.single
   formula_over false x e = ap (λ s. formula_for (record { topology = q.topology; spec = s; limits = q.limits }) x) (copied_stays q.spec e)
 
   sought_on : (x : Candidate) → IsWithin q x → IsSought (searched_on q) q.spec x
-  sought_on x w = record { limits = q.limits; small = small_over (adds_up q.spec) refl; within = within_over (adds_up q.spec) x w }
+  sought_on x w = grind (arith, small_by_copying, turned_topology, copied_size, same_size, within_by, same_allowed)
 
   formula_on : (x : Candidate) → formula_for (copying_question (searched_on q) q.spec q.limits) x ≡ formula_for q x
   formula_on x = formula_over (adds_up q.spec) x refl
@@ -61,7 +52,7 @@ module _ (t searched : TopologyValue) (s : Spec) (l : LimitsValue) (cuts : Table
       → b ≡ is_some (first_cut_of sets over (spec_instance spec over.nodes x.c).pre (spec_instance spec over.nodes x.c).post x.r)
 
   pub cut_is : (x : Candidate) (b : Bool) → IsWithin q x → Says x b → b ≡ is_cut_away q x
-  cut_is x b w says = grind (arith, nodes_on, within_asked)
+  cut_is x b w says = grind (arith, within_asked)
 
 -- ---- the parts of a report
 
@@ -69,27 +60,18 @@ module _ (c : Option PatternValue) (root nodes count : ℕ) where
   abbrev chunks_at : Kind → Part → ℕ
   chunks_at k p = chunks_in (spec_of (record { kind = kind_of k p; root = root }) c) nodes count
 
-  reduced_chunks : (o : Option PatternValue) → chunks_in (spec_of (record { kind = kind.Reducescatter; root = root }) o) nodes count ≡ chunks_in (spec_of (record { kind = kind.Allreduce; root = root }) o) nodes count
-  reduced_chunks o = grind arith
-
-  gathered_chunks : (o : Option PatternValue) → chunks_in (spec_of (record { kind = kind.Allgather; root = root }) o) nodes count ≡ chunks_in (spec_of (record { kind = kind.Allreduce; root = root }) o) nodes count
-  gathered_chunks o = grind arith
-
   abbrev Whole : Kind → Part → Type 0
   Whole k p = chunks_at k p ≡ chunks_at k part.Whole
 
   as_many : (k : Kind) → All (Whole k) (parts_of k)
-  as_many k = grind (arith, reduced_chunks, gathered_chunks)
+  as_many k = grind arith
 
 module _ (r : ReportValue) (ok : IsReport r) (p : Part) (has : Contains (parts_of r.words.collective.kind) p) where
   abbrev asks : Part → QuestionValue
   asks x = question_of r.words r.topology x
 
-  sized_alike : size_of (asks p) ≡ size_of (asks part.Whole)
-  sized_alike = grind (arith, All-contains, as_many, sum_by)
-
   pub part_asked : size_of (asks part.Whole) ≤ size_limit → IsAuditable (asks p)
-  part_asked small = grind (arith, All-contains, parts_fit, fitting_spec, apart_in, apart, sized_alike)
+  part_asked small = grind (arith, parts_fit, fitting_spec, apart_in, apart, as_many)
 
 -- what the calls gave is what is asked
 pub made_of : (t : TopologyValue) (s : Spec) (l : LimitsValue) (q : QuestionValue) → t ≡ q.topology → s ≡ q.spec → l ≡ q.limits → record { topology = t; spec = s; limits = l } ≡ q

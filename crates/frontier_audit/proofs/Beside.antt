@@ -21,9 +21,6 @@ module _ (test : List ℕ → Bool) (refused : Reason) (x : Candidate) where
   pub alone : (file : Option (List ℕ)) → (need file (ProofMissing, x) >>= (λ bytes. refuse (not (test bytes)) (refused, x))) ≡ judged (file_verdict test file) refused x
   alone file = grind (arith, tested)
 
-  first : (file : Option (List ℕ)) (rest : Checked Denial) → (need file (ProofMissing, x) >>= (λ bytes. refuse (not (test bytes)) (refused, x) >>= (λ _. rest))) ≡ (judged (file_verdict test file) refused x >>= (λ _. rest))
-  first file rest = grind (arith, tested)
-
 stands : (v : FileVerdict) (refused : Reason) (x : Candidate) → judged v refused x ≡ Ok tt → v ≡ Stands
 stands v refused x e = grind arith
 
@@ -40,7 +37,7 @@ module _ (part : Part) (q : QuestionValue) (x : Candidate) where
   proof_checked files = judged (file_verdict (is_refutation (formula_for q x)) (files (file_of Lrat part x))) ProofRefused x
 
   pub by_verdicts : (files : Files) → refutation_checked part q files x ≡ (text_checked files >>= (λ _. proof_checked files))
-  by_verdicts files = first (is_text_of (formula_for q x)) CnfDiffers x (files (file_of Cnf part x)) _ ∙ ap (λ r. text_checked files >>= (λ _. r)) (alone (is_refutation (formula_for q x)) ProofRefused x (files (file_of Lrat part x)))
+  by_verdicts files = grind (arith, alone, tested)
 
 pub has_refutation : (part : Part) (q : QuestionValue) (files : Files) (x : Candidate) → refutation_checked part q files x ≡ Ok tt → HasRefutation part q files x
 has_refutation part q files x e =

@@ -11,17 +11,8 @@ use Rattle.frontier_audit.proofs.{Passing.{then_ok, ok_then, refused_not, not_re
 
 -- ---- the test of the same point
 
-hop_decides : (a b : Hop) → Decides (same_hop a b) (a ≡ b)
-hop_decides a b = grind (arith, Decides-like, Decides-and, Decides-eqb)
-
-mark_is : (m n : Mark) → same_mark m n ≡ true → m ≡ n
-mark_is m n e = grind (arith, eqb-true)
-
-mark_itself : (m : Mark) → same_mark m m ≡ true
-mark_itself m = grind (arith, eq-eqb)
-
 point_decides : (a b : PointValue) → Decides (same_point a b) (a ≡ b)
-point_decides a b = grind (arith, Decides-like, Decides-and, same_decides, bytes_eq-Decides, slice_eq-Decides, hop_decides, mark_is, mark_itself)
+point_decides a b = grind (arith, same_decides, bytes_eq-Decides, slice_eq-Decides, eqb-true, eq-eqb)
 
 pub point_is : (a b : PointValue) → same_point a b ≡ true → a ≡ b
 point_is a b = (point_decides a b).0

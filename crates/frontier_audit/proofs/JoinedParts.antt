@@ -9,11 +9,7 @@ use Rattle.allreduce_join.specs.Joins.{pairs_of}
 use Rattle.report_form.specs.Reports.{ReportValue, IsReport, parts_of}
 use Rattle.frontier_audit.{specs.{Denials.in_part, Joining.{joined_checked, joins_checked}, Parts.{is_gather, is_reduce, points_of}, inner.Steps.joins_of}, proofs.Jointly.{one_part, parts_are}}
 
-two_joined : (r : ReportValue) (f h : FrontierValue) (xs : List (Part × FrontierValue)) → xs ≡ (part.Reduce, f) ∷ (part.Gather, h) ∷ []
-    → in_part part.Joined (joins_checked r.topology.topology (pairs_of (points_of is_reduce xs) (points_of is_gather xs)) r.joined) ≡ joined_checked r xs
-two_joined r f h xs are = grind (arith, append-nil)
-
 -- only an allreduce joins, the points of the one part with those of the other
 pub joined_by_kind : (k : Kind) (r : ReportValue) → r.words.collective.kind ≡ k → IsReport r → in_part part.Joined (joins_of k r) ≡ joined_checked r r.frontiers
-joined_by_kind kind.Allreduce r e ok = let parts = parts_are r ok e in two_joined r parts.reduce parts.gather r.frontiers parts.are
+joined_by_kind kind.Allreduce r e ok = let parts = parts_are r ok e in grind (arith, append-nil)
 joined_by_kind _ r e ok = let (f, are) = one_part r.frontiers (ok.parts ∙ ap parts_of e) in ap (joined_checked r) (sym are)

@@ -8,9 +8,6 @@ use Rattle.frontier_audit.{specs.{Candidates.{is_listed, candidates_within}, Sol
 
 -- ---- answers
 
-listed_decides : (xs : List Candidate) (x : Candidate) → Decides (is_listed xs x) (Contains xs x)
-listed_decides xs x = (listed_contains xs x, contains_listed xs x)
-
 settled_decides : (ps : List PointValue) (x : Candidate) → Decides (list_any (λ p. is_no_worse p.candidate x) ps) (Any (λ p. NoWorse p.candidate x) ps)
 settled_decides ps x = grind (arith, Any-from_list_any, decides_no_worse, list_any-from_Any)
 
@@ -18,15 +15,12 @@ grouped : {A B C : Type 0} → ((A ⊎ B) ⊎ C) ↔ (A ⊎ (B ⊎ C))
 grouped = (λ h. elim h [ inl (inl a) ↦ inl a | inl (inr b) ↦ inr (inl b) | inr c ↦ inr (inr c) ], λ h. elim h [ inl a ↦ inl (inl a) | inr (inl b) ↦ inl (inr b) | inr (inr c) ↦ inr c ])
 
 pub answered_decides : (f : FrontierValue) (x : Candidate) → Decides (is_answered f x) (IsAnswered f x)
-answered_decides f x = grind (arith, Decides-or, settled_decides, listed_decides)
+answered_decides f x = grind (arith, settled_decides, listed_contains, contains_listed)
 
 -- ---- marks
 
 abbrev pub AllBetterRefuted : QuestionValue → FrontierValue → Candidate → Type 0
 AllBetterRefuted q f x = (y : Candidate) → IsWithin q y → Better y x → Contains f.refuted y
-
-implied : (b l : Bool) → (not b || l) ≡ true → b ≡ true → l ≡ true
-implied b l e h = grind arith
 
 implies : (b l : Bool) → (b ≡ true → l ≡ true) → (not b || l) ≡ true
 implies b l h = grind arith
@@ -40,7 +34,7 @@ optimal_decides q f x = (one_way, back)
     one_way : is_optimal q f x ≡ true → AllBetterRefuted q f x
     one_way e y w b =
         let passes = All-contains (λ (z : Candidate). (not (is_better z x) || is_listed f.refuted z) ≡ true) (candidates_within q) y (AllPass-from_list_all (λ z. not (is_better z x) || is_listed f.refuted z) (candidates_within q) e) (listed_contains (candidates_within q) y (within_listed q y w)) in
-        listed_contains f.refuted y (implied (is_better y x) (is_listed f.refuted y) passes ((decides_better y x).1 b))
+        listed_contains f.refuted y (grind arith)
 
     back : AllBetterRefuted q f x → is_optimal q f x ≡ true
     back h = list_all-from_AllPass (λ z. not (is_better z x) || is_listed f.refuted z) (candidates_within q)

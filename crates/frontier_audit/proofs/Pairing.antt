@@ -26,12 +26,9 @@ due_alike t a b p = go (same_point (join_of a b) p) refl
     with_true : (x : Bool) → x ≡ (x && true)
     with_true x = grind arith
 
-    with_false : (x : Bool) → false ≡ (x && false)
-    with_false x = grind arith
-
     go : (s : Bool) → same_point (join_of a b) p ≡ s → (s && sums p) ≡ (is_join t (a, b) && s)
     go true e = ap sums (sym (point_is (join_of a b) p e)) ∙ with_true (is_join t (a, b))
-    go false e = with_false (is_join t (a, b))
+    go false e = grind arith
 
 module _ (t : TopologyValue) (a b : PointValue) (due : PointValue) (made : due ≡ join_of a b) (printed : Option PointValue) where
   module _ (p : PointValue) (there : printed ≡ Some p) (said : Bool) (is : said ≡ (same_point due p && says_sums (joined_verdict_of t (chunks_of kind.Allreduce t.nodes p.candidate.c) p.schedule a.candidate.s))) where
@@ -73,9 +70,6 @@ module _ (t : TopologyValue) (joined : List PointValue) where
   pub say_then : (first second : Pairs) (before middle now : ℕ) (d : Option Denial) → JoinsSay t first joined before middle None → JoinsSay t second joined middle now d → JoinsSay t (first ++ second) joined before now d
   say_then first second before middle now d a b = grind (arith, joins_checked, drop, append_assoc, denial_of)
 
-  pub say_stop : (first second : Pairs) (before middle now : ℕ) (d : Denial) → JoinsSay t first joined before middle (Some d) → JoinsSay t (first ++ second) joined before now (Some d)
-  say_stop first second before middle now d a more = ap (λ ps. denial_of (joins_checked t ps (drop before joined))) (append_assoc first second more) ∙ a (second ++ more)
-
 -- ---- pairs of two lists
 
 pub with_append : (p : PointValue) (xs ys : List PointValue) → pairs_with p (xs ++ ys) ≡ pairs_with p xs ++ pairs_with p ys
@@ -101,7 +95,7 @@ module _ (t : TopologyValue) (joined : List PointValue) (f : List PointValue →
     walk_goes a = subst (λ ps. JoinsSay t ps joined before now None) (sym (adds (take i xs) (x ∷ [])) ∙ ap f (sym up_to)) (say_then t joined (f (take i xs)) (f (x ∷ [])) before middle now None so_far a)
 
     pub walk_stops : (d : Denial) → JoinsSay t (f (x ∷ [])) joined middle now (Some d) → JoinsSay t (f xs) joined before now (Some d)
-    walk_stops d a = grind (arith, nat_tests, common_steps, say_then, whole, say_stop)
+    walk_stops d a = grind (arith, nat_tests, common_steps, say_then, whole)
 
   pub walk_ends : (before now : ℕ) → length xs ≤ i → JoinsSay t (f (take i xs)) joined before now None → JoinsSay t (f xs) joined before now None
   walk_ends before now past a = subst (λ ys. JoinsSay t (f ys) joined before now None) (take_all i xs past) a

@@ -82,9 +82,6 @@ same_number p = grind arith
 abbrev PartsApart : Part → Part → Type 0
 PartsApart a b = not (part_number b == part_number a) ≡ true
 
-kinds_apart : (k : Kind) → AllPairs PartsApart (parts_of k)
-kinds_apart k = grind (arith, one_pairs)
-
 -- what holds of each pair of names holds of what they name
 pub unnamed_pairs : {X Y : Type 0} (R : Y → Y → Type 0) (f : X → Y) (xs : List X) → AllPairs R (map f xs) → AllPairs (λ a b. R (f a) (f b)) xs
 unnamed_pairs R f xs all i j d before within = grind (arith, all i j (f d) before (subst (λ n. j < n) (sym (length-map xs f)) within), get_or-map)
@@ -97,7 +94,7 @@ separate_parts r ok = record {
 }
   where
     parts_differ : AllPairs (λ x y. PartsApart x.0 y.0) r.frontiers
-    parts_differ = unnamed_pairs PartsApart (λ x. x.0) r.frontiers (subst (AllPairs PartsApart) (sym ok.parts) (kinds_apart r.words.collective.kind))
+    parts_differ = unnamed_pairs PartsApart (λ x. x.0) r.frontiers (subst (AllPairs PartsApart) (sym ok.parts) (grind (arith, one_pairs)))
 
 -- ---- a part at its place
 

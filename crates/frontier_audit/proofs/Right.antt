@@ -87,12 +87,9 @@ only_then r ok same e =
 pub verified_joins : (r : ReportValue) (files : Files) → IsReport r → audit_of r files ≡ Verified → r.words.collective.kind ≡ kind.Allreduce → JoinsOf r
 verified_joins r files ok e same = grind (arith, are_joined, joinable, only_then, report_passes)
 
-joins_pass : (k : Kind) (r : ReportValue) → (k ≡ kind.Allreduce → joins_checked r.topology.topology (pairs_of (points_of is_reduce r.frontiers) (points_of is_gather r.frontiers)) r.joined ≡ Ok tt) → joins_of k r ≡ Ok tt
-joins_pass k r h = grind arith
-
 joined_passes : (r : ReportValue) → IsReport r → (r.words.collective.kind ≡ kind.Allreduce → joins_checked r.topology.topology (pairs_of (points_of is_reduce r.frontiers) (points_of is_gather r.frontiers)) r.joined ≡ Ok tt) → joined_checked r r.frontiers ≡ Ok tt
 joined_passes r ok h =
-    sym (joined_by_kind r.words.collective.kind r refl ok) ∙ ok_in_part part.Joined (joins_of r.words.collective.kind r) (joins_pass r.words.collective.kind r h)
+    sym (joined_by_kind r.words.collective.kind r refl ok) ∙ ok_in_part part.Joined (joins_of r.words.collective.kind r) (grind arith)
 
 pub right_verified : (r : ReportValue) (files : Files) → IsReport r → ShelfRight r files → ((part : Part) (f : FrontierValue) → Contains r.frontiers (part, f) → RightFrontier (question r part) f) → (r.words.collective.kind ≡ kind.Allreduce → JoinsOf r) → audit_of r files ≡ Verified
 right_verified r files ok shelf right joins =

@@ -15,27 +15,15 @@ solves_said v e = grind arith
 pub sums_said : (v : SumVerdict) → says_sums v ≡ true → v ≡ sums.Sums
 sums_said v e = grind arith
 
-solves_by : (t : TopologyValue) (pre post : PlacementValue) (s : ScheduleValue) (n r : ℕ) → length s.rounds ≡ n → sum s.rounds ≡ r → says_solves (verdict_of t pre post s) ≡ true → Solves t pre post s n r
-solves_by t pre post s n r steps rounds e = grind (arith, tells_solves, solves_said)
-
-by_solving : (t : TopologyValue) (pre post : PlacementValue) (s : ScheduleValue) (n r : ℕ) → Solves t pre post s n r → says_solves (verdict_of t pre post s) ≡ true
-by_solving t pre post s n r h = ap says_solves ((tells_solves t pre post s (verdict_of t pre post s) refl).1 (record { steps_are = refl; rounds_are = refl; fits = h.fits; delivers = h.delivers }))
-
-sums_by : (t : TopologyValue) (demand : PlacementValue) (s : ScheduleValue) (n r : ℕ) → length s.rounds ≡ n → sum s.rounds ≡ r → says_sums (sum_verdict_of t demand s) ≡ true → Sums t demand s n r
-sums_by t demand s n r steps rounds e = grind (arith, sums_exactly, sums_said)
-
-by_summing : (t : TopologyValue) (demand : PlacementValue) (s : ScheduleValue) (n r : ℕ) → Sums t demand s n r → says_sums (sum_verdict_of t demand s) ≡ true
-by_summing t demand s n r h = ap says_sums ((sums_exactly t demand s).1 (record { steps_are = refl; rounds_are = refl; fits = h.fits; sums = h.sums }))
-
 module _ (q : QuestionValue) (p : PointValue) where
   abbrev judged : Bool → Bool
   judged b = if b then says_sums (sum_verdict_of q.topology (demand_for q p.candidate) p.schedule) else says_solves (verdict_of q.topology (instance_for q p.candidate).pre (instance_for q p.candidate).post p.schedule)
 
   achieves_by : HasSchedule q p → (b : Bool) → judged b ≡ true → Achieves b q p.candidate p.schedule
-  achieves_by h b e = grind (arith, sums_by, solves_by)
+  achieves_by h b e = grind (arith, tells_solves, solves_said, sums_exactly, sums_said)
 
   by_achieving : (b : Bool) → Achieves b q p.candidate p.schedule → judged b ≡ true
-  by_achieving b a = grind (arith, by_summing, by_solving)
+  by_achieving b a = grind (arith, tells_solves, sums_exactly)
 
   pub solved_by : HasSchedule q p → is_solution q p ≡ true → IsSolvedBy q p.candidate p.schedule
   solved_by h e = record { valid = h.schedule; in_range = h.in_range; achieves = achieves_by h (adds_up q.spec) e }

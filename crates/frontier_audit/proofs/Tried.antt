@@ -19,12 +19,9 @@ same_is a b = (same_decides a b).0
 pub same_itself : (a : Candidate) → same_candidate a a ≡ true
 same_itself a = (same_decides a a).1 refl
 
-same_turned : (a b : Candidate) → same_candidate a b ≡ same_candidate b a
-same_turned a b = same_from_decides (same_candidate a b) (same_candidate b a) (same_decides a b) (Decides-like (same_candidate b a) (λ e. sym e) (λ e. sym e) (same_decides b a))
-
 -- a test for the same candidate as each in the list
 pub listed_by : (test : Candidate → Bool) (x : Candidate) (xs : List Candidate) → ((y : Candidate) → test y ≡ same_candidate y x) → list_any test xs ≡ is_listed xs x
-listed_by test x xs is = grind (arith, same_turned)
+listed_by test x xs is = grind arith
 
 pub listed_contains : (xs : List Candidate) (x : Candidate) → is_listed xs x ≡ true → Contains xs x
 listed_contains xs x e = grind (arith, Any-from_list_any, same_is)
@@ -34,12 +31,9 @@ contains_listed xs x (k, low, at) = list_any_at (same_candidate x) xs k x low (a
 
 -- ---- a search's order leaves the same candidates
 
-swapped : (a b c : Bool) → (a || (b || c)) ≡ (b || (a || c))
-swapped a b c = grind arith
-
 any_put : (p : Candidate → Bool) (x : Candidate) (ys : List Candidate) → list_any p (put_in_order x ys) ≡ (p x || list_any p ys)
 any_put p x [] = refl
-any_put p x (y ∷ ys) = grind (arith, swapped, any_put p x ys)
+any_put p x (y ∷ ys) = grind (arith, any_put p x ys)
 
 any_ordered : (p : Candidate → Bool) (xs : List Candidate) → list_any p (in_search_order xs) ≡ list_any p xs
 any_ordered p [] = refl

@@ -15,11 +15,8 @@ use Rattle.frontier_audit.proofs.{Audited.shelf_right, Jointly.{one_part, parts_
 
 -- ---- a verified report is right
 
-joined_parts : (r : ReportValue) (f h : FrontierValue) (xs : List (Part × FrontierValue)) → xs ≡ (part.Reduce, f) ∷ (part.Gather, h) ∷ [] → Joins r.topology.topology (points_of is_reduce xs) (points_of is_gather xs) r.joined → AreJoined r xs
-joined_parts r f h xs are joins = grind (arith, append-nil)
-
 are_joined : (k : Kind) (r : ReportValue) → r.words.collective.kind ≡ k → IsReport r → (r.words.collective.kind ≡ kind.Allreduce → Joins r.topology.topology (points_of is_reduce r.frontiers) (points_of is_gather r.frontiers) r.joined) → AreJoined r r.frontiers
-are_joined kind.Allreduce r e ok joins = let parts = parts_are r ok e in joined_parts r parts.reduce parts.gather r.frontiers parts.are (joins e)
+are_joined kind.Allreduce r e ok joins = let parts = parts_are r ok e in grind (arith, append-nil)
 are_joined _ r e ok joins = let (f, are) = one_part r.frontiers (ok.parts ∙ ap parts_of e) in subst (AreJoined r) (sym are) (ok.only_allreduce (λ a. absurd (cc)))
 
 pub report_right : (r : ReportValue) (files : Files) → IsReport r → audit_of r files ≡ Verified → IsRight r
@@ -43,9 +40,6 @@ abbrev pub verdict_of : Option (Part × Denial) → AuditVerdict
 verdict_of None = Verified
 verdict_of (Some (p, (reason, x))) = Denied reason p x
 
-same_verdict : (checked : Checked (Part × Denial)) → verdict_of (denial_of checked) ≡ verdict_from checked
-same_verdict checked = grind arith
-
 -- what the answer of the checks says of the report
 pub record IsJudged (tells : Bool) (shelf : Files) (r : ReportValue) (v : AuditVerdict) : Type 0 where
   pub exact : IsTrue tells → v ≡ audit_of r shelf
@@ -53,7 +47,7 @@ pub record IsJudged (tells : Bool) (shelf : Files) (r : ReportValue) (v : AuditV
 
 module _ {tells : Bool} {shelf : Files} (r : ReportValue) where
   judged_by : {d : Option (Part × Denial)} (v : AuditVerdict) → v ≡ verdict_of d → AnswersBeside tells shelf (report_checked r) d → IsJudged tells shelf r v
-  judged_by v is a = grind (arith, same_verdict)
+  judged_by v is a = grind arith
 
   module _ {a : Option (Part × Denial)} (parts : AnswersBeside tells shelf (λ files. parts_checked r files r.frontiers) a) where
     pub judged_by_parts : (d : Part × Denial) → a ≡ Some d → (v : AuditVerdict) → v ≡ verdict_of (Some d) → IsJudged tells shelf r v
