@@ -11,9 +11,6 @@ use Rattle.frontier_audit.{specs.{Candidates.{is_listed, candidates_within}, Sol
 settled_decides : (ps : List PointValue) (x : Candidate) → Decides (list_any (λ p. is_no_worse p.candidate x) ps) (Any (λ p. NoWorse p.candidate x) ps)
 settled_decides ps x = grind (arith, Any-from_list_any, decides_no_worse, list_any-from_Any)
 
-grouped : {A B C : Type 0} → ((A ⊎ B) ⊎ C) ↔ (A ⊎ (B ⊎ C))
-grouped = (λ h. elim h [ inl (inl a) ↦ inl a | inl (inr b) ↦ inr (inl b) | inr c ↦ inr (inr c) ], λ h. elim h [ inl a ↦ inl (inl a) | inr (inl b) ↦ inl (inr b) | inr (inr c) ↦ inr c ])
-
 pub answered_decides : (f : FrontierValue) (x : Candidate) → Decides (is_answered f x) (IsAnswered f x)
 answered_decides f x = grind (arith, settled_decides, listed_contains, contains_listed)
 
@@ -28,9 +25,6 @@ implies b l h = grind arith
 pub optimal_decides : (q : QuestionValue) (f : FrontierValue) (x : Candidate) → Decides (is_optimal q f x) (AllBetterRefuted q f x)
 optimal_decides q f x = (one_way, back)
   where
-    test : Candidate → Bool
-    test y = not (is_better y x) || is_listed f.refuted y
-
     one_way : is_optimal q f x ≡ true → AllBetterRefuted q f x
     one_way e y w b =
         let passes = All-contains (λ (z : Candidate). (not (is_better z x) || is_listed f.refuted z) ≡ true) (candidates_within q) y (AllPass-from_list_all (λ z. not (is_better z x) || is_listed f.refuted z) (candidates_within q) e) (listed_contains (candidates_within q) y (within_listed q y w)) in
