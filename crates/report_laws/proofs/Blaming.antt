@@ -70,8 +70,7 @@ pub unbegun : (word : List ℕ) (passes : List ℕ → Bool) (shape : List Token
 unbegun word passes shape row other = by_words (words_of row.bytes) refl
   where
     alone : (b : Bool) → (b && false) ≡ false
-    alone true = refl
-    alone false = refl
+    alone b = grind arith
 
     clash : (w x : List ℕ) (ws : List (List ℕ)) → words_of row.bytes ≡ w ∷ x ∷ ws → w ≡ word → ⊥
     clash w x ws is same =
@@ -81,13 +80,10 @@ unbegun word passes shape row other = by_words (words_of row.bytes) refl
         absurd (cc)
 
     by_test : (w x : List ℕ) (ws : List (List ℕ)) (b : Bool) → words_of row.bytes ≡ w ∷ x ∷ ws → bytes_eq w word ≡ b → (b && (passes x && has_shape shape ws)) ≡ false
-    by_test w x ws true is e = absurd (clash w x ws is ((bytes_eq-Decides w word).0 e))
-    by_test w x ws false is e = refl
+    by_test w x ws b is e = grind (arith, clash, bytes_eq-Decides)
 
     by_words : (ws : List (List ℕ)) → words_of row.bytes ≡ ws → has_shape (Word word ∷ Any passes ∷ shape) ws ≡ false
-    by_words [] is = refl
-    by_words (w ∷ []) is = alone (bytes_eq w word)
-    by_words (w ∷ x ∷ ws) is = by_test w x ws (bytes_eq w word) is refl
+    by_words ws is = grind (arith, alone, by_test)
 
 -- ---- what the lines before say
 

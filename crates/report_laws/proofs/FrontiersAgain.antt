@@ -32,10 +32,7 @@ part_ends x rows = grind arith
 -- there are no more parts than lines
 parts_fit : {A : Type 0} (spell : A → List (List (List ℕ))) → ((x : A) → 1 ≤ length (spell x)) → (xs : List A) (rest : List Row) → length xs ≤ length (map row_of (flat_map spell xs) ++ rest)
 parts_fit spell some [] rest = omega arith
-parts_fit spell some (x ∷ xs) rest =
-    let left = length-map (flat_map spell (x ∷ xs)) row_of in
-    let right = length-map (flat_map spell xs) row_of in
-    omega (arith, parts_fit spell some xs rest, length-append (map row_of (flat_map spell (x ∷ xs))) rest, length-append (map row_of (flat_map spell xs)) rest, length-append (spell x) (flat_map spell xs), left, right, some x)
+parts_fit spell some (x ∷ xs) rest = grind (arith, length-map, row_of, length-append, parts_fit spell some xs rest)
 
 points_fit : (names : List (List ℕ)) (ps : List PointValue) (rest : List Row) → length ps ≤ length (map row_of (flat_map (point_lines names) ps) ++ rest)
 points_fit names ps rest = parts_fit (point_lines names) (λ p. omega arith) ps rest

@@ -89,12 +89,11 @@ pub synth_tokens : (names : List (List ℕ)) (w : WordsValue) → AreNames names
 synth_tokens names w named ok =
     let l = ok.limits in
     let k = l.k in
-    let c = l.chunks in
     let n = l.conflicts in
     let kind = keyed_word (codes "collective=") (word_of w.collective.kind) (literal (codes "collective=") refl) (kind_word w.collective.kind) in
     let k_word = number_word (codes "k=") w.limits.k (literal (codes "k=") refl) (omega (arith, k)) in
     let s_word = number_word (codes "steps=") w.limits.max_s (literal (codes "steps=") refl) (omega (arith, l.steps)) in
-    let c_word = number_word (codes "chunks=") w.limits.max_c (literal (codes "chunks=") refl) (omega (arith, c)) in
+    let c_word = number_word (codes "chunks=") w.limits.max_c (literal (codes "chunks=") refl) (omega (arith, l.chunks)) in
     let n_word = number_word (codes "conflicts=") w.limits.conflicts (literal (codes "conflicts=") refl) (omega (arith, n)) in
     let rest = words_both (root_words names w) (pruning_words w.limits.pruning) (grind (arith, keyed_word, literal, name_word, root_is_name)) (pruning_is_words w.limits.pruning) in
     tokens_from (synth_words names w) (omega arith) (literal (codes "synth") refl, (kind, (k_word, (s_word, (c_word, (n_word, rest))))))
