@@ -119,11 +119,8 @@ module _ (text : List ℕ) where
       module _ (d : Bool × Place) (r3 : Row) (on3 : On all (r1 ∷ r2 ∷ r3 ∷ []) d.1) (w3 : first_word r3 ≡ codes "topology") where
         -- behind the names
         module _ (n : List (List ℕ) × Place) (r4 : Row) (on4 : On all (r1 ∷ r2 ∷ r3 ∷ r4 ∷ []) n.1) (is4 : r4 ≡ row_of (nodes_words n.0)) (named : AreNames n.0) where
-          words4 : words_of r4.bytes ≡ nodes_words n.0
-          words4 = ap (λ r. words_of r.bytes) is4 ∙ words_again (nodes_words n.0) (tokens_from (nodes_words n.0) (omega arith) (nodes_are_words n.0 named))
-
           at_groups : At all n.0 false [] n.1
-          at_groups = grind (arith, words4, is_joined, fits_after)
+          at_groups = grind (arith, is_joined, fits_after, words_again, tokens_from, nodes_are_words)
 
           root_goes : (root : ℕ) → Gives (Coded all) Passed (after_root all head.0 a.0 n root)
           root_goes root =

@@ -69,9 +69,6 @@ first_of_front word row free e = ap (λ ws. slice_index_or ws 0 []) (begins_is w
 pub unbegun : (word : List ℕ) (passes : List ℕ → Bool) (shape : List Token) (row : Row) → begins (word ++ 32 ∷ []) row.bytes ≡ false → has_shape (Word word ∷ Any passes ∷ shape) (words_of row.bytes) ≡ false
 unbegun word passes shape row other = by_words (words_of row.bytes) refl
   where
-    alone : (b : Bool) → (b && false) ≡ false
-    alone b = grind arith
-
     clash : (w x : List ℕ) (ws : List (List ℕ)) → words_of row.bytes ≡ w ∷ x ∷ ws → w ≡ word → ⊥
     clash w x ws is same =
         let rest : List ℕ = join_with_byte 32 (x ∷ ws) in
@@ -79,11 +76,8 @@ unbegun word passes shape row other = by_words (words_of row.bytes) refl
         let e : false ≡ true = sym other ∙ ((starts_is Decides-eqb row.bytes (word ++ 32 ∷ []) (starts_with nat_eq row.bytes (word ++ 32 ∷ [])) refl).1 rest text) in
         absurd (cc)
 
-    by_test : (w x : List ℕ) (ws : List (List ℕ)) (b : Bool) → words_of row.bytes ≡ w ∷ x ∷ ws → bytes_eq w word ≡ b → (b && (passes x && has_shape shape ws)) ≡ false
-    by_test w x ws b is e = grind (arith, clash, bytes_eq-Decides)
-
     by_words : (ws : List (List ℕ)) → words_of row.bytes ≡ ws → has_shape (Word word ∷ Any passes ∷ shape) ws ≡ false
-    by_words ws is = grind (arith, alone, by_test)
+    by_words ws is = grind (arith, clash, bytes_eq-Decides)
 
 -- ---- what the lines before say
 

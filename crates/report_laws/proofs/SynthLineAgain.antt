@@ -72,9 +72,6 @@ asked_again patterned names w version named ok =
 keyed_word : (key word : List ℕ) → IsWord key → IsWord word → IsWord (key ++ word)
 keyed_word key word first second = (omega (arith, length-append key word, first.0), token-append key word first.1 second.1)
 
-kind_word : (kind : Kind) → IsWord (word_of kind)
-kind_word kind = grind (arith, literal)
-
 words_both : (a b : List (List ℕ)) → AreWords a → AreWords b → AreWords (a ++ b)
 words_both [] b first second = second
 words_both (w ∷ ws) b first second = (first.0, words_both ws b first.1 second)
@@ -90,7 +87,7 @@ synth_tokens names w named ok =
     let l = ok.limits in
     let k = l.k in
     let n = l.conflicts in
-    let kind = keyed_word (codes "collective=") (word_of w.collective.kind) (literal (codes "collective=") refl) (kind_word w.collective.kind) in
+    let kind = keyed_word (codes "collective=") (word_of w.collective.kind) (literal (codes "collective=") refl) (grind (arith, literal)) in
     let k_word = number_word (codes "k=") w.limits.k (literal (codes "k=") refl) (omega (arith, k)) in
     let s_word = number_word (codes "steps=") w.limits.max_s (literal (codes "steps=") refl) (omega (arith, l.steps)) in
     let c_word = number_word (codes "chunks=") w.limits.max_c (literal (codes "chunks=") refl) (omega (arith, l.chunks)) in
