@@ -243,8 +243,7 @@ report_gives rows p =
     gives_then _ _ (among_gives (λ n. n ≡ a.1.number) rows (line_part header_line a.1) (header_gives a.1)) (λ e line. stop e.1 (one_stops h.0 a.0 ta.0 a.1 e.1 line))
     (λ d rd td. gives_then _ _ (at_line_gives a.1.number (refuse (not (is_same d.0 h.0)) code.BadLine)) (λ e line. stop e.1 (one_stops h.0 a.0 ta.0 a.1 e.1 line))
     (λ u ru kept.
-    let same : d.0 ≡ h.0 = grind arith in
-    let header : Between (spelling.head_words h.0 ∷ []) a.1 d.1 = subst (λ (b : Bool). Between (spelling.head_words b ∷ []) a.1 d.1) same td.1 in
+    let header : Between (spelling.head_words h.0 ∷ []) a.1 d.1 = subst (λ (b : Bool). Between (spelling.head_words b ∷ []) a.1 d.1) (grind arith) td.1 in
     gives_then _ _ (among_gives (λ n. n ≡ d.1.number) rows (line_part nodes_line d.1) (nodes_give d.1)) (λ e line. stop e.1 (node_stops h.0 a.0 ta.0 a.1 d.1 e.1 header line))
     (λ n rn tn. gives_then _ _ (at_line_gives d.1.number (root_of n.0 a.0.root)) (λ e line. stop e.1 (node_stops h.0 a.0 ta.0 a.1 d.1 e.1 header line))
     (λ root rr found.

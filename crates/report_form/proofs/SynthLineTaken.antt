@@ -146,14 +146,7 @@ words_take names a root some ok fits e = chosen (takes_root a.kind) refl fits
     front ws = codes "synth" ∷ (codes "collective=" ++ word_of a.kind) ∷ limits_words a.limits (ws ++ pruning_words a.limits.pruning)
 
     chosen : (b : Bool) → b ≡ takes_root a.kind → RootFits b a.root → WordsTaken names a root
-    chosen true takes (name, is, good) =
-        let (below, named) = node_is names name root (need_is (node_of names name) code.Limits root (ap (root_of names) (sym is) ∙ e)) in
-        record {
-          spelled = ap (λ o. front (root_tokens o)) is
-              ∙ (ap (λ v. front ((codes "root=" ++ v) ∷ [])) (sym named)
-              ∙ ap (λ b. front (if b then (codes "root=" ++ name_at names root) ∷ [] else [])) takes);
-          valid = record { limits = ok; root = below; no_root = λ h. absurd (let both : true ≡ false = takes ∙ h in cc) };
-        }
+    chosen true takes (name, is, good) = grind (arith, node_is, need_is, front)
     chosen false takes is =
         let zero_root : 0 ≡ root = ok_is {C = ReportCode} 0 root (ap (root_of names) (sym is) ∙ e) in
         record {
