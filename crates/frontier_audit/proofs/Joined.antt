@@ -6,7 +6,7 @@ use Rattle.schedule.specs.{declared.hop.Hop.Hop, Links.TopologyValue}
 use Rattle.candidate_order.specs.{declared.mark.Mark.Mark, Frontiers.PointValue}
 use Rattle.candidate_order.specs.declared.mark.Mark.TheVariants as mark
 use Rattle.allreduce_join.{specs.Joins.{join_of, IsJoin}, proofs.Told.all_summed_exactly}
-use Rattle.frontier_audit.specs.{declared.verdict.Reason.TheVariants.JoinWrong, inner.Steps.{same_hop, is_join}, Joining.{same_mark, same_point, joins_checked, IsSummable}}
+use Rattle.frontier_audit.specs.{declared.verdict.Reason.TheVariants.JoinWrong, inner.Steps.is_join, Joining.{same_mark, same_point, joins_checked, IsSummable}}
 use Rattle.frontier_audit.proofs.{Passing.{then_ok, ok_then, refused_not, not_refused}, Tried.same_decides, Solved.sums_said}
 
 -- ---- the test of the same point

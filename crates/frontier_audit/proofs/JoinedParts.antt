@@ -11,5 +11,4 @@ use Rattle.frontier_audit.{specs.{Denials.in_part, Joining.{joined_checked, join
 
 -- only an allreduce joins, the points of the one part with those of the other
 pub joined_by_kind : (k : Kind) (r : ReportValue) → r.words.collective.kind ≡ k → IsReport r → in_part part.Joined (joins_of k r) ≡ joined_checked r r.frontiers
-joined_by_kind kind.Allreduce r e ok = let parts = parts_are r ok e in grind (arith, append-nil)
-joined_by_kind _ r e ok = let (f, are) = one_part r.frontiers (ok.parts ∙ ap parts_of e) in ap (joined_checked r) (sym are)
+joined_by_kind k r e ok = grind (arith, parts_are, one_part, append-nil, parts_of, joined_checked)

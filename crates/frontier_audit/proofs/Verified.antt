@@ -16,8 +16,7 @@ use Rattle.frontier_audit.proofs.{Audited.shelf_right, Jointly.{one_part, parts_
 -- ---- a verified report is right
 
 are_joined : (k : Kind) (r : ReportValue) → r.words.collective.kind ≡ k → IsReport r → (r.words.collective.kind ≡ kind.Allreduce → Joins r.topology.topology (points_of is_reduce r.frontiers) (points_of is_gather r.frontiers) r.joined) → AreJoined r r.frontiers
-are_joined kind.Allreduce r e ok joins = let parts = parts_are r ok e in grind (arith, append-nil)
-are_joined _ r e ok joins = let (f, are) = one_part r.frontiers (ok.parts ∙ ap parts_of e) in subst (AreJoined r) (sym are) (ok.only_allreduce (λ a. absurd (cc)))
+are_joined k r e ok joins = grind (arith, parts_are, one_part, append-nil, parts_of)
 
 pub report_right : (r : ReportValue) (files : Files) → IsReport r → audit_of r files ≡ Verified → IsRight r
 report_right r files ok e = record {

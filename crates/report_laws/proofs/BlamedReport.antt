@@ -1,6 +1,6 @@
 -- The line that the checks of a report blame has the code of its form.
 use Rattle.std.proofs.Common.{◌≡◌, ℕ, zero, suc, ◌+◌, Bool, true, false, ◌||◌, not, List, [], ◌∷◌, ◌++◌, map, length, drop, Option, None, Some, Result, Ok, Err, refl, sym, ap, ◌∙◌, arith, ◌==◌, codes, bytes_eq, if◌then◌else◌, slice_index_or, is_ok}
-use Rattle.std.{proofs.lemmas.{Bool.{and_parts, not-false, or_parts}, Option.same_Some, Slice.Eq.bytes_eq-Decides}, specs.List.list_any}
+use Rattle.std.{proofs.{Math.Bool.or-false, lemmas.{Bool.{and_parts, not-false, or_parts}, Option.same_Some, Slice.Eq.bytes_eq-Decides}}, specs.List.list_any}
 use Rattle.text_lines.specs.{Text.{Row, Place, words_of, rows_of, start, behind}, Check.{refuse, first, line_part}, Repeated.{begins, parts_at}}
 use Rattle.text_lines.proofs.{Checks.refuse_ok, Gives.{Gives, gives_done, gives_fail, gives_like}, Rows.{row_of, words_again}, Words.tokens_from}
 use Rattle.schedule.specs.Links.{GroupValue}
@@ -16,7 +16,7 @@ use Rattle.report_form.proofs.ReportTaken.{after_root, after_names, after_same, 
 use Rattle.report_form.specs.declared.fault.ReportCode.TheVariants as code
 use Rattle.report_laws.specs.Shapes.{has_shape, asked_shape, results, forms_after, first_word, is_patterned, names_in, forms_behind, code_of}
 use Rattle.report_laws.proofs.{ShapesTold.asked_told, BlamedPoints.{joined_points_go, IsTitle, title_goes, frontier_goes}}
-use Rattle.report_laws.proofs.Blaming.{Form, is_joined, fits, last_is, goes_on, at_line_goes, part_goes, or_false, told_code, ruled_goes, first_of_shape, first_of_front, On, Coded, Unfit, code_on, unfit_on, among_goes, Stands, stands_goes, told_on, At, coded_at, onward, lines_go}
+use Rattle.report_laws.proofs.Blaming.{Form, is_joined, fits, last_is, goes_on, at_line_goes, part_goes, told_code, ruled_goes, first_of_shape, first_of_front, On, Coded, Unfit, code_on, unfit_on, among_goes, Stands, stands_goes, told_on, At, coded_at, onward, lines_go}
 
 -- ---- the body
 
@@ -52,7 +52,7 @@ module _ (rows : List Row) (words : WordsValue) (t : NamedTopologyValue) where
   body_goes p at =
       goes_on _ _ (frontiers_go (parts_of words.collective.kind) (grind arith) p at)
       (λ f read here. goes_on _ _ (joined_goes words.collective.kind f.1 here)
-      (λ j more there. goes_on _ _ (title_goes rows t.names there.0 there.0 (codes "end") (codes "end") [] refl (or_false there.0) (λ b. refl) j.1 there.1)
+      (λ j more there. goes_on _ _ (title_goes rows t.names there.0 there.0 (codes "end") (codes "end") [] refl (or-false there.0) (λ b. refl) j.1 there.1)
       (λ e ended last. goes_on _ _ (nothing_goes there.0 e.1 last) (λ u none v. gives_done _ tt))))
 
 -- ---- the topology behind its names
@@ -129,7 +129,7 @@ module _ (text : List ℕ) where
               (λ c more there. body_goes all (words_from a.0 root) (named_with n.0 g.0 c.0) c.1 there))
 
         nodes_fit : (row : Row) → fits (r1 ∷ r2 ∷ r3 ∷ []) row ≡ is_ok (nodes_line (Some row))
-        nodes_fit row = fits_after (r1 ∷ r2 ∷ []) r3 row (codes "topology") w3 ((λ r. is_ok (nodes_line (Some r))) ∷ []) refl ∙ or_false (is_ok (nodes_line (Some row)))
+        nodes_fit row = fits_after (r1 ∷ r2 ∷ []) r3 row (codes "topology") w3 ((λ r. is_ok (nodes_line (Some r))) ∷ []) refl ∙ or-false (is_ok (nodes_line (Some row)))
 
         behind_names : (n : List (List ℕ) × Place) → Stands all nodes_line (r1 ∷ r2 ∷ r3 ∷ []) d.1 n → Gives (Coded all) Passed (after_names all head.0 a.0 d.1.number n)
         behind_names n i =

@@ -1,6 +1,6 @@
 -- A line that a check blames has the code of its form, where the lines before it say which forms may stand there.
 use Rattle.std.proofs.Common.{◌≡◌, ℕ, zero, suc, ◌+◌, ◌-◌, ◌<◌, ◌≤◌, Bool, true, false, ◌&&◌, ◌||◌, not, eqb, List, [], ◌∷◌, ◌++◌, map, length, take, Option, None, Some, Result, Ok, Err, refl, sym, ap, ◌∙◌, subst, append_assoc, arith, codes, bytes_eq, if◌then◌else◌, slice_get, slice_index_or, nat_eq}
-use Rattle.std.proofs.{Math.Seq.take-append_seam, lemmas.{Bool.{and_parts, Decides.Decides-eqb}, List.{length-append, Splits.join_with_byte-slice_split}, Slice.Eq.{bytes_eq-Decides, starts_is}}}
+use Rattle.std.proofs.{Math.{Bool.or-false, Seq.take-append_seam}, lemmas.{Bool.{and_parts, Decides.Decides-eqb}, List.{length-append, Splits.join_with_byte-slice_split}, Slice.Eq.{bytes_eq-Decides, starts_is}}}
 use Rattle.std.specs.List.{list_any, list_all, last_or, starts_with, join_with_byte}
 use Rattle.text_lines.specs.{Text.{Row, Place, words_of, behind}, Check.{◌>>=◌, refuse, at_line, first, line_part}, Repeated.{begins, row_begins, lines_at, parts_from}}
 use Rattle.text_lines.proofs.{Checks.first_is, Gives.{Gives, gives_done, gives_fail, gives_like, gives_then}, Repeated.{line_by, lines_are_parts, one_less}, Words.begins_is}
@@ -37,9 +37,6 @@ pub part_goes : {A C : Type 0} (E : C × ℕ → Type 0) (N : A × Place → Typ
 part_goes E N check p g = goes_on _ _ (at_line_goes E p.number (check (first p.rows)) g) (λ x read holds. gives_done (x, behind p) holds)
 
 -- ---- one line
-
-pub or_false : (b : Bool) → (b || false) ≡ b
-or_false b = grind arith
 
 -- the code of a line that is there, by whether it has a form
 abbrev pub told_code : Bool → Row → ReportCode
@@ -86,7 +83,7 @@ last_is [] row o = refl
 last_is (r ∷ rs) row o = last_is rs row (Some (first_word r))
 
 joined_on : (rows : List Row) (row : Row) → is_joined (map first_word (rows ++ row ∷ [])) ≡ (is_joined (map first_word rows) || bytes_eq (first_word row) (codes "joined"))
-joined_on [] row = or_false (bytes_eq (first_word row) (codes "joined"))
+joined_on [] row = or-false (bytes_eq (first_word row) (codes "joined"))
 joined_on (r ∷ rs) row = grind (arith, bytes_eq, joined_on rs row)
 
 get_behind : {A : Type 0} (xs ys : List A) → slice_get (xs ++ ys) (length xs) ≡ slice_get ys 0

@@ -38,11 +38,8 @@ root_is_name names root named below = All-get_or (λ n. is_name n ≡ true) name
 abbrev pub rooted : List ℕ × List (List ℕ) → Result (Option (List ℕ) × List (List ℕ)) ReportCode
 rooted name = Ok (Some name.0, name.1)
 
-abbrev unrooted : List (List ℕ) → Result (Option (List ℕ) × List (List ℕ)) ReportCode
-unrooted words = Ok (None, words)
-
 root_again : (b : Bool) (names : List (List ℕ)) (root : ℕ) (rest : List (List ℕ)) → AreNames names → root < length names
-    → (if b then (next_keyed (codes "root=") name_of (root_tokens b names root ++ rest) >>= rooted) else unrooted (root_tokens b names root ++ rest)) ≡ Ok (root_asked b names root, rest)
+    → (if b then (next_keyed (codes "root=") name_of (root_tokens b names root ++ rest) >>= rooted) else Ok (None, root_tokens b names root ++ rest)) ≡ Ok (root_asked b names root, rest)
 root_again b names root rest named below = grind (arith, ok_then, keyed_again, name_of_name, root_is_name)
 
 -- the number of the root is found by its name

@@ -99,9 +99,6 @@ report_checked r files = do
 
 -- ---- joined points
 
-abbrev pub same_hop : Hop → Hop → Bool
-same_hop a b = a.chunk == b.chunk && a.from == b.from && a.to == b.to && a.step == b.step
-
 -- the join of the two sums every chunk at every node
 abbrev pub is_join : TopologyValue → PointValue × PointValue → Bool
 is_join t pair = says_sums (joined_verdict_of t (chunks_of Allreduce t.nodes pair.0.candidate.c) (join_of pair.0 pair.1).schedule pair.0.candidate.s)
