@@ -13,9 +13,6 @@ up_any : (us : List UnknownValue) (x : Candidate) → is_given_up us x ≡ is_li
 up_any [] x = refl
 up_any (u ∷ us) x = ap (λ b. same_candidate x u.candidate || b) (up_any us x)
 
-other_one : (a l g : Bool) → l ≡ false → (a || g) ≡ (a || l || g)
-other_one a l g e = grind arith
-
 -- the first that fails a test is the first that is refused for it
 first_refused : {X C : Type 0} (test : X → Bool) (code : X → C) (xs : List X) → option_map code (find (λ x. not (test x)) xs) ≡ denial_of (each (λ x. refuse (not (test x)) (code x)) xs)
 first_refused test code [] = refl
@@ -23,7 +20,7 @@ first_refused test code (x ∷ xs) = grind (arith, first_refused test code xs)
 
 left_says : (f : FrontierValue) (xs : List Candidate) → find (λ x. not (is_left_answered f x)) (unrefuted_among f.refuted xs) ≡ find (λ x. not (is_answered f x)) xs
 left_says f [] = refl
-left_says f (x ∷ xs) = grind (arith, up_any, other_one, left_says f xs)
+left_says f (x ∷ xs) = grind (arith, up_any, left_says f xs)
 
 -- ---- marks
 

@@ -63,15 +63,12 @@ module _ (c : Option PatternValue) (root nodes count : ℕ) where
   abbrev Whole : Kind → Part → Type 0
   Whole k p = chunks_at k p ≡ chunks_at k part.Whole
 
-  as_many : (k : Kind) → All (Whole k) (parts_of k)
-  as_many k = grind arith
-
 module _ (r : ReportValue) (ok : IsReport r) (p : Part) (has : Contains (parts_of r.words.collective.kind) p) where
   abbrev asks : Part → QuestionValue
   asks x = question_of r.words r.topology x
 
   pub part_asked : size_of (asks part.Whole) ≤ size_limit → IsAuditable (asks p)
-  part_asked small = grind (arith, parts_fit, fitting_spec, apart_in, apart, as_many)
+  part_asked small = grind (arith, parts_fit, fitting_spec, apart_in, apart)
 
 -- what the calls gave is what is asked
 pub made_of : (t : TopologyValue) (s : Spec) (l : LimitsValue) (q : QuestionValue) → t ≡ q.topology → s ≡ q.spec → l ≡ q.limits → record { topology = t; spec = s; limits = l } ≡ q

@@ -23,14 +23,11 @@ pub record ReportPasses (r : ReportValue) (files : Files) : Type 0 where
   pub parts : All (PartPasses r files) r.frontiers
   pub joined : joined_checked r r.frontiers ≡ Ok tt
 
-part_passes : (r : ReportValue) (files : Files) (x : Part × FrontierValue) → part_checked r files x ≡ Ok tt → PartPasses r files x
-part_passes r files x e = grind (arith, then_ok, each_ok)
-
 part_passed : (r : ReportValue) (files : Files) (x : Part × FrontierValue) → PartPasses r files x → part_checked r files x ≡ Ok tt
 part_passed r files x p = grind (arith, ok_in_part, ok_then, ok_each)
 
 pub report_passes : (r : ReportValue) (files : Files) → audit_of r files ≡ Verified → ReportPasses r files
-report_passes r files e = grind (arith, then_ok, verified_ok, each_ok, part_passes)
+report_passes r files e = grind (arith, then_ok, verified_ok, each_ok)
 
 pub report_passed : (r : ReportValue) (files : Files) → ReportPasses r files → audit_of r files ≡ Verified
 report_passed r files p =

@@ -23,11 +23,8 @@ due_alike t a b p = go (same_point (join_of a b) p) refl
     sums : PointValue → Bool
     sums z = says_sums (joined_verdict_of t (chunks_of kind.Allreduce t.nodes z.candidate.c) z.schedule a.candidate.s)
 
-    with_true : (x : Bool) → x ≡ (x && true)
-    with_true x = grind arith
-
     go : (s : Bool) → same_point (join_of a b) p ≡ s → (s && sums p) ≡ (is_join t (a, b) && s)
-    go true e = ap sums (sym (point_is (join_of a b) p e)) ∙ with_true (is_join t (a, b))
+    go true e = ap sums (sym (point_is (join_of a b) p e)) ∙ (grind arith)
     go false e = grind arith
 
 module _ (t : TopologyValue) (a b : PointValue) (due : PointValue) (made : due ≡ join_of a b) (printed : Option PointValue) where
@@ -88,14 +85,11 @@ module _ (t : TopologyValue) (joined : List PointValue) (f : List PointValue →
     up_to : take (i + 1) xs ≡ take i xs ++ x ∷ []
     up_to = take_more xs i x low ∙ ap (λ y. take i xs ++ y ∷ []) (sym is)
 
-    whole : xs ≡ (take i xs ++ x ∷ []) ++ drop (i + 1) xs
-    whole = sym (ap (λ ys. ys ++ drop (i + 1) xs) (sym up_to) ∙ take-append-drop (i + 1) xs)
-
     pub walk_goes : JoinsSay t (f (x ∷ [])) joined middle now None → JoinsSay t (f (take (i + 1) xs)) joined before now None
     walk_goes a = subst (λ ps. JoinsSay t ps joined before now None) (sym (adds (take i xs) (x ∷ [])) ∙ ap f (sym up_to)) (say_then t joined (f (take i xs)) (f (x ∷ [])) before middle now None so_far a)
 
     pub walk_stops : (d : Denial) → JoinsSay t (f (x ∷ [])) joined middle now (Some d) → JoinsSay t (f xs) joined before now (Some d)
-    walk_stops d a = grind (arith, nat_tests, common_steps, say_then, whole)
+    walk_stops d a = grind (arith, nat_tests, common_steps, say_then, sym (ap (λ ys. ys ++ drop (i + 1) xs) (sym up_to) ∙ take-append-drop (i + 1) xs))
 
   pub walk_ends : (before now : ℕ) → length xs ≤ i → JoinsSay t (f (take i xs)) joined before now None → JoinsSay t (f xs) joined before now None
   walk_ends before now past a = subst (λ ys. JoinsSay t (f ys) joined before now None) (take_all i xs past) a

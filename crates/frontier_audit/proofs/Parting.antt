@@ -75,9 +75,6 @@ looks_at_part own r x has f g same =
     let q = question_of r.words r.topology x.0 in
     ap (in_part x.0) (looks_files x.0 q x.1 own (looks_formulas x.0 q x.1 own (λ name here _. has name here)) (looks_logs x.0 q x.1 own (λ name here _. has name here)) f g same)
 
-same_number : (p : Part) → (part_number p == part_number p) ≡ true
-same_number p = grind arith
-
 -- the parts of a report are different ones
 abbrev PartsApart : Part → Part → Type 0
 PartsApart a b = not (part_number b == part_number a) ≡ true
@@ -89,7 +86,7 @@ unnamed_pairs R f xs all i j d before within = grind (arith, all i j (f d) befor
 pub separate_parts : (r : ReportValue) → IsReport r → Separate (part_checked r) r.frontiers
 separate_parts r ok = record {
   own = λ x. is_in x.0;
-  looks = λ x. looks_at_part (is_in x.0) r x (λ name e. ap (λ p. part_number p == part_number x.0) e ∙ same_number x.0);
+  looks = λ x. looks_at_part (is_in x.0) r x (λ name e. ap (λ p. part_number p == part_number x.0) e ∙ (grind arith));
   apart = λ i j d below low. looks_at_part _ r _ (λ name e. ap (λ p. not (part_number p == part_number (get_or r.frontiers i d).0)) e ∙ parts_differ i j d below low);
 }
   where

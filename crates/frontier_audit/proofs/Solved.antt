@@ -9,9 +9,6 @@ use Rattle.candidate_order.specs.Frontiers.{QuestionValue, PointValue, IsSolvedB
 use Rattle.report_form.specs.Reports.{HasSchedule}
 use Rattle.frontier_audit.specs.Solutions.{is_solution}
 
-solves_said : (v : Verdict) → says_solves v ≡ true → v ≡ verdict.Solves
-solves_said v e = grind arith
-
 pub sums_said : (v : SumVerdict) → says_sums v ≡ true → v ≡ sums.Sums
 sums_said v e = grind arith
 
@@ -20,13 +17,10 @@ module _ (q : QuestionValue) (p : PointValue) where
   judged b = if b then says_sums (sum_verdict_of q.topology (demand_for q p.candidate) p.schedule) else says_solves (verdict_of q.topology (instance_for q p.candidate).pre (instance_for q p.candidate).post p.schedule)
 
   achieves_by : HasSchedule q p → (b : Bool) → judged b ≡ true → Achieves b q p.candidate p.schedule
-  achieves_by h b e = grind (arith, tells_solves, solves_said, sums_exactly, sums_said)
-
-  by_achieving : (b : Bool) → Achieves b q p.candidate p.schedule → judged b ≡ true
-  by_achieving b a = grind (arith, tells_solves, sums_exactly)
+  achieves_by h b e = grind (arith, tells_solves, sums_exactly, sums_said)
 
   pub solved_by : HasSchedule q p → is_solution q p ≡ true → IsSolvedBy q p.candidate p.schedule
   solved_by h e = record { valid = h.schedule; in_range = h.in_range; achieves = achieves_by h (adds_up q.spec) e }
 
   pub by_solution : IsSolvedBy q p.candidate p.schedule → is_solution q p ≡ true
-  by_solution h = by_achieving (adds_up q.spec) h.achieves
+  by_solution h = grind (arith, tells_solves, sums_exactly)

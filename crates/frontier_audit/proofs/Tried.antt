@@ -68,19 +68,7 @@ each_within q = in_flat (IsWithin q) (From 1 q.limits.max_s) (λ s. in_search_or
 
 any_passing : {X : Type 0} (p : X → Bool) (g : ℕ → X) (keep : ℕ → Bool) (a n j : ℕ) → a ≤ j → j < a + n → keep j ≡ true → p (g j) ≡ true → list_any p (map g (filter keep (range_with_len a n))) ≡ true
 any_passing p g keep a zero j low high k h = absurd (omega (arith, low, high))
-any_passing p g keep a (suc n) j low high k h = ⊎_elim
-    (λ (e : a ≡ j). first (keep a) (ap keep e ∙ k) (ap (λ i. p (g i)) e ∙ h))
-    (λ ne. later (keep a) (any_passing p g keep (a + 1) n j (omega (arith, low, ne)) (omega (arith, high)) k h))
-    (cases_eq a j)
-  where
-    others : List ℕ
-    others = filter keep (range_with_len (a + 1) n)
-
-    first : (b : Bool) → b ≡ true → p (g a) ≡ true → list_any p (map g (if b then a ∷ others else others)) ≡ true
-    first b e d = grind (arith, or_left, others)
-
-    later : (b : Bool) → list_any p (map g others) ≡ true → list_any p (map g (if b then a ∷ others else others)) ≡ true
-    later b d = grind (arith, or_right, others)
+any_passing p g keep a (suc n) j low high k h = grind (arith, cases_eq, or_left, or_right, any_passing p g keep (a + 1) n j)
 
 pub step_listed : (q : QuestionValue) (x : Candidate) → IsWithin q x → is_listed (in_search_order (candidates_of_step q x.s)) x ≡ true
 step_listed q x w =
