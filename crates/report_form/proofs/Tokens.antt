@@ -53,14 +53,7 @@ digits_all (b ∷ bs) e =
 
 -- a canonical number that is small enough is spelled by its digits
 pub canonical : (token : List ℕ) → is_number token ≡ true → digits_value 10 token < 2 ^ 64 → token ≡ decimal (digits_value 10 token)
-canonical [] e small = absurd (cc)
-canonical (b ∷ []) e small = spells (b ∷ []) (digits_all (b ∷ []) (one e)) (omega arith) (λ zero_first. refl) small
-  where
-    one : is_digit b ≡ true → (is_digit b && true) ≡ true
-    one h = ap (λ x. x && true) h
-canonical (b ∷ c ∷ bs) e small =
-    let parts = and_parts (not (b == 48)) (list_all is_digit (b ∷ c ∷ bs)) e in
-    spells (b ∷ c ∷ bs) (digits_all (b ∷ c ∷ bs) parts.1) (omega arith) (λ zero_first. absurd (eqb-false b 48 (not-true (b == 48) parts.0) zero_first)) small
+canonical token e small = grind (arith, spells, digits_all, and_parts, eqb-false, not-true)
 
 pub any_number_is : (token : List ℕ) (n : ℕ) → any_number token ≡ Some n → n < 2 ^ 64 → token ≡ decimal n
 any_number_is token n e small = grind (arith, if_some, same_Some, canonical)
