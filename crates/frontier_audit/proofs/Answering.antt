@@ -1,5 +1,5 @@
 -- The candidates that are not refuted tell which candidates are answered, and which marks are right.
-use Rattle.std.{proofs.Common.{arith, ◌≡◌, Bool, true, false, List, [], ◌∷◌, map, Option, None, Some, refl, sym, ap, ◌∙◌, ◌||◌, not}, specs.{List.{find, list_all}, Option.option_map}}
+use Rattle.std.{proofs.Common.{arith, ◌≡◌, Bool, List, [], ◌∷◌, map, Option, None, Some, refl, sym, ap, ◌∙◌, ◌||◌, not}, specs.{List.{find, list_all}, Option.option_map}}
 use Rattle.text_lines.specs.Check.{refuse}
 use Rattle.candidate_order.specs.{declared.candidate.Candidate.Candidate, Frontiers.{QuestionValue, PointValue, UnknownValue, FrontierValue}}
 use Rattle.report_form.specs.Tests.{is_better}

@@ -1,16 +1,15 @@
 -- What is asked in a part of a report, and the formulas of its candidates.
-use Rattle.std.proofs.{Common.{◌≡◌, ℕ, ◌≤◌, Bool, true, false, [], Option, None, Some, refl, sym, ap, ◌∙◌, subst, arith, ◌<◌, if◌then◌else◌, All, Contains, sum_by}, lemmas.List.Elements.{All-nil, All-cons, All-contains}}
+use Rattle.std.proofs.{Common.{◌≡◌, ℕ, ◌≤◌, Bool, true, false, Option, refl, sym, ap, ◌∙◌, subst, arith, ◌<◌, if◌then◌else◌, Contains}}
 use Rattle.std.specs.Option.{is_some}
 use Rattle.outer_ports.specs.declared.part.Part.{Part}
 use Rattle.outer_ports.specs.declared.part.Part.TheVariants as part
 use Rattle.schedule.{specs.Links.{TopologyValue, reversed_of}, proofs.Turned.turned_topology}
 use Rattle.collective_spec.{specs.{declared.{kind.Kind.Kind, spec.Spec.Spec}, Patterns.PatternValue, Kinds.allows, Collectives.{adds_up, chunks_in, kind_in, spec_instance, spec_of}}, proofs.Sized.fitting_spec}
-use Rattle.collective_spec.specs.declared.kind.Kind.TheVariants as kind
-use Rattle.candidate_order.specs.{declared.candidate.Candidate.Candidate, Ranges.LimitsValue, Frontiers.{QuestionValue, IsWithin}, Copied.copied_spec}
+use Rattle.candidate_order.specs.{declared.candidate.Candidate.Candidate, Ranges.LimitsValue, Frontiers.{QuestionValue, IsWithin}}
 use Rattle.round_encoding.specs.Candidates.{size_limit}
 use Rattle.report_form.specs.Reports.{ReportValue, IsReport, kind_of, parts_of, question_of}
 use Rattle.node_cuts.specs.{declared.sets.Sets.Sets, Cuts.first_cut_of, Tables.{TableValue, IsTableOf}}
-use Rattle.candidate_formula.specs.{Formulas.{formula_for, searched_on}, Pruned.is_cut_away, Sizes.size_of, Questions.{IsSmallQuestion, IsSought, copying_question}}
+use Rattle.candidate_formula.specs.{Formulas.{formula_for, searched_on}, Pruned.is_cut_away, Sizes.size_of, Questions.{IsSought, copying_question}}
 use Rattle.candidate_formula.proofs.{CopyingQuestions.{same_size, small_by_copying, within_by, reduced_formula}, Copying.{same_allowed, copied_stays}, TurnedSize.copied_size}
 use Rattle.frontier_audit.{specs.inner.Auditable.{IsAuditable, IsPrepared}, proofs.{Right.{apart, apart_in}, Unsolvable.parts_fit}}
 

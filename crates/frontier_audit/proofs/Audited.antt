@@ -4,8 +4,8 @@ use Rattle.outer_ports.specs.{declared.part.Part.Part, Files.Files}
 use Rattle.candidate_order.specs.Frontiers.{QuestionValue, FrontierValue, IsUnknown}
 use Rattle.report_form.specs.Reports.{ReportValue, IsReport, question_of}
 use Rattle.frontier_audit.specs.{declared.verdict.AuditVerdict.TheVariants.Verified, Denials.each, Shelves.{PartRight, ShelfRight}, Joining.joined_checked, Candidates.candidates_within}
-use Rattle.frontier_audit.specs.{Auditing.{unknown_checked, frontier_checked, audit_of}, inner.Steps.{part_checked, point_checked, refuted_checked, candidate_checked, mark_checked, report_checked}}
-use Rattle.frontier_audit.proofs.{Passing.{then_ok, ok_then, each_ok, ok_each, in_part_ok, ok_in_part, verified_ok, ok_verified}, Beside.has_log_of, CutAway.owes_refutation}
+use Rattle.frontier_audit.specs.{Auditing.{unknown_checked, audit_of}, inner.Steps.{part_checked, point_checked, refuted_checked, candidate_checked, mark_checked, report_checked}}
+use Rattle.frontier_audit.proofs.{Passing.{then_ok, ok_then, each_ok, ok_each, ok_in_part, verified_ok, ok_verified}, Beside.has_log_of, CutAway.owes_refutation}
 
 -- each check of a part passes
 pub record Passes (part : Part) (q : QuestionValue) (files : Files) (f : FrontierValue) : Type 0 where

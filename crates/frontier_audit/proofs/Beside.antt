@@ -1,5 +1,5 @@
 -- The checks of a candidate's files pass exactly where the files are what they have to be.
-use Rattle.std.proofs.{lemmas.{Bool.Decides.nat_tests, Grind.common_steps}, Common.{arith, ◌≡◌, ℕ, Bool, true, false, List, length, Ok, Option, None, Some, refl, sym, ap, ◌∙◌, not, nat_le, bytes_eq, if◌then◌else◌}}
+use Rattle.std.proofs.{lemmas.{Bool.Decides.nat_tests, Grind.common_steps}, Common.{arith, ◌≡◌, ℕ, Bool, List, length, Ok, Option, sym, ◌∙◌, not, nat_le, bytes_eq, if◌then◌else◌}}
 use Rattle.std.proofs.lemmas.Bool.{and_parts, leb-true, le-leb, and_from}
 use Rattle.text_lines.{specs.Check.{◌>>=◌, refuse, need}, proofs.Checks.need_ok}
 use Rattle.outer_ports.specs.{declared.{part.Part.Part, proof_name.FileKind.TheVariants.{Cnf, Lrat, Partial}}, Files.Files}
@@ -7,7 +7,7 @@ use Rattle.cnf_formula.specs.Formulas.{FormulaValue}
 use Rattle.lrat_text.specs.Printing.{cnf_text}
 use Rattle.candidate_order.specs.{declared.candidate.Candidate.Candidate, Frontiers.{QuestionValue, UnknownValue}}
 use Rattle.candidate_formula.{specs.{ReadLines.lines_said, Formulas.formula_for, Files.{file_of, longest_proof, HasRefutation, HasLog}}, proofs.Spelled.{text_spells, text_read}}
-use Rattle.proof_audit.specs.{declared.verdict.FileVerdict.{FileVerdict, TheVariants.{Missing, Refused, Stands}}, Files.file_verdict, Proving.{is_refutation, is_spent_log}, Tested.do_spend}
+use Rattle.proof_audit.specs.{declared.verdict.FileVerdict.{FileVerdict, TheVariants.{Refused, Stands}}, Files.file_verdict, Proving.{is_refutation, is_spent_log}, Tested.do_spend}
 use Rattle.proof_audit.proofs.{Standing.standing_refute, Proved.{spent_by, by_spending}}
 use Rattle.frontier_audit.specs.{declared.verdict.Reason.{Reason, TheVariants.{ProofMissing, ProofRefused, CnfDiffers, PartialRefused}}, Denials.{Denial, Checked}, Auditing.{refutation_checked, unknown_checked}, inner.Steps.judged}
 use Rattle.frontier_audit.proofs.Passing.{then_ok, ok_then, refused_not}

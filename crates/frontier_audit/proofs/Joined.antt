@@ -1,12 +1,11 @@
 -- The checks of joined points pass exactly where they are the joins.
-use Rattle.std.proofs.{Common.{arith, ◌≡◌, true, Decides, List, [], ◌∷◌, map, Ok, refl, sym, ap, ◌∙◌, ◌&&◌, not, All}, lemmas.Bool.{and_parts, eqb-true, eq-eqb, and_from, Decides.{Decides-and, Decides-eqb, Decides-like}}}
+use Rattle.std.proofs.{Common.{arith, ◌≡◌, true, Decides, List, [], ◌∷◌, map, Ok, refl, sym, ap, ◌∙◌, ◌&&◌, not, All}, lemmas.Bool.{and_parts, eqb-true, eq-eqb, and_from}}
 use Rattle.std.proofs.lemmas.{Slice.Eq.{bytes_eq-Decides, slice_eq-Decides}, List.Elements.{All-nil, All-cons, All-head, All-tail}}
 use Rattle.text_lines.specs.Check.{refuse}
-use Rattle.schedule.specs.{declared.hop.Hop.Hop, Links.TopologyValue}
-use Rattle.candidate_order.specs.{declared.mark.Mark.Mark, Frontiers.PointValue}
-use Rattle.candidate_order.specs.declared.mark.Mark.TheVariants as mark
+use Rattle.schedule.specs.{Links.TopologyValue}
+use Rattle.candidate_order.specs.{Frontiers.PointValue}
 use Rattle.allreduce_join.{specs.Joins.{join_of, IsJoin}, proofs.Told.all_summed_exactly}
-use Rattle.frontier_audit.specs.{declared.verdict.Reason.TheVariants.JoinWrong, inner.Steps.is_join, Joining.{same_mark, same_point, joins_checked, IsSummable}}
+use Rattle.frontier_audit.specs.{declared.verdict.Reason.TheVariants.JoinWrong, inner.Steps.is_join, Joining.{same_point, joins_checked, IsSummable}}
 use Rattle.frontier_audit.proofs.{Passing.{then_ok, ok_then, refused_not, not_refused}, Tried.same_decides, Solved.sums_said}
 
 -- ---- the test of the same point

@@ -1,13 +1,9 @@
 -- What is joined, by the kind of the collective and by the parts of a valid report.
-use Rattle.std.proofs.Common.{arith, ◌≡◌, List, [], ◌∷◌, append-nil, sym, ap, ◌∙◌}
-use Rattle.outer_ports.specs.declared.part.Part.{Part}
+use Rattle.std.proofs.Common.{arith, ◌≡◌, append-nil}
 use Rattle.outer_ports.specs.declared.part.Part.TheVariants as part
 use Rattle.collective_spec.specs.declared.kind.Kind.{Kind}
-use Rattle.collective_spec.specs.declared.kind.Kind.TheVariants as kind
-use Rattle.candidate_order.specs.Frontiers.{FrontierValue}
-use Rattle.allreduce_join.specs.Joins.{pairs_of}
 use Rattle.report_form.specs.Reports.{ReportValue, IsReport, parts_of}
-use Rattle.frontier_audit.{specs.{Denials.in_part, Joining.{joined_checked, joins_checked}, Parts.{is_gather, is_reduce, points_of}, inner.Steps.joins_of}, proofs.Jointly.{one_part, parts_are}}
+use Rattle.frontier_audit.{specs.{Denials.in_part, Joining.{joined_checked}, inner.Steps.joins_of}, proofs.Jointly.{one_part, parts_are}}
 
 -- only an allreduce joins, the points of the one part with those of the other
 pub joined_by_kind : (k : Kind) (r : ReportValue) → r.words.collective.kind ≡ k → IsReport r → in_part part.Joined (joins_of k r) ≡ joined_checked r r.frontiers

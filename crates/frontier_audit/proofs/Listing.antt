@@ -2,7 +2,7 @@
 use Rattle.std.proofs.Common.{◌≡◌, ℕ, suc, ◌+◌, ◌-◌, ◌<◌, ◌≤◌, List, [], ◌++◌, map, append_assoc, refl, sym, ap, ◌∙◌, subst, arith, ◌↔◌, flat_map, All, AllPairs, Contains}
 use Rattle.std.{proofs.lemmas.List.Elements.{All-contains, All-contains_itself, filter-append}, specs.List.range_with_len}
 use Rattle.collective_spec.specs.{declared.kind.Kind.Kind, Collectives.kind_in}
-use Rattle.candidate_order.{specs.{declared.candidate.Candidate.Candidate, Ranges.LimitsValue, Costs.Before, Listed.{IsListed, IsCount, candidate_at}, Frontiers.{QuestionValue, IsWithin}}, proofs.Unique.one_list_of_candidates}
+use Rattle.candidate_order.{specs.{declared.candidate.Candidate.Candidate, Ranges.LimitsValue, Costs.Before, Listed.{IsListed, IsCount, candidate_at}, Frontiers.{QuestionValue}}, proofs.Unique.one_list_of_candidates}
 use Rattle.candidate_formula.specs.Counts.{allowed_up_to, chunk_counts}
 use Rattle.send_encoding.proofs.Everywhere.{in_map, in_flat, From, in_range}
 use Rattle.frontier_audit.{specs.{Candidates.{candidates_within, in_search_order}, inner.Steps.{unrefuted_among, candidates_of_step}}, proofs.{InOrder.step_ascends, Tried.{all_ordered, counts_allowed, listed_contains, step_listed}}}

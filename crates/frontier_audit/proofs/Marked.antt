@@ -1,5 +1,5 @@
 -- The checks of candidates and of marks pass exactly where all are answered and the marks are right.
-use Rattle.std.proofs.{Common.{arith, ◌≡◌, Bool, true, false, List, refl, ◌⊎◌, inl, inr, ◌||◌, ◌↔◌, not, Any, Contains, Decides}, lemmas.{Bool.Decides.Decides-or, List.{Elements.All-contains, Folds.{Any-from_list_any, list_any-from_Any}}}}
+use Rattle.std.proofs.{Common.{arith, ◌≡◌, Bool, true, List, ◌⊎◌, ◌||◌, ◌↔◌, not, Any, Contains, Decides}, lemmas.{List.{Elements.All-contains, Folds.{Any-from_list_any, list_any-from_Any}}}}
 use Rattle.std.{proofs.lemmas.List.Sums.{AllPass-from_list_all, list_all-from_AllPass}, specs.List.list_any}
 use Rattle.candidate_order.specs.{declared.{candidate.Candidate.Candidate, mark.Mark.Mark}, Costs.{NoWorse, Better}, Frontiers.{QuestionValue, PointValue, FrontierValue, IsWithin, IsAnswered}}
 use Rattle.candidate_order.specs.declared.mark.Mark.TheVariants as mark

@@ -1,5 +1,5 @@
 -- Where checks pass.
-use Rattle.std.proofs.{Common.{arith, ◌≡◌, Bool, true, false, List, [], ◌∷◌, Ok, Err, refl, All, not}, lemmas.List.Elements.{All-nil, All-cons, All-head, All-tail}}
+use Rattle.std.proofs.{Common.{arith, ◌≡◌, Bool, true, List, [], ◌∷◌, Ok, refl, All, not}, lemmas.List.Elements.{All-nil, All-cons, All-head, All-tail}}
 use Rattle.text_lines.{specs.Check.{◌>>=◌, refuse}, proofs.Checks.bind_ok}
 use Rattle.outer_ports.specs.declared.part.Part.{Part}
 use Rattle.frontier_audit.specs.{declared.verdict.AuditVerdict.TheVariants.Verified, Denials.{Denial, Checked, each, in_part, verdict_from}}

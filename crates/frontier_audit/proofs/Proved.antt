@@ -1,7 +1,6 @@
 -- The files that a search leaves are what an audit looks for.
 use Rattle.std.proofs.{Common.arith, lemmas.List.Elements.All-weaker}
-use Rattle.outer_ports.specs.{declared.part.Part.Part, Files.Files}
-use Rattle.candidate_order.specs.Frontiers.{QuestionValue, FrontierValue}
+use Rattle.outer_ports.specs.{Files.Files}
 use Rattle.candidate_formula.specs.Files.{FrontierFiles}
 use Rattle.report_form.specs.Reports.{ReportValue, question_of}
 use Rattle.frontier_audit.specs.{OwedFiles.Proves, Shelves.{PartRight, ShelfRight}}

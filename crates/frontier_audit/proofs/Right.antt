@@ -1,10 +1,9 @@
 -- An audit finds nothing to deny exactly where the frontiers, the files and the joined points are right.
-use Rattle.std.proofs.{lemmas.{Bool.Decides.nat_tests, Grind.common_steps}, Common.{arith, ◌≡◌, true, [], get_or, Option, None, Some, Ok, refl, sym, ◌∙◌, ◌≢◌, All, Contains}}
-use Rattle.std.proofs.lemmas.List.Elements.{All-nil, All-cons, All-contains, All-contains_itself}
+use Rattle.std.proofs.{lemmas.{Bool.Decides.nat_tests, Grind.common_steps}, Common.{arith, ◌≡◌, true, get_or, Option, None, Ok, refl, sym, ◌∙◌, ◌≢◌, All, Contains}}
+use Rattle.std.proofs.lemmas.List.Elements.{All-contains, All-contains_itself}
 use Rattle.outer_ports.specs.{declared.part.Part.Part, Files.Files}
 use Rattle.outer_ports.specs.declared.part.Part.TheVariants as part
 use Rattle.collective_spec.specs.{Collectives.{kind_in, spec_of, fits_kind}, declared.{collective.Collective.Collective, kind.Kind.Kind}, Patterns.PatternValue}
-use Rattle.collective_spec.specs.declared.spec.Spec.TheVariants as spec
 use Rattle.collective_spec.specs.declared.kind.Kind.TheVariants as kind
 use Rattle.candidate_order.specs.Frontiers.{QuestionValue, FrontierValue, IsSolvable, IsPoint, RightFrontier}
 use Rattle.allreduce_join.specs.Joins.{Joins, pairs_of}

@@ -1,7 +1,6 @@
 -- The check of a point's schedule passes exactly where it solves, or sums.
-use Rattle.std.proofs.Common.{arith, ◌≡◌, ℕ, Bool, true, false, length, sum, refl, ap, if◌then◌else◌}
-use Rattle.schedule.{specs.{declared.verdict.Verdict.Verdict, Links.TopologyValue, Placed.PlacementValue, Sends.ScheduleValue, Solving.Solves, Summing.Sums, Judging.verdict_of}, proofs.Verdicts.tells_solves}
-use Rattle.schedule.specs.declared.verdict.Verdict.TheVariants as verdict
+use Rattle.std.proofs.Common.{arith, ◌≡◌, Bool, true, if◌then◌else◌}
+use Rattle.schedule.{specs.{Judging.verdict_of}, proofs.Verdicts.tells_solves}
 use Rattle.inversion.{specs.{declared.verdict.SumVerdict.SumVerdict, Judging.sum_verdict_of, Saying.{says_solves, says_sums}}, proofs.Told.sums_exactly}
 use Rattle.inversion.specs.declared.verdict.SumVerdict.TheVariants as sums
 use Rattle.collective_spec.specs.Collectives.{adds_up}

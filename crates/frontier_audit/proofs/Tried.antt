@@ -1,6 +1,6 @@
 -- The candidates of a search are just those within the limits.
-use Rattle.std.proofs.Common.{◌≡◌, ℕ, zero, suc, ◌+◌, ◌<◌, ◌≤◌, Bool, true, false, List, [], ◌∷◌, map, Decides, refl, sym, ap, ◌∙◌, ⊎_elim, arith, ◌||◌, ◌↔◌, if◌then◌else◌, filter, nat_le, All, Contains}
-use Rattle.std.proofs.lemmas.{Bool.{and_parts, cases_eq, or_left, or_right, leb-true, Decides.{Decides-and, Decides-eqb, Decides-like, same_from_decides}}, List.Elements.{All-nil, All-cons, All-head, All-tail, All-contains}}
+use Rattle.std.proofs.Common.{◌≡◌, ℕ, zero, suc, ◌+◌, ◌<◌, ◌≤◌, Bool, true, List, [], ◌∷◌, map, Decides, refl, ap, ◌∙◌, arith, ◌||◌, ◌↔◌, filter, nat_le, All, Contains}
+use Rattle.std.proofs.lemmas.{Bool.{and_parts, cases_eq, or_left, or_right, leb-true, Decides.{Decides-and, Decides-eqb, Decides-like}}, List.Elements.{All-nil, All-cons, All-head, All-tail, All-contains}}
 use Rattle.std.{proofs.lemmas.List.Folds.{list_any_at, Any-from_list_any}, specs.List.{list_any, range_with_len}}
 use Rattle.collective_spec.specs.{Kinds.allows, Collectives.kind_in}
 use Rattle.candidate_order.specs.{declared.candidate.Candidate.Candidate, Listed.candidate_at, Frontiers.{QuestionValue, IsWithin}}

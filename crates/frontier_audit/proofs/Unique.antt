@@ -1,5 +1,5 @@
 -- Two ascending lists of sends with the same members are one list.
-use Rattle.std.proofs.Common.{arith, ◌≡◌, List, ◌↔◌, AllPairs, Contains}
+use Rattle.std.proofs.Common.{◌≡◌, List, ◌↔◌, AllPairs, Contains}
 use Rattle.schedule.{specs.declared.hop.Hop.Hop, proofs.{HopOrder.before_all, Inverting.never_itself}}
 use Rattle.candidate_order.proofs.Unique.{one_list}
 use Rattle.report_form.proofs.Ascending.{HopBefore}

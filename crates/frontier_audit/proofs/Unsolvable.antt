@@ -1,7 +1,6 @@
 -- A refuted candidate has no solution, since its formula is satisfiable where it has one.
-use Rattle.std.proofs.{Common.{◌≡◌, ◌≢◌, Bool, true, false, [], get_or, Option, None, Some, refl, sym, subst, arith, ◌↔◌, All, Contains}, lemmas.List.Elements.{All-nil, All-cons, All-contains, All-contains_itself}}
+use Rattle.std.proofs.{Common.{◌≡◌, ◌≢◌, Bool, true, false, get_or, Option, refl, sym, subst, arith, ◌↔◌, All, Contains}, lemmas.List.Elements.{All-contains, All-contains_itself}}
 use Rattle.outer_ports.specs.{declared.part.Part.Part, Files.Files}
-use Rattle.outer_ports.specs.declared.part.Part.TheVariants as part
 use Rattle.schedule.{specs.Links.{IsTopology, reversed_of}, proofs.Turned.turned_topology}
 use Rattle.collective_spec.{specs.{declared.kind.Kind.Kind, Patterns.PatternValue, Collectives.{IsSpec, adds_up, fits_kind, kind_in}}, proofs.{Sized.{before_among, after_among, fitting_spec}, Chunks.{chunks_some, few_base, chunks_few}}}
 use Rattle.collective_spec.specs.declared.kind.Kind.TheVariants as kind

@@ -1,15 +1,14 @@
 -- What a verified report says, and the verdict on a report from the answers of its checks.
-use Rattle.std.proofs.{Common.{arith, ◌≡◌, Bool, List, [], ◌∷◌, get_or, Option, None, Some, Ok, Err, append-nil, refl, sym, ap, ◌∙◌, subst, IsTrue}, lemmas.List.Elements.All-contains_itself}
+use Rattle.std.proofs.{Common.{arith, ◌≡◌, Bool, get_or, Option, None, Some, append-nil, refl, sym, subst, IsTrue}, lemmas.List.Elements.All-contains_itself}
 use Rattle.outer_ports.specs.{declared.part.Part.Part, Files.Files}
 use Rattle.outer_ports.specs.declared.part.Part.TheVariants as part
 use Rattle.collective_spec.specs.declared.kind.Kind.{Kind}
 use Rattle.collective_spec.specs.declared.kind.Kind.TheVariants as kind
-use Rattle.candidate_order.specs.Frontiers.{FrontierValue}
 use Rattle.allreduce_join.specs.Joins.{Joins}
 use Rattle.report_form.specs.Reports.{ReportValue, IsReport, parts_of, question_of}
 use Rattle.candidate_formula.specs.Formulas.{formula_for}
 use Rattle.proof_audit.specs.Files.{HasSpentLog}
-use Rattle.frontier_audit.specs.{declared.verdict.AuditVerdict.{AuditVerdict, TheVariants.{Verified, Denied}}, Denials.{Denial, Checked, verdict_from}, Joining.joined_checked, Parts.{is_gather, is_reduce, points_of}, Auditing.audit_of}
+use Rattle.frontier_audit.specs.{declared.verdict.AuditVerdict.{AuditVerdict, TheVariants.{Verified, Denied}}, Denials.{Denial}, Joining.joined_checked, Parts.{is_gather, is_reduce, points_of}, Auditing.audit_of}
 use Rattle.frontier_audit.specs.{Rights.{AreJoined, HasLogs, IsRight}, Beside.{denial_of, AnswersBeside, IsVerdictOver}, inner.Steps.{joins_of, parts_checked, report_checked}}
 use Rattle.frontier_audit.proofs.{Audited.shelf_right, Jointly.{one_part, parts_are}, JoinedParts.joined_by_kind, Merging.{stops, then_plainly}, Parting.{named_denial, named_in}, Right.verified_joins, Unsolvable.all_right}
 

@@ -1,5 +1,5 @@
 -- Checks of a list, item by item.
-use Rattle.std.proofs.Common.{arith, ◌≡◌, ℕ, ◌+◌, ◌<◌, Bool, true, false, List, length, drop, get_or, Option, None, Some, Ok, Err, refl, sym, ap, ◌∙◌, not}
+use Rattle.std.proofs.Common.{arith, ◌≡◌, ℕ, ◌+◌, ◌<◌, Bool, true, false, List, length, drop, get_or, Option, None, Some, sym, not}
 use Rattle.text_lines.specs.Check.{◌>>=◌, refuse}
 use Rattle.report_form.proofs.PointNumbers.{from_here}
 use Rattle.frontier_audit.specs.{Denials.{Checked, each}, Beside.denial_of}

@@ -1,10 +1,9 @@
 -- At most one line of a text is the first at which it can no longer be a report's.
-use Rattle.std.{proofs.{Common.{◌≡◌, ℕ, ◌-◌, ◌<◌, ◌≤◌, inl, inr, List, [], ◌∷◌, ◌++◌, refl, sym, ap, ◌∙◌, arith, take, Ok, codes, Option, None, Some}, lemmas.{Bool.cases_order, List.take-take}}, specs.Fmt.digits}
-use Rattle.text_lines.specs.Text.{rows_of, text_of}
-use Rattle.collective_spec.specs.Patterns.{PatternValue}
-use Rattle.topology_text.specs.{Spelling.{version_word, lines_of}, Reading.pattern_at}
-use Rattle.report_form.specs.{Reports.{ReportValue, IsReport}, Spelling.{synth_words, body_lines, report_text}, Reading.{report_of, body_of, frontier_at}, Points.{frontier_point_at, joined_point_at, schedule_at}}
-use Rattle.report_form.{specs.{First.{Agrees, FailsFirstAt}, Rows.broadcast_report}, proofs.ReportTaken.report_take}
+use Rattle.std.{proofs.{Common.{◌≡◌, ℕ, ◌-◌, ◌<◌, inl, inr, List, [], refl, sym, ap, ◌∙◌, arith, take, Ok}, lemmas.{Bool.cases_order, List.take-take}}, specs.Fmt.digits}
+use Rattle.text_lines.specs.Text.{rows_of}
+use Rattle.topology_text.specs.{Reading.pattern_at}
+use Rattle.report_form.specs.{Reports.{IsReport}, Spelling.{report_text}, Reading.{report_of, body_of, frontier_at}, Points.{frontier_point_at, joined_point_at, schedule_at}}
+use Rattle.report_form.{specs.{First.{FailsFirstAt}, Rows.broadcast_report}, proofs.ReportTaken.report_take}
 
 not_later : (text : List ℕ) (m n : ℕ) → FailsFirstAt text m → FailsFirstAt text n → m < n → ⊥
 not_later text m n a b less = let (r, valid, agrees) = b.before in a.now r valid (sym (take-take m (n - 1) (rows_of text) (omega (arith, less))) ∙ (ap (take m) agrees ∙ take-take m (n - 1) (rows_of (report_text r)) (omega (arith, less))))

@@ -1,6 +1,6 @@
 -- What the checks of a report's parts took stands there, and is valid.
 use Rattle.std.proofs.{Common.{arith, ◌≡◌, ℕ, List, [], ◌∷◌, ◌++◌, map, length, refl, ap, ◌≢◌, codes, flat_map, All}, lemmas.List.Elements.{All-nil, All-cons}}
-use Rattle.text_lines.{specs.Text.{Place, words_of}, proofs.Gives.{gives_done, gives_like, gives_then, here, then_on, cut_here, cut_more, cut_on, GivesPart, parts_give, lines_give}}
+use Rattle.text_lines.{specs.Text.{Place}, proofs.Gives.{gives_done, gives_like, gives_then, here, then_on, cut_here, cut_more, cut_on, GivesPart, parts_give, lines_give}}
 use Rattle.outer_ports.specs.declared.part.Part.{Part}
 use Rattle.outer_ports.specs.declared.part.Part.TheVariants as part
 use Rattle.collective_spec.specs.declared.kind.Kind.{Kind}

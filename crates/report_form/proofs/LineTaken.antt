@@ -1,5 +1,5 @@
 -- What the checks of one line took stands there.
-use Rattle.std.proofs.{Common.{arith, ◌≡◌, ℕ, Bool, true, not, List, [], ◌∷◌, ◌++◌, Option, None, Some, Result, Ok, ap, ◌∙◌, subst, bytes_eq}, lemmas.{Bool.not-false, Slice.Eq.bytes_eq-Decides}}
+use Rattle.std.proofs.{Common.{arith, ◌≡◌, ℕ, Bool, true, not, List, [], ◌∷◌, ◌++◌, Option, Some, Result, Ok, ap, ◌∙◌, subst, bytes_eq}, lemmas.{Bool.not-false, Slice.Eq.bytes_eq-Decides}}
 use Rattle.text_lines.{specs.{Text.{Row, Place, words_of}, Check.{◌>>=◌, refuse, first, line_part}}, proofs.{Checks.{bind_ok, refuse_ok, refuse_alone, part_ok, ok_is}, Gives.{Gives, Between, line_gives, Takes}, Rows.{row_of, row_back}}}
 use Rattle.report_form.specs.{declared.fault.ReportCode.ReportCode, Lines.{whole_line, tokens_line, fixed_line, no_line}}
 use Rattle.report_form.specs.declared.fault.ReportCode.TheVariants as code

@@ -8,7 +8,7 @@ use Rattle.collective_spec.specs.Collectives.{chunks_in}
 use Rattle.candidate_order.specs.{declared.{candidate.Candidate.Candidate, mark.Mark.Mark}, Ranges.IsLimits, Frontiers.{QuestionValue, PointValue, IsWithin}}
 use Rattle.candidate_order.specs.declared.mark.Mark.TheVariants as mark
 use Rattle.report_form.specs.{declared.fault.ReportCode.ReportCode, Reports.{HasSchedule, IsPrintedPoint}, Tests.{is_within, comes_next}, Spelling.{rounds_words, send_words, point_words, point_lines}}
-use Rattle.report_form.specs.Points.{HeadValue, head_from, head_line, rounds_from, are_rounds, rounds_line, send_from, follows, may_be_sent, send_line, schedule_at, frontier_point_at}
+use Rattle.report_form.specs.Points.{HeadValue, head_from, head_line, rounds_from, are_rounds, send_from, follows, may_be_sent, send_line, schedule_at, frontier_point_at}
 use Rattle.report_form.proofs.{Tested.decides_within, Ascending.{HopBefore, push_hop}, LineTaken.{ruled_gives, ruled_takes}, Shapes.{head_take, rounds_take, send_take}, ListsTaken.{AreListed, none_listed, push_part}}
 
 each_of : {X : Type 0} (p : X → Bool) (P : X → Type 0) (h : (x : X) → p x ≡ true → P x) (xs : List X) → list_all p xs ≡ true → All P xs

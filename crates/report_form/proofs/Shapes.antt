@@ -1,11 +1,11 @@
 -- What the checks of a line's shape took stands there.
-use Rattle.std.proofs.{Common.{arith, ◌≡◌, ℕ, ◌<◌, List, [], ◌∷◌, ◌++◌, map, length, Some, Ok, ◌⊎◌, ap, ◌∙◌, codes, decimal, bytes_eq}, lemmas.Slice.Eq.bytes_eq-Decides}
+use Rattle.std.proofs.{Common.{arith, ◌≡◌, ℕ, ◌<◌, List, [], ◌∷◌, ◌++◌, map, length, Some, Ok, ◌⊎◌, ap, ◌∙◌, codes, decimal}, lemmas.Slice.Eq.bytes_eq-Decides}
 use Rattle.text_lines.{specs.Check.◌>>=◌, proofs.{Checks.{bind_ok, need_ok, ok_is}, Numbers.up_to_found}}
 use Rattle.schedule.specs.declared.hop.Hop.{Hop}
 use Rattle.candidate_order.specs.{declared.{candidate.Candidate.Candidate, mark.Mark.Mark}, Frontiers.UnknownValue}
 use Rattle.candidate_order.specs.declared.mark.Mark.TheVariants as mark
 use Rattle.report_form.specs.{declared.fault.ReportCode.{ReportCode, TheVariants.BadLine}, Fields.{any_number, small_number}, Spelling.{candidate_words, mark_words, rounds_words, send_words, refuted_words}}
-use Rattle.report_form.specs.{Reading.{refuted_from, unknown_from}, Points.{HeadValue, candidate_from, mark_named, head_from, joined_head_from, numbers_from, rounds_from, send_from}}
+use Rattle.report_form.specs.{Reading.{refuted_from, unknown_from}, Points.{HeadValue, candidate_from, head_from, joined_head_from, numbers_from, rounds_from, send_from}}
 use Rattle.report_form.proofs.Tokens.{pass_then, pass_done, word_take, fixed_take, no_more_take, number_take, node_take}
 
 -- ---- a candidate

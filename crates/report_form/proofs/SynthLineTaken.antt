@@ -1,14 +1,13 @@
 -- What the checks of the line that says what was asked took stands there, and is valid.
 use Rattle.std.proofs.{Common.{◌≡◌, ℕ, ◌<◌, Bool, true, false, ◌||◌, not, List, [], ◌∷◌, ◌++◌, length, Option, None, Some, Ok, refl, sym, ap, ◌∙◌, arith, codes, decimal, bytes_eq, find, if◌then◌else◌}, lemmas.Bool.and_parts}
 use Rattle.std.proofs.lemmas.{Slice.Eq.bytes_eq-Decides, List.append-nil, Option.same_Some}
-use Rattle.text_lines.{specs.{Text.Place, Check.line_part}, proofs.{Checks.{ok_is, if_some, need_is}, Gives.{Gives, Between}}}
-use Rattle.collective_spec.specs.{declared.kind.Kind.{Kind, TheVariants.Custom}, Kinds.{word_of, takes_root, is_custom}}
+use Rattle.text_lines.{specs.{Text.Place, Check.line_part}, proofs.{Checks.{ok_is, need_is}, Gives.{Gives, Between}}}
+use Rattle.collective_spec.specs.{declared.kind.Kind.{Kind}, Kinds.{word_of, takes_root, is_custom}}
 use Rattle.candidate_order.specs.{declared.pruning.Pruning.Pruning, Ranges.{LimitsValue, IsLimits, unpruned}}
-use Rattle.topology_text.{specs.{Names.{is_name, name_of}, Spelling.name_at, Reading.node_of}, proofs.Links.node_is}
+use Rattle.topology_text.{specs.{Names.{is_name}, Spelling.name_at}, proofs.Links.node_is}
 use Rattle.report_form.specs.{declared.fault.ReportCode.ReportCode, Reports.IsWords, Spelling.{word_if, pruning_words, synth_words}, Tests.are_limits, Fields.{any_number, next_keyed}}
 use Rattle.report_form.specs.SynthLine.{AskedValue, kinds_of, kind_named, limits_from, root_from, said_from, pruning_from, asked_from, may_be_asked, asked_line, root_of, words_from}
 use Rattle.report_form.proofs.{Tested.decides_limits, Tokens.{pass_then, pass_done, word_take, fixed_take, no_more_take, keyed_is, any_number_is}, LineTaken.ruled_gives}
-use Rattle.report_form.specs.declared.fault.ReportCode.TheVariants as code
 
 -- ---- keys
 

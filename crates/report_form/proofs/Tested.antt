@@ -1,5 +1,5 @@
 -- Each test of limits and of candidates is true exactly where what it tests holds.
-use Rattle.std.proofs.{Common.{arith, ℕ, ◌+◌, ◌*◌, ◌≤◌, ◌&&◌, ◌||◌, Bool, nat_le, nat_lt, IsTrue, Decides}, lemmas.Bool.{leb-true, le-leb, Decides.{Decides-and, Decides-or, Decides-eqb, Decides-ltb, Decides-like}}}
+use Rattle.std.proofs.{Common.{arith, ℕ, ◌+◌, ◌*◌, ◌≤◌, ◌&&◌, Bool, nat_le, nat_lt, Decides}, lemmas.Bool.{leb-true, le-leb, Decides.{Decides-and, Decides-or, Decides-eqb, Decides-ltb, Decides-like}}}
 use Rattle.collective_spec.specs.{Kinds.allows, Collectives.kind_in}
 use Rattle.candidate_order.specs.{declared.candidate.Candidate.Candidate, Ranges.{LimitsValue, IsLimits}, Costs.{NoWorse, Better, Before}, Frontiers.{QuestionValue, IsWithin}}
 use Rattle.report_form.specs.Tests.{are_limits, is_within, is_no_worse, is_better, is_before}

@@ -1,5 +1,5 @@
 -- What the checks of tokens took stands there.
-use Rattle.std.proofs.{Common.{◌≡◌, ℕ, ◌<◌, ◌^◌, true, ◌&&◌, not, List, [], ◌∷◌, ◌++◌, length, drop, Option, Some, Result, Ok, refl, sym, ap, ◌∙◌, subst, arith, ◌==◌, bytes_eq, decimal, nat_eq, nat_le}, lemmas.Bool.Decides.Decides-eqb}
+use Rattle.std.proofs.{Common.{◌≡◌, ℕ, ◌<◌, ◌^◌, true, List, [], ◌∷◌, ◌++◌, length, drop, Option, Some, Result, Ok, sym, ap, ◌∙◌, subst, arith, decimal, nat_eq, nat_le}, lemmas.Bool.Decides.Decides-eqb}
 use Rattle.std.{proofs.lemmas.{Option.same_Some, Bool.{and_parts, not-true, not-false, leb-true, eqb-false}, Slice.Eq.{bytes_eq-Decides, starts_is}}, specs.{List.list_all, Str.Parse.{AllDigits, digits_value}}}
 use Rattle.text_lines.{specs.Check.◌>>=◌, proofs.{Checks.{bind_ok, done, need_ok, refuse_ok, ok_is, if_some}, Numbers.{up_to_found, spells, digit_is}}}
 use Rattle.topology_text.{specs.{Spelling.name_at, Reading.node_of}, proofs.Links.node_is}

@@ -1,9 +1,8 @@
 -- A line of a point or of a list that is blamed has the code of its form.
-use Rattle.std.proofs.Common.{◌≡◌, ℕ, ◌<◌, Bool, true, false, ◌&&◌, ◌||◌, List, [], ◌∷◌, ◌++◌, map, length, Option, None, Some, Result, refl, sym, ap, ◌∙◌, arith, ◌==◌, codes, bytes_eq, slice_index_or, drop, is_some}
+use Rattle.std.proofs.Common.{◌≡◌, ℕ, ◌<◌, Bool, true, false, ◌&&◌, ◌||◌, List, [], ◌∷◌, ◌++◌, map, length, None, Result, refl, sym, ap, ◌∙◌, arith, ◌==◌, codes, bytes_eq, slice_index_or, drop, is_some}
 use Rattle.std.{proofs.Math.Bool.or-false, specs.List.{list_any, last_or}}
 use Rattle.text_lines.specs.{Text.{Row, Place, words_of}, Check.{◌>>=◌, first, line_part}, Number.number_up_to, Repeated.{begins, row_begins, parts_at}}
 use Rattle.text_lines.proofs.{Gives.{Gives, gives_done, gives_like}, Steady.piece_shortens, Words.begins_is}
-use Rattle.schedule.specs.declared.hop.Hop.{Hop}
 use Rattle.collective_spec.specs.Collectives.{chunks_in}
 use Rattle.outer_ports.specs.declared.part.Part.{Part}
 use Rattle.candidate_order.specs.declared.mark.Mark.TheVariants as mark

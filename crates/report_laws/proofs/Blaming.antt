@@ -1,8 +1,8 @@
 -- A line that a check blames has the code of its form, where the lines before it say which forms may stand there.
-use Rattle.std.proofs.Common.{◌≡◌, ℕ, zero, suc, ◌+◌, ◌-◌, ◌<◌, ◌≤◌, Bool, true, false, ◌&&◌, ◌||◌, not, eqb, List, [], ◌∷◌, ◌++◌, map, length, take, Option, None, Some, Result, Ok, Err, refl, sym, ap, ◌∙◌, subst, append_assoc, arith, codes, bytes_eq, if◌then◌else◌, slice_get, slice_index_or, nat_eq}
+use Rattle.std.proofs.Common.{◌≡◌, ℕ, zero, suc, ◌+◌, ◌-◌, ◌<◌, ◌≤◌, Bool, true, false, ◌||◌, not, eqb, List, [], ◌∷◌, ◌++◌, map, length, take, Option, None, Some, Result, Ok, Err, refl, sym, ap, ◌∙◌, subst, append_assoc, arith, codes, bytes_eq, if◌then◌else◌, slice_get, slice_index_or, nat_eq}
 use Rattle.std.proofs.{Math.{Bool.or-false, Seq.take-append_seam}, lemmas.{Bool.{and_parts, Decides.Decides-eqb}, List.{length-append, Splits.join_with_byte-slice_split}, Slice.Eq.{bytes_eq-Decides, starts_is}}}
 use Rattle.std.specs.List.{list_any, list_all, last_or, starts_with, join_with_byte}
-use Rattle.text_lines.specs.{Text.{Row, Place, words_of, behind}, Check.{◌>>=◌, refuse, at_line, first, line_part}, Repeated.{begins, row_begins, lines_at, parts_from}}
+use Rattle.text_lines.specs.{Text.{Row, Place, words_of, behind}, Check.{◌>>=◌, at_line, first, line_part}, Repeated.{begins, row_begins, lines_at, parts_from}}
 use Rattle.text_lines.proofs.{Checks.first_is, Gives.{Gives, gives_done, gives_fail, gives_like, gives_then}, Repeated.{line_by, lines_are_parts, one_less}, Words.begins_is}
 use Rattle.topology_text.specs.declared.fault.TopologyCode.{TopologyCode}
 use Rattle.report_form.{specs.{declared.fault.ReportCode.ReportCode, Lines.{whole_line, fixed_line, blamed, among}}, proofs.LineTaken.{on_words, ruled_by}}

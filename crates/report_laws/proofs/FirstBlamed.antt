@@ -1,5 +1,5 @@
 -- The line that is blamed is the first at which the text can no longer be a report's.
-use Rattle.std.proofs.Common.{arith, ◌≡◌, ℕ, ◌-◌, List, take, Err, refl, sym, ap, ◌∙◌}
+use Rattle.std.proofs.Common.{◌≡◌, ℕ, ◌-◌, List, take, Err, refl, sym, ap, ◌∙◌}
 use Rattle.text_lines.{specs.Text.{rows_of, start}, proofs.Gives.cut_agrees}
 use Rattle.report_form.{specs.{declared.fault.ReportCode.ReportCode, Spelling.report_lines, Reading.report_of, First.FailsFirstAt}, proofs.ReportTaken.{report_is, report_gives}}
 use Rattle.report_laws.proofs.{SpelledTokens.rows_of_report, LocalReport.none_agrees}

@@ -1,5 +1,5 @@
 -- The lines of a report's parts that are spelled are read.
-use Rattle.std.proofs.{Common.{◌≡◌, ℕ, ◌≤◌, List, [], ◌∷◌, ◌++◌, map, length, Ok, refl, sym, ap, ◌∙◌, subst, arith, ◌≢◌, codes, flat_map, All, IfSome}, lemmas.List.{length-append, length-map}}
+use Rattle.std.proofs.{Common.{◌≡◌, ℕ, ◌≤◌, List, [], ◌∷◌, ◌++◌, map, length, refl, sym, ap, ◌∙◌, subst, arith, ◌≢◌, codes, flat_map, All, IfSome}, lemmas.List.{length-append, length-map}}
 use Rattle.std.proofs.lemmas.List.Elements.{All-head, All-tail, All-map, All-weaker}
 use Rattle.text_lines.{specs.{Text.Row, Repeated.parts_at}, proofs.{Gives.rows_split, ReadBack.{Reads, reads_here, reads_as, reads_then, Ends, lines_again, parts_again}, Repeated.place, Rows.row_of}}
 use Rattle.outer_ports.specs.declared.part.Part.{Part}
@@ -8,7 +8,7 @@ use Rattle.collective_spec.{specs.{declared.kind.Kind.Kind, Patterns.IsPattern},
 use Rattle.collective_spec.specs.declared.kind.Kind.TheVariants as kind
 use Rattle.candidate_order.specs.{Ranges.IsLimits, Frontiers.{QuestionValue, PointValue, FrontierValue, IsWithin, IsUnknown}}
 use Rattle.topology_text.specs.{Value.NamedTopologyValue, Names.AreNames}
-use Rattle.report_form.specs.{declared.fault.ReportCode.ReportCode, Reports.{WordsValue, IsPrintedPoint, IsFrontier, IsJoinedPoint, question_of}}
+use Rattle.report_form.specs.{Reports.{WordsValue, IsPrintedPoint, IsFrontier, IsJoinedPoint, question_of}}
 use Rattle.report_form.specs.{Spelling.{point_lines, refuted_words, unknown_words, part_words, frontier_lines, joined_lines}, Points.{frontier_point_at, joined_point_at}}
 use Rattle.report_form.{specs.Reading.{refuted_line, unknown_line, part_bytes, frontier_at, frontiers_from, joined_at}, proofs.{ListsTaken.{AreListed, AreUnknown}, PointsTaken.ArePoints, FrontiersTaken.IsFrontierOf}}
 use Rattle.report_laws.proofs.{LinesAgain.fixed_part_again, JoinedAgain.joined_reads, ListsAgain.{behind_lines, refuted_reads, unknown_reads}, PointsAgain.{base_of, point_reads}}

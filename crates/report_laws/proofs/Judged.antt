@@ -1,5 +1,5 @@
 -- A line, and a check of what it says that needs what stands before it and is told at this line, as one part.
-use Rattle.std.proofs.Common.{◌≡◌, ℕ, List, Option, Result, Ok, Err, refl, sym, ap, ◌∙◌, arith}
+use Rattle.std.proofs.Common.{◌≡◌, ℕ, List, Option, Result, Ok, Err, refl, ap, ◌∙◌, arith}
 use Rattle.text_lines.{specs.{Text.{Row, Place}, Check.{◌>>=◌, at_line, line_part}}, proofs.{Gives.{gives_done, gives_fail, gives_then}, Steady.{ReadsLike, SteadyAt, Steady, line_alike, steady_line}}}
 use Rattle.topology_text.specs.declared.fault.TopologyCode.{TopologyCode}
 use Rattle.report_form.{specs.{declared.fault.ReportCode.ReportCode, Lines.among}, proofs.ReportTaken.among_ok}

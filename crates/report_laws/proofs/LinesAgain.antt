@@ -1,5 +1,5 @@
 -- Lines of a report that are spelled are read.
-use Rattle.std.proofs.{Common.{arith, ◌≡◌, ℕ, not, List, ◌∷◌, Some, Result, Ok, ap, ◌∙◌}, lemmas.Slice.Eq.bytes_eq-Decides}
+use Rattle.std.proofs.{Common.{◌≡◌, ℕ, not, List, ◌∷◌, Some, Result, Ok, ap, ◌∙◌}, lemmas.Slice.Eq.bytes_eq-Decides}
 use Rattle.text_lines.{specs.{Text.{Row, Place}, Check.{refuse, line_part}}, proofs.{ReadBack.{Reads, line_again}, Repeated.place, Rows.{AreTokens, row_of, words_again}}}
 use Rattle.topology_text.specs.declared.fault.TopologyCode.{TopologyCode}
 use Rattle.report_form.{specs.{declared.fault.ReportCode.{ReportCode, TheVariants.BadLine}, Lines.{fixed_line, among}}, proofs.LineTaken.on_words}

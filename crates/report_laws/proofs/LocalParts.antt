@@ -1,5 +1,5 @@
 -- The checks of points and of a frontier fail alike where the lines are the same.
-use Rattle.std.{proofs.Common.{arith, List, map, None, codes, ℕ}, specs.List.last_or}
+use Rattle.std.{proofs.Common.{List, map, None, codes, ℕ}, specs.List.last_or}
 use Rattle.text_lines.{specs.Repeated.parts_at, proofs.Steady.{Steady, steady_line, steady_found, steady_then, steady_lines, steady_pieces}}
 use Rattle.outer_ports.specs.declared.part.Part.{Part}
 use Rattle.collective_spec.specs.Collectives.{chunks_in}

@@ -8,7 +8,7 @@ use Rattle.collective_spec.specs.declared.kind.Kind.TheVariants as kind
 use Rattle.topology_text.{specs.{Value.{NamedTopologyValue, named_with}, Reading.{header_line, nodes_line, groups_at, pattern_at}}, proofs.SteadyParts.{steady_groups, steady_pattern}}
 use Rattle.report_form.specs.{declared.fault.ReportCode.ReportCode, Reports.{WordsValue, ReportValue, IsReport, parts_of, question_of}, Spelling.report_text, Lines.{fixed_line, no_line, among}}
 use Rattle.report_form.specs.{SynthLine.{AskedValue, asked_line, root_of, words_from}, First.Agrees, Reading.{part_bytes, frontiers_from, joined_at, body_of, version_line, is_same, report_of}}
-use Rattle.report_form.proofs.ReportTaken.{report, after_root, after_same, after_header, after_asked, after_head, report_at, report_is}
+use Rattle.report_form.proofs.ReportTaken.{report, after_root, after_same, after_header, after_asked, after_head, report_is}
 use Rattle.report_form.specs.declared.fault.ReportCode.TheVariants as code
 use Rattle.report_laws.proofs.{Judged.{judged, steady_judged, judged_passed}, SteadyLists.steady_among, ReportAgain.report_again, LocalParts.{steady_joined_points, steady_frontier}}
 

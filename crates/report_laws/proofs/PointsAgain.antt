@@ -1,14 +1,13 @@
 -- The lines of points that are spelled are read.
-use Rattle.std.{proofs.{Common.{◌≡◌, ℕ, ◌≤◌, Bool, ◌&&◌, List, [], ◌∷◌, ◌++◌, map, length, Option, None, Some, Result, Ok, refl, arith, codes, IfSome}, lemmas.Bool.and_from}, specs.List.{last_or, AllByRecursion}}
+use Rattle.std.{proofs.{Common.{◌≡◌, ℕ, ◌≤◌, Bool, ◌&&◌, List, [], ◌∷◌, ◌++◌, map, length, Option, None, Some, Result, Ok, arith, codes, IfSome}, lemmas.Bool.and_from}, specs.List.{last_or, AllByRecursion}}
 use Rattle.text_lines.{specs.{Text.Row, Check.{◌>>=◌, line_part}}, proofs.{Distinct.next_has, ReadBack.{Reads, reads_here, reads_then, line_again, Ends, lines_again, ReadsPart}, Repeated.place, Rows.{AreTokens, row_of}, Words.tokens_from}}
 use Rattle.collective_spec.{specs.{Collectives.{chunks_in, spec_of}, Patterns.IsPattern}, proofs.Chunks.{FewBase, chunks_few}}
 use Rattle.outer_ports.specs.declared.part.Part.{Part}
 use Rattle.candidate_order.specs.{declared.candidate.Candidate.Candidate, Ranges.IsLimits, Frontiers.{QuestionValue, PointValue, IsWithin}}
-use Rattle.candidate_order.specs.declared.mark.Mark.TheVariants as mark
 use Rattle.topology_text.specs.{Value.NamedTopologyValue, Names.AreNames}
 use Rattle.report_form.specs.{declared.fault.ReportCode.ReportCode, Reports.{WordsValue, HasSchedule, IsPrintedPoint, kind_of}, Tests.{is_within, comes_next}, Spelling.{rounds_words, send_words, point_words, point_lines}}
 use Rattle.report_form.{specs.Points.{HeadValue, head_from, head_line, rounds_from, are_rounds, schedule_at, frontier_point_at}, proofs.{Tested.decides_within, PointsTaken.{schedule_lines, AreSends, ArePoints}}}
-use Rattle.report_laws.proofs.{ShapesAgain.{MarkIsSmall, head_again, head_are_words, rounds_again}, ListsAgain.{ruled_line, ruled_part, part_comes_again, within_small}}
+use Rattle.report_laws.proofs.{ShapesAgain.{head_again, head_are_words, rounds_again}, ListsAgain.{ruled_line, ruled_part, part_comes_again, within_small}}
 use Rattle.report_laws.proofs.SendsAgain.{rounds_small, rounds_kept, rounds_tokens, send_reads, sends_are_tokens}
 
 -- ---- a schedule behind the head of its point

@@ -1,5 +1,5 @@
 -- What a text is read as, by the checks and by its spelling.
-use Rattle.std.proofs.Common.{arith, ◌≡◌, ℕ, ◌-◌, List, take, Result, Ok, Err, refl, sym, ap, ◌∙◌, slice_get}
+use Rattle.std.proofs.Common.{◌≡◌, ℕ, ◌-◌, List, take, Result, Ok, Err, refl, sym, ap, ◌∙◌, slice_get}
 use Rattle.text_lines.specs.Text.{rows_of}
 use Rattle.report_form.{specs.{declared.fault.ReportCode.ReportCode, Reports.{ReportValue, IsReport}, Spelling.report_text, Reading.report_of, First.FailsFirstAt}, proofs.{Blamed.one_line, ReportTaken.report_take}}
 use Rattle.report_laws.{specs.Shapes.{code_of, ReadsAs}, proofs.{ReportAgain.one_report, FirstBlamed.first_is_blamed, BlamedReport.code_is}}

@@ -1,8 +1,8 @@
 -- The text of a valid report is read as that report.
-use Rattle.std.proofs.{Common.{arith, ◌≡◌, ℕ, Bool, true, false, not, List, [], ◌∷◌, ◌++◌, map, Option, None, Some, Ok, refl, sym, ap, ◌∙◌, subst, codes, flat_map, is_some}, lemmas.{Bool.not-true, List.map-append}}
+use Rattle.std.proofs.{Common.{arith, ◌≡◌, ℕ, Bool, true, not, List, [], ◌∷◌, ◌++◌, map, Ok, refl, sym, ap, ◌∙◌, subst, codes, flat_map, is_some}, lemmas.{Bool.not-true, List.map-append}}
 use Rattle.text_lines.{specs.{Text.{Row, rows_of}, Check.{refuse, at_line, line_part}}, proofs.{Checks.ok_is, Gives.rows_split, ReadBack.{Reads, reads_end, line_again, Ends}, Repeated.place, Rows.row_of}}
 use Rattle.outer_ports.specs.declared.part.Part.{Part}
-use Rattle.collective_spec.specs.{declared.kind.Kind.Kind, Kinds.{takes_root, is_custom}, Patterns.PatternValue, Collectives.fits_kind}
+use Rattle.collective_spec.specs.{Kinds.{takes_root}}
 use Rattle.topology_text.{specs.{Value.NamedTopologyValue, Spelling.{nodes_words, group_words, custom_lines}}, proofs.{Front.{header_reads, nodes_reads}, Laws.{named_again, groups_of_read, pattern_of_read, rows_parted}}}
 use Rattle.topology_text.specs.Spelling as spelling
 use Rattle.report_form.specs.{declared.fault.ReportCode.ReportCode, Reports.{WordsValue, ReportValue, IsReport}, Spelling.{synth_words, frontier_lines, joined_lines, body_lines, report_lines, report_text}}

@@ -1,5 +1,5 @@
 -- The lines of rounds and of sends that are spelled are read.
-use Rattle.std.proofs.{Common.{◌≡◌, ℕ, ◌≤◌, Bool, true, ◌&&◌, ltb, List, [], ◌∷◌, map, length, sum, Option, None, Some, IfSome, refl, arith, ◌==◌, codes, nat_le, nat_lt, All}, lemmas.Bool.{and_parts, and_from, eq-eqb, le-leb, ltb-true}}
+use Rattle.std.proofs.{Common.{◌≡◌, ℕ, ◌≤◌, Bool, true, ◌&&◌, ltb, List, [], ◌∷◌, map, length, sum, Option, None, IfSome, refl, arith, ◌==◌, codes, nat_le, nat_lt, All}, lemmas.Bool.{and_parts, and_from, eq-eqb, le-leb, ltb-true}}
 use Rattle.std.{proofs.lemmas.List.Elements.{All-head, All-tail, All-weaker}, specs.List.{last_or, list_all, AllByRecursion}}
 use Rattle.text_lines.proofs.{Distinct.next_has, ReadBack.ReadsLine, Rows.AreTokens, Words.tokens_from}
 use Rattle.schedule.specs.{declared.hop.Hop.Hop, Sends.{IsRound, IsStep, is_hop_below}}

@@ -1,14 +1,14 @@
 -- The checks of a line's shape pass exactly where the line has the shape.
-use Rattle.std.proofs.Common.{◌≡◌, ℕ, Bool, true, false, ◌&&◌, ◌||◌, not, List, [], ◌∷◌, ◌++◌, map, length, drop, Option, None, Some, Result, Ok, Err, refl, sym, ap, ◌∙◌, subst, codes, bytes_eq, find, if◌then◌else◌, is_some, nat_eq, nat_lt, nat_le, arith}
+use Rattle.std.proofs.Common.{◌≡◌, ℕ, Bool, true, false, ◌&&◌, ◌||◌, not, List, [], ◌∷◌, ◌++◌, map, length, drop, Option, None, Some, Result, Ok, Err, refl, sym, ap, ◌∙◌, subst, codes, bytes_eq, find, if◌then◌else◌, is_some, nat_eq, arith}
 use Rattle.std.proofs.{lemmas.{Bool.{and_parts, ltb-true, lt-ltb, leb-true, le-leb, eqb-true, eqb-false, Decides.Decides-eqb}, Option.same_Some, Slice.Eq.{bytes_eq-Decides, starts_is}}, Math.Bool.and-true}
-use Rattle.std.specs.{Str.Parse.digits_value, List.{list_any, starts_with}}
+use Rattle.std.specs.{List.{list_any, starts_with}}
 use Rattle.text_lines.{specs.{Check.{◌>>=◌, refuse, need}, Repeated.begins}, proofs.Gives.{Gives, gives_done, gives_fail, gives_then}}
 use Rattle.collective_spec.specs.{declared.kind.Kind.Kind, Kinds.{word_of, takes_root}}
-use Rattle.candidate_order.specs.{declared.{candidate.Candidate.Candidate, pruning.Pruning.Pruning}, Ranges.LimitsValue}
+use Rattle.candidate_order.specs.{declared.{candidate.Candidate.Candidate}, Ranges.LimitsValue}
 use Rattle.topology_text.specs.{Names.{is_name, name_of}, Reading.node_of}
 use Rattle.report_form.specs.{declared.fault.ReportCode.{ReportCode, TheVariants.BadLine}, Reading.{refuted_from, unknown_from}}
-use Rattle.report_form.specs.Fields.{is_number, any_number, small_number, next_word, next_keyed, fixed_word, next_number, next_node, no_more}
-use Rattle.report_form.specs.{Points.{candidate_from, mark_named, head_from, joined_head_from, numbers_from, rounds_from, send_from}, SynthLine.{AskedValue, kind_named, kinds_of, limits_from, root_from, said_from, pruning_from, asked_from}}
+use Rattle.report_form.specs.Fields.{any_number, small_number, next_word, next_keyed, fixed_word, next_number, next_node, no_more}
+use Rattle.report_form.specs.{Points.{candidate_from, mark_named, head_from, joined_head_from, numbers_from, rounds_from, send_from}, SynthLine.{AskedValue, kind_named, kinds_of, limits_from, root_from, pruning_from, asked_from}}
 use Rattle.report_form.proofs.{Shapes.candidate, SynthLineTaken.{found_is, limits, pruned, asked}}
 use Rattle.report_laws.{specs.Shapes.{Token, Word, Any, May, has_shape, small, is_decimal, key_with, asked_shape, candidate_shape, send_shape}, proofs.SynthLineAgain.{kind_back, rooted}}
 

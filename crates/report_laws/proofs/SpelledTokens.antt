@@ -1,13 +1,13 @@
 -- The lines of a valid report are made of tokens, so that its text falls into them.
-use Rattle.std.{proofs.{Common.{◌≡◌, ℕ, List, [], ◌∷◌, ◌++◌, map, length, Option, None, Some, refl, arith, codes, flat_map, All}, lemmas.List.Elements.{All-head, All-tail}}, specs.List.AllByRecursion}
+use Rattle.std.{proofs.{Common.{◌≡◌, ℕ, List, [], ◌∷◌, ◌++◌, map, length, refl, arith, codes, flat_map, All}, lemmas.List.Elements.{All-head, All-tail}}, specs.List.AllByRecursion}
 use Rattle.text_lines.{specs.Text.rows_of, proofs.{Rows.{AreTokens, row_of, rows_again}, Words.{literal, tokens_from}}}
 use Rattle.outer_ports.specs.declared.part.Part.{Part}
 use Rattle.outer_ports.specs.declared.part.Part.TheVariants as part
 use Rattle.schedule.proofs.First.{each_append}
-use Rattle.collective_spec.{specs.{declared.kind.Kind.Kind, Patterns.PatternValue}, proofs.Chunks.FewBase}
+use Rattle.collective_spec.{specs.{declared.kind.Kind.Kind}, proofs.Chunks.FewBase}
 use Rattle.collective_spec.specs.declared.kind.Kind.TheVariants as kind
 use Rattle.candidate_order.specs.{Ranges.IsLimits, Frontiers.{QuestionValue, PointValue, FrontierValue, IsWithin, IsUnknown}}
-use Rattle.topology_text.{specs.{Names.AreNames, Value.NamedTopologyValue, Spelling.{lines_of, version_word}}, proofs.Laws.lines_are_words}
+use Rattle.topology_text.{specs.{Names.AreNames, Value.NamedTopologyValue, Spelling.{lines_of}}, proofs.Laws.lines_are_words}
 use Rattle.report_form.specs.Reports.{WordsValue, ReportValue, IsPrintedPoint, IsFrontier, IsJoinedPoint, IsReport, question_of}
 use Rattle.report_form.specs.Spelling.{point_lines, refuted_words, unknown_words, part_words, frontier_lines, joined_lines, body_lines, report_lines, report_text}
 use Rattle.report_laws.proofs.{ListsAgain.{lines_are_tokens, refuted_tokens, unknown_tokens}, PointsAgain.{base_of, point_are_tokens}, JoinedAgain.joined_are_tokens, SynthLineAgain.synth_tokens}

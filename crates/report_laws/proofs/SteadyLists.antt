@@ -1,5 +1,5 @@
 -- A part of the topology in a report does the same where its lines are the same.
-use Rattle.std.proofs.Common.{arith, ℕ, ◌-◌, List, Result, Ok, Err, refl, ap, slice_get}
+use Rattle.std.proofs.Common.{ℕ, ◌-◌, List, Result, Ok, Err, refl, ap, slice_get}
 use Rattle.text_lines.{specs.Text.{Row, Place}, proofs.{Gives.{gives_done, gives_fail}, Steady.{SteadyAt, Steady}}}
 use Rattle.topology_text.specs.declared.fault.TopologyCode.{TopologyCode}
 use Rattle.report_form.specs.Lines.{whole_line, blamed, among}

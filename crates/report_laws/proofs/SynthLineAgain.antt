@@ -2,10 +2,10 @@
 use Rattle.std.proofs.{Common.{◌≡◌, ℕ, ◌<◌, ◌^◌, Bool, true, false, ◌||◌, not, List, [], ◌∷◌, ◌++◌, length, Option, None, Some, Result, Ok, refl, sym, ap, arith, codes, decimal, if◌then◌else◌}, lemmas.{Bool.and_from, List.length-append}}
 use Rattle.std.proofs.lemmas.List.Elements.{All-get_or}
 use Rattle.text_lines.{specs.{Text.Row, Check.{◌>>=◌, need, line_part}}, proofs.{ReadBack.Reads, Repeated.place, Rows.{AreTokens, row_of}, Words.{IsWord, AreWords, literal, decimal_word, token-append, tokens_from}}}
-use Rattle.collective_spec.specs.{declared.kind.Kind.{Kind, TheVariants.Custom}, Kinds.{word_of, takes_root, is_custom}}
+use Rattle.collective_spec.specs.{declared.kind.Kind.{Kind}, Kinds.{word_of, takes_root, is_custom}}
 use Rattle.candidate_order.specs.{declared.pruning.Pruning.Pruning, Ranges.{LimitsValue, IsLimits, unpruned}}
 use Rattle.topology_text.{specs.{Names.{is_name, name_of, AreNames}, Spelling.name_at}, proofs.{Front.{name_word, name_of_name}, Links.node_again}}
-use Rattle.report_form.specs.{declared.fault.ReportCode.ReportCode, Reports.{WordsValue, IsWords}, Spelling.{root_words, word_if, pruning_words, synth_words}, Tests.are_limits, Fields.{any_number, next_keyed}}
+use Rattle.report_form.specs.{declared.fault.ReportCode.ReportCode, Reports.{WordsValue, IsWords}, Spelling.{root_words, pruning_words, synth_words}, Tests.are_limits, Fields.{any_number, next_keyed}}
 use Rattle.report_form.{specs.SynthLine.{AskedValue, kind_named, limits_from, pruning_from, asked_from, may_be_asked, asked_line, root_of}, proofs.{Tested.decides_limits, SynthLineTaken.{limits_words, pruned}}}
 use Rattle.report_form.specs.declared.fault.ReportCode.TheVariants as code
 use Rattle.report_laws.proofs.{TokensAgain.{ok_then, keyed_again, any_number_again}, ListsAgain.ruled_part}

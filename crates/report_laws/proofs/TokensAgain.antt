@@ -1,5 +1,5 @@
 -- Tokens that are spelled are taken, and give back what they spell.
-use Rattle.std.proofs.{Common.{◌≡◌, ◌≢◌, ℕ, suc, ◌<◌, ◌≤◌, ◌^◌, true, not, List, [], ◌∷◌, ◌++◌, length, get_or, Option, Some, Result, Ok, refl, ap, ◌∙◌, arith, ◌==◌, decimal, nat_eq, nat_le}, Math.Seq.drop-append_seam}
+use Rattle.std.proofs.{Common.{◌≡◌, ◌≢◌, ℕ, suc, ◌<◌, ◌≤◌, ◌^◌, true, List, [], ◌∷◌, ◌++◌, length, get_or, Option, Some, Result, Ok, refl, ap, ◌∙◌, arith, decimal, nat_eq, nat_le}, Math.Seq.drop-append_seam}
 use Rattle.std.{proofs.lemmas.{Bool.{Decides.Decides-eqb, and_from, cond-true, le-leb, ne_eqb}, Fmt.{decimal_is_IsNumeral, decimal_nonempty}, Slice.Eq.starts_is, Str.Parse.digit_at}, specs.List.list_all}
 use Rattle.text_lines.{specs.Check.{◌>>=◌, need}, proofs.{Distinct.AreDistinct, Numbers.{up_to_some, zero_not}}}
 use Rattle.topology_text.{specs.{Spelling.name_at, Reading.node_of}, proofs.Links.node_again}

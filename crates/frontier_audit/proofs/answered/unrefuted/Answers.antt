@@ -1,4 +1,4 @@
-use Rattle.std.proofs.Common.{◌≤◌, ◌<◌, ◌+◌, append-nil, ap, ◌∙◌, arith}
+use Rattle.std.proofs.Common.{append-nil, ap, ◌∙◌, arith}
 use Rattle.schedule.specs.Links.{TopologyValue}
 use Rattle.collective_spec.specs.Collectives.{kind_in}
 use Rattle.candidate_order.specs.Ranges.{LimitsValue}

@@ -1,4 +1,4 @@
-use Rattle.std.proofs.Common.{arith, sym, subst}
+use Rattle.std.proofs.Common.{sym, subst}
 use Rattle.candidate_order.specs.Frontiers.{IsUnknown}
 use Rattle.frontier_audit.proofs.{Merging.{walk_ends, walk_on, walk_starts, walk_stops}, Said.separate_unknown}
 use Rattle.frontier_audit.proofs.files.unknown_denied.Goals as goal

@@ -1,4 +1,4 @@
-use Rattle.std.proofs.Common.{◌<◌, length, sym, subst, ap, ◌∙◌, arith, All}
+use Rattle.std.proofs.Common.{sym, subst, ap, ◌∙◌, arith, All}
 use Rattle.outer_ports.specs.declared.part.Part.{Part}
 use Rattle.candidate_order.specs.Frontiers.{FrontierValue}
 use Rattle.allreduce_join.specs.Joins.{IsJoinable}

@@ -1,4 +1,4 @@
-use Rattle.std.proofs.Common.{arith, sym, ap, ◌∙◌}
+use Rattle.std.proofs.Common.{sym, ap, ◌∙◌}
 use Rattle.frontier_audit.{specs.{Candidates.candidates_within, inner.Steps.unrefuted_among}, proofs.Answering.{missing_decides, marks_decide}}
 use Rattle.frontier_audit.proofs.parts.answers_denied.Goals as goal
 
