@@ -3,9 +3,8 @@ use Rattle.std.{proofs.Common.{arith, ◌≡◌, Bool, List, [], ◌∷◌, map,
 use Rattle.text_lines.specs.Check.{refuse}
 use Rattle.candidate_order.specs.{declared.candidate.Candidate.Candidate, Frontiers.{QuestionValue, PointValue, UnknownValue, FrontierValue}}
 use Rattle.report_form.specs.Tests.{is_better}
-use Rattle.frontier_audit.specs.{declared.verdict.Reason.TheVariants.{CandidateMissing, MarkWrong}, Denials.{Denial, Checked, each}, Beside.denial_of, Candidates.{candidates_within, is_listed, same_candidate}}
-use Rattle.frontier_audit.specs.inner.Steps.{answers_checked, candidate_checked, has_mark_among, is_answered, is_bettered, is_given_up, is_left_answered, is_mark, mark_checked, unrefuted_among}
-use Rattle.frontier_audit.proofs.Walking.{first_decides, rest_decides}
+use Rattle.frontier_audit.specs.{inner.Steps.{answers_checked, candidate_checked, has_mark_among, is_answered, is_bettered, is_given_up, is_left_answered, is_mark, mark_checked, unrefuted_among}, Denials.{Denial, Checked, each}}
+use Rattle.frontier_audit.{specs.{declared.verdict.Reason.TheVariants.{CandidateMissing, MarkWrong}, Candidates.{candidates_within, is_listed, same_candidate}, Beside.denial_of}, proofs.Walking.{first_decides, rest_decides}}
 
 -- ---- candidates
 

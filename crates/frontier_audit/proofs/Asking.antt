@@ -1,6 +1,5 @@
 -- What is asked in a part of a report, and the formulas of its candidates.
-use Rattle.std.proofs.{Common.{◌≡◌, ℕ, ◌≤◌, Bool, true, false, Option, refl, sym, ap, ◌∙◌, subst, arith, ◌<◌, if◌then◌else◌, Contains}}
-use Rattle.std.specs.Option.{is_some}
+use Rattle.std.{proofs.Common.{◌≡◌, ℕ, ◌≤◌, Bool, true, false, Option, refl, sym, ap, ◌∙◌, subst, arith, ◌<◌, if◌then◌else◌, Contains}, specs.Option.is_some}
 use Rattle.outer_ports.specs.declared.part.Part.{Part}
 use Rattle.outer_ports.specs.declared.part.Part.TheVariants as part
 use Rattle.schedule.{specs.Links.{TopologyValue, reversed_of}, proofs.Turned.turned_topology}

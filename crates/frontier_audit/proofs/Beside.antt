@@ -1,6 +1,5 @@
 -- The checks of a candidate's files pass exactly where the files are what they have to be.
-use Rattle.std.proofs.{lemmas.{Bool.Decides.nat_tests, Grind.common_steps}, Common.{arith, ◌≡◌, ℕ, Bool, List, length, Ok, Option, sym, ◌∙◌, not, nat_le, bytes_eq, if◌then◌else◌}}
-use Rattle.std.proofs.lemmas.Bool.{and_parts, leb-true, le-leb, and_from}
+use Rattle.std.proofs.{lemmas.{Bool.{Decides.nat_tests, and_parts, leb-true, le-leb, and_from}, Grind.common_steps}, Common.{arith, ◌≡◌, ℕ, Bool, List, length, Ok, Option, sym, ◌∙◌, not, nat_le, bytes_eq, if◌then◌else◌}}
 use Rattle.text_lines.{specs.Check.{◌>>=◌, refuse, need}, proofs.Checks.need_ok}
 use Rattle.outer_ports.specs.{declared.{part.Part.Part, proof_name.FileKind.TheVariants.{Cnf, Lrat, Partial}}, Files.Files}
 use Rattle.cnf_formula.specs.Formulas.{FormulaValue}

@@ -1,7 +1,6 @@
 -- The joined points of an allreduce, pair by pair.
-use Rattle.std.proofs.lemmas.{Bool.Decides.nat_tests, Grind.common_steps}
 use Rattle.std.proofs.Common.{arith, ◌≡◌, ℕ, zero, suc, ◌+◌, ◌<◌, ◌≤◌, Bool, true, false, List, [], ◌∷◌, ◌++◌, length, map, take, drop, get_or, Option, None, Some, add-one, append_assoc, append-nil, refl, sym, ap, ◌∙◌, subst, ◌==◌, ◌&&◌, if◌then◌else◌, filter, slice_get}
-use Rattle.std.proofs.lemmas.{Bool.eq-eqb, List.{map-append, take-append-drop, take_more, take_all, Elements.filter-append}, Option.slice_get-get_or}
+use Rattle.std.proofs.lemmas.{Bool.{Decides.nat_tests, eq-eqb}, Grind.common_steps, List.{map-append, take-append-drop, take_more, take_all, Elements.filter-append}, Option.slice_get-get_or}
 use Rattle.schedule.specs.Links.{TopologyValue}
 use Rattle.collective_spec.specs.declared.kind.Kind.TheVariants as kind
 use Rattle.collective_spec.specs.Collectives.{chunks_of}

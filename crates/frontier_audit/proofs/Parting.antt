@@ -1,6 +1,5 @@
 -- The checks of a part, one after the other, and of the parts.
-use Rattle.std.proofs.{Common.{arith, ◌≡◌, ℕ, ◌<◌, Bool, true, List, length, map, get_or, Option, None, Some, refl, sym, ap, ◌∙◌, subst, ◌==◌, not, AllPairs, Contains, IsTrue}, Math.ListN.get_or-map}
-use Rattle.std.proofs.lemmas.List.{length-map}
+use Rattle.std.proofs.{Common.{arith, ◌≡◌, ℕ, ◌<◌, Bool, true, List, length, map, get_or, Option, None, Some, refl, sym, ap, ◌∙◌, subst, ◌==◌, not, AllPairs, Contains, IsTrue}, Math.ListN.get_or-map, lemmas.List.length-map}
 use Rattle.text_lines.specs.Check.{◌>>=◌}
 use Rattle.outer_ports.specs.{declared.{part.Part.Part, proof_name.{FileKind.TheVariants.Partial, ProofName.ProofName}}, Files.{Files, kind_number, part_number}, Port.Tells, Shelf.FilesStay}
 use Rattle.candidate_order.specs.Frontiers.{QuestionValue, FrontierValue}

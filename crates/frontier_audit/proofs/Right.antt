@@ -1,6 +1,5 @@
 -- An audit finds nothing to deny exactly where the frontiers, the files and the joined points are right.
-use Rattle.std.proofs.{lemmas.{Bool.Decides.nat_tests, Grind.common_steps}, Common.{arith, ◌≡◌, true, get_or, Option, None, Ok, refl, sym, ◌∙◌, ◌≢◌, All, Contains}}
-use Rattle.std.proofs.lemmas.List.Elements.{All-contains, All-contains_itself}
+use Rattle.std.proofs.{lemmas.{Bool.Decides.nat_tests, Grind.common_steps, List.Elements.{All-contains, All-contains_itself}}, Common.{arith, ◌≡◌, true, get_or, Option, None, Ok, refl, sym, ◌∙◌, ◌≢◌, All, Contains}}
 use Rattle.outer_ports.specs.{declared.part.Part.Part, Files.Files}
 use Rattle.outer_ports.specs.declared.part.Part.TheVariants as part
 use Rattle.collective_spec.specs.{Collectives.{kind_in, spec_of, fits_kind}, declared.{collective.Collective.Collective, kind.Kind.Kind}, Patterns.PatternValue}
@@ -9,11 +8,10 @@ use Rattle.candidate_order.specs.Frontiers.{QuestionValue, FrontierValue, IsSolv
 use Rattle.allreduce_join.specs.Joins.{Joins, pairs_of}
 use Rattle.report_form.specs.Reports.{ReportValue, IsReport, IsFrontier, parts_of, kind_of, question_of}
 use Rattle.round_encoding.proofs.Obeyed.{all_map}
-use Rattle.frontier_audit.specs.{declared.verdict.{AuditVerdict.TheVariants.Verified, Reason.TheVariants.{ScheduleWrong, MarkWrong, CandidateMissing}}, Shelves.{PartRight, ShelfRight}, Candidates.candidates_within}
-use Rattle.frontier_audit.specs.{Solutions.{is_solution, is_optimal}, Auditing.audit_of, Joining.{IsSummable, joins_checked, joined_checked}, Parts.{is_reduce, is_gather, points_of}, inner.Steps.{is_answered, is_mark, joins_of}}
-use Rattle.frontier_audit.proofs.{Passing.{refused_not, not_refused, in_part_ok, ok_in_part}, Beside.passes_log, CutAway.passes_refuted, Shelves.question, Audited.{Passes, PartPasses, report_passes, report_passed}}
-use Rattle.frontier_audit.proofs.{Tried.{listed_contains, within_listed, each_within}, Marked.{answered_decides, optimal_decides, mark_by, by_mark}, Solved.{solved_by, by_solution}, JoinedParts.joined_by_kind}
-use Rattle.frontier_audit.proofs.Joined.{are_joined, joined_are}
+use Rattle.frontier_audit.{specs.declared.verdict.{AuditVerdict.TheVariants.Verified, Reason.TheVariants.{ScheduleWrong, MarkWrong, CandidateMissing}}, proofs.{Marked.{answered_decides, optimal_decides, mark_by, by_mark}, Shelves.question}}
+use Rattle.frontier_audit.{proofs.{Passing.{refused_not, not_refused, in_part_ok, ok_in_part}, Audited.{Passes, PartPasses, report_passes, report_passed}, CutAway.passes_refuted}, specs.Joining.{IsSummable, joins_checked, joined_checked}}
+use Rattle.frontier_audit.{proofs.Tried.{listed_contains, within_listed, each_within}, specs.{inner.Steps.{is_answered, is_mark, joins_of}, Parts.{is_reduce, is_gather, points_of}, Solutions.{is_solution, is_optimal}, Auditing.audit_of}}
+use Rattle.frontier_audit.{specs.{Shelves.{PartRight, ShelfRight}, Candidates.candidates_within}, proofs.{Solved.{solved_by, by_solution}, Joined.{are_joined, joined_are}, JoinedParts.joined_by_kind, Beside.passes_log}}
 
 -- ---- a part
 

@@ -1,23 +1,20 @@
 -- A text that the checks take is the text of the report that they give, which is valid; where they fail, some valid report has the lines before the one that is blamed.
 use Rattle.std.proofs.{Common.{◌≡◌, ℕ, Bool, true, false, not, List, [], ◌∷◌, ◌++◌, map, length, Option, None, Some, Result, Ok, refl, sym, ap, ◌∙◌, subst, arith, codes, flat_map, if◌then◌else◌, is_some}}
 use Rattle.std.proofs.lemmas.List.{append-nil, map-append}
-use Rattle.text_lines.specs.{Text.{Row, Place, rows_of, start}, Check.{◌>>=◌, refuse, need, at_line, first, line_part}}
-use Rattle.text_lines.proofs.{Checks.{bind_ok, need_is, at_line_ok, line_err, part_err_at, ok_is}, Distinct.AreDistinct, Repeated.place, Rows.{row_of, text_back}}
-use Rattle.text_lines.proofs.Gives.{Gives, gives_done, gives_like, gives_then, Between, then_on, Cut, cut_here, cut_more, cut_on, line_gives, Stops}
+use Rattle.text_lines.proofs.{Gives.{Gives, gives_done, gives_like, gives_then, Between, then_on, Cut, cut_here, cut_more, cut_on, line_gives, Stops}, Checks.{bind_ok, need_is, at_line_ok, line_err, part_err_at, ok_is}, Repeated.place}
+use Rattle.text_lines.{specs.{Check.{◌>>=◌, refuse, need, at_line, first, line_part}, Text.{Row, Place, rows_of, start}}, proofs.{Rows.{row_of, text_back}, Distinct.AreDistinct}}
 use Rattle.schedule.specs.Links.{GroupValue}
 use Rattle.outer_ports.specs.declared.part.Part.{Part}
 use Rattle.collective_spec.specs.{declared.kind.Kind.Kind, Kinds.{is_custom, takes_root}, Patterns.PatternValue}
 use Rattle.collective_spec.specs.declared.kind.Kind.TheVariants as kind
 use Rattle.candidate_order.specs.{Ranges.{IsLimits, unpruned}, Frontiers.{PointValue, FrontierValue}}
-use Rattle.topology_text.specs.{declared.fault.TopologyCode.TopologyCode, Value.{NamedTopologyValue, IsNamed, named_with}, Names.AreNames, Spelling.{lines_of, version_word, header_words, nodes_words, group_words, custom_lines}}
-use Rattle.topology_text.specs.Reading.{header_line, nodes_line, groups_at, pattern_at}
-use Rattle.topology_text.proofs.{Front.{version_words, header_gives, nodes_give}, Links.node_again, Groups.{Groups, groups_nil, groups_give}, Patterns.{IsCustom, some_pattern, pattern_gives}}
-use Rattle.topology_text.proofs.Laws.{named_valid, body_lines, header_on, front_on, cut_behind}
+use Rattle.topology_text.{specs.{Spelling.{lines_of, version_word, header_words, nodes_words, group_words, custom_lines}, declared.fault.TopologyCode.TopologyCode}, proofs.Laws.{named_valid, body_lines, header_on, front_on, cut_behind}}
+use Rattle.topology_text.{specs.{Reading.{header_line, nodes_line, groups_at, pattern_at}, Value.{NamedTopologyValue, IsNamed, named_with}, Names.AreNames}, proofs.{Patterns.{IsCustom, some_pattern, pattern_gives}, Links.node_again}}
+use Rattle.topology_text.proofs.{Front.{version_words, header_gives, nodes_give}, Groups.{Groups, groups_nil, groups_give}}
 use Rattle.topology_text.specs.Spelling as spelling
-use Rattle.report_form.specs.{declared.fault.ReportCode.ReportCode, Reports.{WordsValue, ReportValue, IsReport, parts_of}, Lines.{whole_line, no_line, among}, Spelling.{frontier_lines, joined_lines, report_lines, report_text}}
-use Rattle.report_form.specs.{SynthLine.{AskedValue, asked_line, root_of, words_from}, Reading.{body_of, version_of, version_line, is_same, report_of}}
-use Rattle.report_form.proofs.{LineTaken.{whole_words, fixed_gives, nothing_take}, SynthLineTaken.{RootFits, asked_words, IsAsked, asked_gives, words_take}}
-use Rattle.report_form.proofs.FrontiersTaken.{AreFrontiers, AreJoined, none_joined, nothings, nothings_are, frontiers_give, joined_gives}
+use Rattle.report_form.proofs.{FrontiersTaken.{AreFrontiers, AreJoined, none_joined, nothings, nothings_are, frontiers_give, joined_gives}, SynthLineTaken.{RootFits, asked_words, IsAsked, asked_gives, words_take}}
+use Rattle.report_form.specs.{Spelling.{frontier_lines, joined_lines, report_lines, report_text}, Reading.{body_of, version_of, version_line, is_same, report_of}, SynthLine.{AskedValue, asked_line, root_of, words_from}}
+use Rattle.report_form.{specs.{Reports.{WordsValue, ReportValue, IsReport, parts_of}, declared.fault.ReportCode.ReportCode, Lines.{whole_line, no_line, among}}, proofs.LineTaken.{whole_words, fixed_gives, nothing_take}}
 use Rattle.report_form.specs.declared.fault.ReportCode.TheVariants as code
 
 -- ---- the body

@@ -7,9 +7,8 @@ use Rattle.collective_spec.specs.Collectives.{chunks_in}
 use Rattle.outer_ports.specs.declared.part.Part.{Part}
 use Rattle.candidate_order.specs.declared.mark.Mark.TheVariants as mark
 use Rattle.candidate_order.specs.Frontiers.{QuestionValue, PointValue, FrontierValue}
-use Rattle.report_form.specs.{declared.fault.ReportCode.ReportCode, Tests.{is_within, comes_next}, Lines.fixed_line}
-use Rattle.report_form.specs.Points.{HeadValue, head_from, joined_head_from, may_join, rounds_from, are_rounds, rounds_line, send_from, send_line, may_be_sent, follows, schedule_at, frontier_point_at, joined_point_at}
-use Rattle.report_form.{specs.Reading.{part_bytes, refuted_from, refuted_line, unknown_from, unknown_line, frontier_at}, proofs.LineTaken.{on_words, ruled_by}}
+use Rattle.report_form.specs.{Points.{HeadValue, head_from, joined_head_from, may_join, rounds_from, are_rounds, rounds_line, send_from, send_line, may_be_sent, follows, schedule_at, frontier_point_at, joined_point_at}, Lines.fixed_line}
+use Rattle.report_form.{specs.{Reading.{part_bytes, refuted_from, refuted_line, unknown_from, unknown_line, frontier_at}, declared.fault.ReportCode.ReportCode, Tests.{is_within, comes_next}}, proofs.LineTaken.{on_words, ruled_by}}
 use Rattle.report_laws.specs.Shapes.{Token, Word, Any, has_shape, small, is_decimal, candidate_shape, send_shape, formed, rounds, unknown, refuted, results, forms_after}
 use Rattle.report_laws.proofs.{LocalParts.steady_schedule, ShapesTold.{Told, mark_shape, rounds_shape, refuted_told, unknown_told, head_told, joined_head_told, rounds_told, send_told}}
 use Rattle.report_laws.proofs.Blaming.{Form, goes_on, told_code, ruled_goes, fixed_goes, first_of_shape, first_of_front, unbegun, Coded, At, coded_at, line_goes, lines_go, parts_go, less}

@@ -14,9 +14,8 @@ use Rattle.report_form.specs.{declared.fault.ReportCode.ReportCode, Reports.{Wor
 use Rattle.report_form.specs.{SynthLine.{AskedValue, kinds_of, asked_from, may_be_asked, asked_line, root_of, words_from}, Reading.{part_bytes, frontiers_from, joined_at, body_of, version_line, is_same, report_of}}
 use Rattle.report_form.proofs.ReportTaken.{after_root, after_names, after_same, after_asked, after_head, report_at, report_is}
 use Rattle.report_form.specs.declared.fault.ReportCode.TheVariants as code
-use Rattle.report_laws.specs.Shapes.{has_shape, asked_shape, results, forms_after, first_word, is_patterned, names_in, code_of}
-use Rattle.report_laws.proofs.{ShapesTold.asked_told, BlamedPoints.{joined_points_go, IsTitle, title_goes, frontier_goes}}
 use Rattle.report_laws.proofs.Blaming.{Form, is_joined, fits, last_is, goes_on, at_line_goes, part_goes, told_code, ruled_goes, first_of_shape, first_of_front, On, Coded, Unfit, code_on, unfit_on, among_goes, Stands, stands_goes, told_on, At, coded_at, onward, lines_go}
+use Rattle.report_laws.{specs.Shapes.{has_shape, asked_shape, results, forms_after, first_word, is_patterned, names_in, code_of}, proofs.{BlamedPoints.{joined_points_go, IsTitle, title_goes, frontier_goes}, ShapesTold.asked_told}}
 
 -- ---- the body
 

@@ -1,6 +1,5 @@
 -- The lines of a report's parts that are spelled are read.
-use Rattle.std.proofs.{Common.{◌≡◌, ℕ, ◌≤◌, List, [], ◌∷◌, ◌++◌, map, length, refl, sym, ap, ◌∙◌, subst, arith, ◌≢◌, codes, flat_map, All, IfSome}, lemmas.List.{length-append, length-map}}
-use Rattle.std.proofs.lemmas.List.Elements.{All-head, All-tail, All-map, All-weaker}
+use Rattle.std.proofs.{Common.{◌≡◌, ℕ, ◌≤◌, List, [], ◌∷◌, ◌++◌, map, length, refl, sym, ap, ◌∙◌, subst, arith, ◌≢◌, codes, flat_map, All, IfSome}, lemmas.List.{length-append, length-map, Elements.{All-head, All-tail, All-map, All-weaker}}}
 use Rattle.text_lines.{specs.{Text.Row, Repeated.parts_at}, proofs.{Gives.rows_split, ReadBack.{Reads, reads_here, reads_as, reads_then, Ends, lines_again, parts_again}, Repeated.place, Rows.row_of}}
 use Rattle.outer_ports.specs.declared.part.Part.{Part}
 use Rattle.outer_ports.specs.declared.part.Part.TheVariants as part

@@ -7,8 +7,7 @@ use Rattle.candidate_order.specs.{declared.candidate.Candidate.Candidate, Ranges
 use Rattle.topology_text.specs.{Value.NamedTopologyValue, Names.AreNames}
 use Rattle.report_form.specs.{declared.fault.ReportCode.ReportCode, Reports.{WordsValue, HasSchedule, IsPrintedPoint, kind_of}, Tests.{is_within, comes_next}, Spelling.{rounds_words, send_words, point_words, point_lines}}
 use Rattle.report_form.{specs.Points.{HeadValue, head_from, head_line, rounds_from, are_rounds, schedule_at, frontier_point_at}, proofs.{Tested.decides_within, PointsTaken.{schedule_lines, AreSends, ArePoints}}}
-use Rattle.report_laws.proofs.{ShapesAgain.{head_again, head_are_words, rounds_again}, ListsAgain.{ruled_line, ruled_part, part_comes_again, within_small}}
-use Rattle.report_laws.proofs.SendsAgain.{rounds_small, rounds_kept, rounds_tokens, send_reads, sends_are_tokens}
+use Rattle.report_laws.proofs.{ShapesAgain.{head_again, head_are_words, rounds_again}, ListsAgain.{ruled_line, ruled_part, part_comes_again, within_small}, SendsAgain.{rounds_small, rounds_kept, rounds_tokens, send_reads, sends_are_tokens}}
 
 -- ---- a schedule behind the head of its point
 

@@ -6,10 +6,9 @@ use Rattle.text_lines.{specs.{Check.{◌>>=◌, refuse, need}, Repeated.begins},
 use Rattle.collective_spec.specs.{declared.kind.Kind.Kind, Kinds.{word_of, takes_root}}
 use Rattle.candidate_order.specs.{declared.{candidate.Candidate.Candidate}, Ranges.LimitsValue}
 use Rattle.topology_text.specs.{Names.{is_name, name_of}, Reading.node_of}
-use Rattle.report_form.specs.{declared.fault.ReportCode.{ReportCode, TheVariants.BadLine}, Reading.{refuted_from, unknown_from}}
-use Rattle.report_form.specs.Fields.{any_number, small_number, next_word, next_keyed, fixed_word, next_number, next_node, no_more}
-use Rattle.report_form.specs.{Points.{candidate_from, mark_named, head_from, joined_head_from, numbers_from, rounds_from, send_from}, SynthLine.{AskedValue, kind_named, kinds_of, limits_from, root_from, pruning_from, asked_from}}
-use Rattle.report_form.proofs.{Shapes.candidate, SynthLineTaken.{found_is, limits, pruned, asked}}
+use Rattle.report_form.specs.{Points.{candidate_from, mark_named, head_from, joined_head_from, numbers_from, rounds_from, send_from}, Fields.{any_number, small_number, next_word, next_keyed, fixed_word, next_number, next_node, no_more}}
+use Rattle.report_form.specs.{SynthLine.{AskedValue, kind_named, kinds_of, limits_from, root_from, pruning_from, asked_from}, declared.fault.ReportCode.{ReportCode, TheVariants.BadLine}, Reading.{refuted_from, unknown_from}}
+use Rattle.report_form.proofs.{SynthLineTaken.{found_is, limits, pruned, asked}, Shapes.candidate}
 use Rattle.report_laws.{specs.Shapes.{Token, Word, Any, May, has_shape, small, is_decimal, key_with, asked_shape, candidate_shape, send_shape}, proofs.SynthLineAgain.{kind_back, rooted}}
 
 -- the check passes where the test holds, and else says that the line is bad
