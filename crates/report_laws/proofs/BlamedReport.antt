@@ -118,12 +118,9 @@ module _ (text : List ℕ) where
       module _ (d : Bool × Place) (r3 : Row) (on3 : On all (r1 ∷ r2 ∷ r3 ∷ []) d.1) (w3 : first_word r3 ≡ codes "topology") where
         -- behind the names
         module _ (n : List (List ℕ) × Place) (r4 : Row) (on4 : On all (r1 ∷ r2 ∷ r3 ∷ r4 ∷ []) n.1) (is4 : r4 ≡ row_of (nodes_words n.0)) (named : AreNames n.0) where
-          at_groups : At all n.0 false [] n.1
-          at_groups = grind (arith, is_joined, fits_after, words_again, tokens_from, nodes_are_words)
-
           root_goes : (root : ℕ) → Gives (Coded all) Passed (after_root all head.0 a.0 n root)
           root_goes root =
-              goes_on _ _ (among_goes all (λ (x : List GroupValue × Place). At all n.0 false [] x.1) (groups_at n.0 n.1) (groups_go all n.0 n.1 at_groups))
+              goes_on _ _ (among_goes all (λ (x : List GroupValue × Place). At all n.0 false [] x.1) (groups_at n.0 n.1) (groups_go all n.0 n.1 (grind (arith, is_joined, fits_after, words_again, tokens_from, nodes_are_words))))
               (λ g read here. goes_on _ _ (among_goes all (λ (x : Option PatternValue × Place). At all n.0 false [] x.1) (pattern_at head.0 n.0 g.1) (pattern_goes all n.0 head.0 g.1 here))
               (λ c more there. body_goes all (words_from a.0 root) (named_with n.0 g.0 c.0) c.1 there))
 

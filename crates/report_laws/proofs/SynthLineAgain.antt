@@ -73,9 +73,6 @@ words_both : (a b : List (List ℕ)) → AreWords a → AreWords b → AreWords 
 words_both [] b first second = second
 words_both (w ∷ ws) b first second = (first.0, words_both ws b first.1 second)
 
-pruning_is_words : (p : Pruning) → AreWords (pruning_words p)
-pruning_is_words p = grind (arith, words_both, literal)
-
 number_word : (key : List ℕ) (n : ℕ) → IsWord key → n < 2 ^ 64 → IsWord (key ++ decimal n)
 number_word key n first small = keyed_word key (decimal n) first (decimal_word n small)
 
@@ -89,7 +86,7 @@ synth_tokens names w named ok =
     let s_word = number_word (codes "steps=") w.limits.max_s (literal (codes "steps=") refl) (omega (arith, l.steps)) in
     let c_word = number_word (codes "chunks=") w.limits.max_c (literal (codes "chunks=") refl) (omega (arith, l.chunks)) in
     let n_word = number_word (codes "conflicts=") w.limits.conflicts (literal (codes "conflicts=") refl) (omega (arith, n)) in
-    let rest = words_both (root_words names w) (pruning_words w.limits.pruning) (grind (arith, keyed_word, literal, name_word, root_is_name)) (pruning_is_words w.limits.pruning) in
+    let rest = words_both (root_words names w) (pruning_words w.limits.pruning) (grind (arith, keyed_word, literal, name_word, root_is_name)) (grind (arith, words_both, literal)) in
     tokens_from (synth_words names w) (omega arith) (literal (codes "synth") refl, (kind, (k_word, (s_word, (c_word, (n_word, rest))))))
 
 pub asked_part_again : (patterned : Bool) (names : List (List ℕ)) (w : WordsValue) (n : ℕ) (rows : List Row) → is_custom w.collective.kind ≡ patterned → AreNames names → IsWords (length names) w
