@@ -1,25 +1,16 @@
 -- The candidates that are not refuted tell which candidates are answered, and which marks are right.
-use Rattle.std.{proofs.Common.{arith, ◌≡◌, Bool, true, false, List, [], ◌∷◌, map, Option, None, Some, refl, sym, ap, ◌∙◌, ◌||◌, not}, specs.{List.{find, list_all}, Option.option_map}}
+use Rattle.std.{proofs.Common.{arith, ◌≡◌, Bool, List, [], ◌∷◌, map, Option, None, Some, refl, sym, ap, ◌∙◌, ◌||◌, not}, specs.{List.{find, list_all}, Option.option_map}}
 use Rattle.text_lines.specs.Check.{refuse}
 use Rattle.candidate_order.specs.{declared.candidate.Candidate.Candidate, Frontiers.{QuestionValue, PointValue, UnknownValue, FrontierValue}}
 use Rattle.report_form.specs.Tests.{is_better}
-use Rattle.frontier_audit.specs.{declared.verdict.Reason.TheVariants.{CandidateMissing, MarkWrong}, Denials.{Denial, Checked, each}, Beside.denial_of, Candidates.{candidates_within, is_listed, same_candidate}}
-use Rattle.frontier_audit.specs.inner.Steps.{answers_checked, candidate_checked, has_mark_among, is_answered, is_bettered, is_given_up, is_left_answered, is_mark, mark_checked, unrefuted_among}
-use Rattle.frontier_audit.proofs.Walking.{first_decides, rest_decides}
+use Rattle.frontier_audit.specs.{inner.Steps.{answers_checked, candidate_checked, has_mark_among, is_answered, is_bettered, is_given_up, is_left_answered, is_mark, mark_checked, unrefuted_among}, Denials.{Denial, Checked, each}}
+use Rattle.frontier_audit.{specs.{declared.verdict.Reason.TheVariants.{CandidateMissing, MarkWrong}, Candidates.{candidates_within, is_listed, same_candidate}, Beside.denial_of}, proofs.Walking.{first_decides, rest_decides}}
 
 -- ---- candidates
 
 up_any : (us : List UnknownValue) (x : Candidate) → is_given_up us x ≡ is_listed (map (λ u. u.candidate) us) x
 up_any [] x = refl
 up_any (u ∷ us) x = ap (λ b. same_candidate x u.candidate || b) (up_any us x)
-
-listed_one : (a l g : Bool) → l ≡ true → (a || l || g) ≡ true
-listed_one true l g e = ap (λ b. true || b || g) e
-listed_one false l g e = ap (λ b. false || b || g) e
-
-other_one : (a l g : Bool) → l ≡ false → (a || g) ≡ (a || l || g)
-other_one true l g e = ap (λ b. true || b || g) (sym e)
-other_one false l g e = ap (λ b. false || b || g) (sym e)
 
 -- the first that fails a test is the first that is refused for it
 first_refused : {X C : Type 0} (test : X → Bool) (code : X → C) (xs : List X) → option_map code (find (λ x. not (test x)) xs) ≡ denial_of (each (λ x. refuse (not (test x)) (code x)) xs)
@@ -28,7 +19,7 @@ first_refused test code (x ∷ xs) = grind (arith, first_refused test code xs)
 
 left_says : (f : FrontierValue) (xs : List Candidate) → find (λ x. not (is_left_answered f x)) (unrefuted_among f.refuted xs) ≡ find (λ x. not (is_answered f x)) xs
 left_says f [] = refl
-left_says f (x ∷ xs) = grind (arith, listed_one, up_any, other_one, left_says f xs)
+left_says f (x ∷ xs) = grind (arith, up_any, left_says f xs)
 
 -- ---- marks
 

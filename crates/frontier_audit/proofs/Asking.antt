@@ -1,16 +1,14 @@
 -- What is asked in a part of a report, and the formulas of its candidates.
-use Rattle.std.proofs.{Common.{◌≡◌, ℕ, ◌≤◌, Bool, true, false, [], Option, None, Some, refl, sym, ap, ◌∙◌, subst, arith, ◌<◌, if◌then◌else◌, All, Contains, sum_by}, lemmas.List.Elements.{All-nil, All-cons, All-contains}}
-use Rattle.std.specs.Option.{is_some}
+use Rattle.std.{proofs.Common.{◌≡◌, ℕ, ◌≤◌, Bool, true, false, Option, refl, sym, ap, ◌∙◌, subst, arith, ◌<◌, if◌then◌else◌, Contains}, specs.Option.is_some}
 use Rattle.outer_ports.specs.declared.part.Part.{Part}
 use Rattle.outer_ports.specs.declared.part.Part.TheVariants as part
 use Rattle.schedule.{specs.Links.{TopologyValue, reversed_of}, proofs.Turned.turned_topology}
 use Rattle.collective_spec.{specs.{declared.{kind.Kind.Kind, spec.Spec.Spec}, Patterns.PatternValue, Kinds.allows, Collectives.{adds_up, chunks_in, kind_in, spec_instance, spec_of}}, proofs.Sized.fitting_spec}
-use Rattle.collective_spec.specs.declared.kind.Kind.TheVariants as kind
-use Rattle.candidate_order.specs.{declared.candidate.Candidate.Candidate, Ranges.LimitsValue, Frontiers.{QuestionValue, IsWithin}, Copied.copied_spec}
+use Rattle.candidate_order.specs.{declared.candidate.Candidate.Candidate, Ranges.LimitsValue, Frontiers.{QuestionValue, IsWithin}}
 use Rattle.round_encoding.specs.Candidates.{size_limit}
 use Rattle.report_form.specs.Reports.{ReportValue, IsReport, kind_of, parts_of, question_of}
 use Rattle.node_cuts.specs.{declared.sets.Sets.Sets, Cuts.first_cut_of, Tables.{TableValue, IsTableOf}}
-use Rattle.candidate_formula.specs.{Formulas.{formula_for, searched_on}, Pruned.is_cut_away, Sizes.size_of, Questions.{IsSmallQuestion, IsSought, copying_question}}
+use Rattle.candidate_formula.specs.{Formulas.{formula_for, searched_on}, Pruned.is_cut_away, Sizes.size_of, Questions.{IsSought, copying_question}}
 use Rattle.candidate_formula.proofs.{CopyingQuestions.{same_size, small_by_copying, within_by, reduced_formula}, Copying.{same_allowed, copied_stays}, TurnedSize.copied_size}
 use Rattle.frontier_audit.{specs.inner.Auditable.{IsAuditable, IsPrepared}, proofs.{Right.{apart, apart_in}, Unsolvable.parts_fit}}
 
@@ -20,26 +18,13 @@ module _ (q : QuestionValue) where
   abbrev links : Bool → TopologyValue
   links b = if b then reversed_of q.topology else q.topology
 
-  nodes_on : (b : Bool) → (links b).nodes ≡ q.topology.nodes
-  nodes_on true = refl
-  nodes_on false = refl
-
 module _ (q : QuestionValue) (asked : IsAuditable q) where
-  small_over : (b : Bool) → adds_up q.spec ≡ b → IsSmallQuestion (copying_question (links q b) q.spec q.limits)
-  small_over true e = small_by_copying (reversed_of q.topology) q.spec q.limits (turned_topology q.topology asked.topology) asked.spec asked.single asked.limits
-      (subst (λ n. n ≤ size_limit) (sym (copied_size q) ∙ same_size (reversed_of q.topology) q.spec q.limits) asked.size)
-  small_over false e = small_by_copying q.topology q.spec q.limits asked.topology asked.spec asked.single asked.limits asked.size
-
-  within_over : (b : Bool) (x : Candidate) → IsWithin q x → IsWithin (copying_question (links q b) q.spec q.limits) x
-  within_over true x w = within_by (reversed_of q.topology) q.limits x q.spec (copied_spec q.spec) (sym (same_allowed q.spec q.topology.nodes x.c)) w
-  within_over false x w = within_by q.topology q.limits x q.spec (copied_spec q.spec) (sym (same_allowed q.spec q.topology.nodes x.c)) w
-
   formula_over : (b : Bool) (x : Candidate) → adds_up q.spec ≡ b → formula_for (copying_question (links q b) q.spec q.limits) x ≡ formula_for q x
   formula_over true x e = reduced_formula q x e asked.single
   formula_over false x e = ap (λ s. formula_for (record { topology = q.topology; spec = s; limits = q.limits }) x) (copied_stays q.spec e)
 
   sought_on : (x : Candidate) → IsWithin q x → IsSought (searched_on q) q.spec x
-  sought_on x w = record { limits = q.limits; small = small_over (adds_up q.spec) refl; within = within_over (adds_up q.spec) x w }
+  sought_on x w = grind (arith, small_by_copying, turned_topology, copied_size, same_size, within_by, same_allowed)
 
   formula_on : (x : Candidate) → formula_for (copying_question (searched_on q) q.spec q.limits) x ≡ formula_for q x
   formula_on x = formula_over (adds_up q.spec) x refl
@@ -65,7 +50,7 @@ module _ (t searched : TopologyValue) (s : Spec) (l : LimitsValue) (cuts : Table
       → b ≡ is_some (first_cut_of sets over (spec_instance spec over.nodes x.c).pre (spec_instance spec over.nodes x.c).post x.r)
 
   pub cut_is : (x : Candidate) (b : Bool) → IsWithin q x → Says x b → b ≡ is_cut_away q x
-  cut_is x b w says = grind (arith, nodes_on, within_asked)
+  cut_is x b w says = grind (arith, within_asked)
 
 -- ---- the parts of a report
 
@@ -73,30 +58,15 @@ module _ (c : Option PatternValue) (root nodes count : ℕ) where
   abbrev chunks_at : Kind → Part → ℕ
   chunks_at k p = chunks_in (spec_of (record { kind = kind_of k p; root = root }) c) nodes count
 
-  reduced_chunks : (o : Option PatternValue) → chunks_in (spec_of (record { kind = kind.Reducescatter; root = root }) o) nodes count ≡ chunks_in (spec_of (record { kind = kind.Allreduce; root = root }) o) nodes count
-  reduced_chunks None = refl
-  reduced_chunks (Some p) = refl
-
-  gathered_chunks : (o : Option PatternValue) → chunks_in (spec_of (record { kind = kind.Allgather; root = root }) o) nodes count ≡ chunks_in (spec_of (record { kind = kind.Allreduce; root = root }) o) nodes count
-  gathered_chunks None = refl
-  gathered_chunks (Some p) = refl
-
   abbrev Whole : Kind → Part → Type 0
   Whole k p = chunks_at k p ≡ chunks_at k part.Whole
-
-  as_many : (k : Kind) → All (Whole k) (parts_of k)
-  as_many kind.Allreduce = grind (arith, All-cons, reduced_chunks, gathered_chunks, All-nil)
-  as_many k = All-cons (Whole k) part.Whole [] refl (All-nil (Whole k))
 
 module _ (r : ReportValue) (ok : IsReport r) (p : Part) (has : Contains (parts_of r.words.collective.kind) p) where
   abbrev asks : Part → QuestionValue
   asks x = question_of r.words r.topology x
 
-  sized_alike : size_of (asks p) ≡ size_of (asks part.Whole)
-  sized_alike = grind (arith, All-contains, as_many, sum_by)
-
   pub part_asked : size_of (asks part.Whole) ≤ size_limit → IsAuditable (asks p)
-  part_asked small = grind (arith, All-contains, parts_fit, fitting_spec, apart_in, apart, sized_alike)
+  part_asked small = grind (arith, parts_fit, fitting_spec, apart_in, apart)
 
 -- what the calls gave is what is asked
 pub made_of : (t : TopologyValue) (s : Spec) (l : LimitsValue) (q : QuestionValue) → t ≡ q.topology → s ≡ q.spec → l ≡ q.limits → record { topology = t; spec = s; limits = l } ≡ q

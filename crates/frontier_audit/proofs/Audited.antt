@@ -4,8 +4,8 @@ use Rattle.outer_ports.specs.{declared.part.Part.Part, Files.Files}
 use Rattle.candidate_order.specs.Frontiers.{QuestionValue, FrontierValue, IsUnknown}
 use Rattle.report_form.specs.Reports.{ReportValue, IsReport, question_of}
 use Rattle.frontier_audit.specs.{declared.verdict.AuditVerdict.TheVariants.Verified, Denials.each, Shelves.{PartRight, ShelfRight}, Joining.joined_checked, Candidates.candidates_within}
-use Rattle.frontier_audit.specs.{Auditing.{unknown_checked, frontier_checked, audit_of}, inner.Steps.{part_checked, point_checked, refuted_checked, candidate_checked, mark_checked, report_checked}}
-use Rattle.frontier_audit.proofs.{Passing.{then_ok, ok_then, each_ok, ok_each, in_part_ok, ok_in_part, verified_ok, ok_verified}, Beside.has_log_of, CutAway.owes_refutation}
+use Rattle.frontier_audit.specs.{Auditing.{unknown_checked, audit_of}, inner.Steps.{part_checked, point_checked, refuted_checked, candidate_checked, mark_checked, report_checked}}
+use Rattle.frontier_audit.proofs.{Passing.{then_ok, ok_then, each_ok, ok_each, ok_in_part, verified_ok, ok_verified}, Beside.has_log_of, CutAway.owes_refutation}
 
 -- each check of a part passes
 pub record Passes (part : Part) (q : QuestionValue) (files : Files) (f : FrontierValue) : Type 0 where
@@ -15,12 +15,6 @@ pub record Passes (part : Part) (q : QuestionValue) (files : Files) (f : Frontie
   pub candidates : All (λ x. candidate_checked f x ≡ Ok tt) (candidates_within q)
   pub marks : All (λ p. mark_checked q f p ≡ Ok tt) f.points
 
-pub passes : (part : Part) (q : QuestionValue) (files : Files) (f : FrontierValue) → frontier_checked part q files f ≡ Ok tt → Passes part q files f
-passes part q files f e = grind (arith, then_ok, each_ok)
-
-pub all_pass : (part : Part) (q : QuestionValue) (files : Files) (f : FrontierValue) → Passes part q files f → frontier_checked part q files f ≡ Ok tt
-all_pass part q files f p = grind (arith, ok_then, ok_each)
-
 abbrev pub PartPasses : ReportValue → Files → Part × FrontierValue → Type 0
 PartPasses r files x = Passes x.0 (question_of r.words r.topology x.0) files x.1
 
@@ -29,14 +23,11 @@ pub record ReportPasses (r : ReportValue) (files : Files) : Type 0 where
   pub parts : All (PartPasses r files) r.frontiers
   pub joined : joined_checked r r.frontiers ≡ Ok tt
 
-part_passes : (r : ReportValue) (files : Files) (x : Part × FrontierValue) → part_checked r files x ≡ Ok tt → PartPasses r files x
-part_passes r files x e = passes x.0 (question_of r.words r.topology x.0) files x.1 (in_part_ok x.0 (frontier_checked x.0 (question_of r.words r.topology x.0) files x.1) e)
-
 part_passed : (r : ReportValue) (files : Files) (x : Part × FrontierValue) → PartPasses r files x → part_checked r files x ≡ Ok tt
-part_passed r files x p = ok_in_part x.0 (frontier_checked x.0 (question_of r.words r.topology x.0) files x.1) (all_pass x.0 (question_of r.words r.topology x.0) files x.1 p)
+part_passed r files x p = grind (arith, ok_in_part, ok_then, ok_each)
 
 pub report_passes : (r : ReportValue) (files : Files) → audit_of r files ≡ Verified → ReportPasses r files
-report_passes r files e = grind (arith, then_ok, verified_ok, each_ok, part_passes)
+report_passes r files e = grind (arith, then_ok, verified_ok, each_ok)
 
 pub report_passed : (r : ReportValue) (files : Files) → ReportPasses r files → audit_of r files ≡ Verified
 report_passed r files p =

@@ -1,13 +1,12 @@
 -- The checks of a candidate's files pass exactly where the files are what they have to be.
-use Rattle.std.proofs.{lemmas.{Bool.Decides.nat_tests, Grind.common_steps}, Common.{arith, ◌≡◌, ℕ, Bool, true, false, List, length, Ok, Option, None, Some, refl, sym, ap, ◌∙◌, not, nat_le, bytes_eq, if◌then◌else◌}}
-use Rattle.std.proofs.lemmas.Bool.{and_parts, leb-true, le-leb, and_from}
+use Rattle.std.proofs.{lemmas.{Bool.{Decides.nat_tests, and_parts, leb-true, le-leb, and_from}, Grind.common_steps}, Common.{arith, ◌≡◌, ℕ, Bool, List, length, Ok, Option, sym, ◌∙◌, not, nat_le, bytes_eq, if◌then◌else◌}}
 use Rattle.text_lines.{specs.Check.{◌>>=◌, refuse, need}, proofs.Checks.need_ok}
 use Rattle.outer_ports.specs.{declared.{part.Part.Part, proof_name.FileKind.TheVariants.{Cnf, Lrat, Partial}}, Files.Files}
 use Rattle.cnf_formula.specs.Formulas.{FormulaValue}
 use Rattle.lrat_text.specs.Printing.{cnf_text}
 use Rattle.candidate_order.specs.{declared.candidate.Candidate.Candidate, Frontiers.{QuestionValue, UnknownValue}}
 use Rattle.candidate_formula.{specs.{ReadLines.lines_said, Formulas.formula_for, Files.{file_of, longest_proof, HasRefutation, HasLog}}, proofs.Spelled.{text_spells, text_read}}
-use Rattle.proof_audit.specs.{declared.verdict.FileVerdict.{FileVerdict, TheVariants.{Missing, Refused, Stands}}, Files.file_verdict, Proving.{is_refutation, is_spent_log}, Tested.do_spend}
+use Rattle.proof_audit.specs.{declared.verdict.FileVerdict.{FileVerdict, TheVariants.{Refused, Stands}}, Files.file_verdict, Proving.{is_refutation, is_spent_log}, Tested.do_spend}
 use Rattle.proof_audit.proofs.{Standing.standing_refute, Proved.{spent_by, by_spending}}
 use Rattle.frontier_audit.specs.{declared.verdict.Reason.{Reason, TheVariants.{ProofMissing, ProofRefused, CnfDiffers, PartialRefused}}, Denials.{Denial, Checked}, Auditing.{refutation_checked, unknown_checked}, inner.Steps.judged}
 use Rattle.frontier_audit.proofs.Passing.{then_ok, ok_then, refused_not}
@@ -16,21 +15,13 @@ use Rattle.frontier_audit.proofs.Passing.{then_ok, ok_then, refused_not}
 
 module _ (test : List ℕ → Bool) (refused : Reason) (x : Candidate) where
   tested : (b : Bool) → refuse (not b) (refused, x) ≡ judged (if b then Stands else Refused) refused x
-  tested true = refl
-  tested false = refl
+  tested b = grind arith
 
   pub alone : (file : Option (List ℕ)) → (need file (ProofMissing, x) >>= (λ bytes. refuse (not (test bytes)) (refused, x))) ≡ judged (file_verdict test file) refused x
-  alone None = refl
-  alone (Some bytes) = tested (test bytes)
-
-  first : (file : Option (List ℕ)) (rest : Checked Denial) → (need file (ProofMissing, x) >>= (λ bytes. refuse (not (test bytes)) (refused, x) >>= (λ _. rest))) ≡ (judged (file_verdict test file) refused x >>= (λ _. rest))
-  first None rest = refl
-  first (Some bytes) rest = ap (λ r. r >>= (λ _. rest)) (tested (test bytes))
+  alone file = grind (arith, tested)
 
 stands : (v : FileVerdict) (refused : Reason) (x : Candidate) → judged v refused x ≡ Ok tt → v ≡ Stands
-stands Missing refused x e = absurd (cc)
-stands Refused refused x e = absurd (cc)
-stands Stands refused x e = refl
+stands v refused x e = grind arith
 
 -- ---- a refuted candidate
 
@@ -45,7 +36,7 @@ module _ (part : Part) (q : QuestionValue) (x : Candidate) where
   proof_checked files = judged (file_verdict (is_refutation (formula_for q x)) (files (file_of Lrat part x))) ProofRefused x
 
   pub by_verdicts : (files : Files) → refutation_checked part q files x ≡ (text_checked files >>= (λ _. proof_checked files))
-  by_verdicts files = first (is_text_of (formula_for q x)) CnfDiffers x (files (file_of Cnf part x)) _ ∙ ap (λ r. text_checked files >>= (λ _. r)) (alone (is_refutation (formula_for q x)) ProofRefused x (files (file_of Lrat part x)))
+  by_verdicts files = grind (arith, alone, tested)
 
 pub has_refutation : (part : Part) (q : QuestionValue) (files : Files) (x : Candidate) → refutation_checked part q files x ≡ Ok tt → HasRefutation part q files x
 has_refutation part q files x e =

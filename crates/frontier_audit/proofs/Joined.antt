@@ -1,32 +1,17 @@
 -- The checks of joined points pass exactly where they are the joins.
-use Rattle.std.proofs.{Common.{arith, ◌≡◌, true, Decides, List, [], ◌∷◌, map, Ok, refl, sym, ap, ◌∙◌, ◌&&◌, not, All}, lemmas.Bool.{and_parts, eqb-true, eq-eqb, and_from, Decides.{Decides-and, Decides-eqb, Decides-like}}}
+use Rattle.std.proofs.{Common.{arith, ◌≡◌, true, Decides, List, [], ◌∷◌, map, Ok, refl, sym, ap, ◌∙◌, ◌&&◌, not, All}, lemmas.Bool.{and_parts, eqb-true, eq-eqb, and_from}}
 use Rattle.std.proofs.lemmas.{Slice.Eq.{bytes_eq-Decides, slice_eq-Decides}, List.Elements.{All-nil, All-cons, All-head, All-tail}}
 use Rattle.text_lines.specs.Check.{refuse}
-use Rattle.schedule.specs.{declared.hop.Hop.Hop, Links.TopologyValue}
-use Rattle.candidate_order.specs.{declared.mark.Mark.Mark, Frontiers.PointValue}
-use Rattle.candidate_order.specs.declared.mark.Mark.TheVariants as mark
+use Rattle.schedule.specs.{Links.TopologyValue}
+use Rattle.candidate_order.specs.{Frontiers.PointValue}
 use Rattle.allreduce_join.{specs.Joins.{join_of, IsJoin}, proofs.Told.all_summed_exactly}
-use Rattle.frontier_audit.specs.{declared.verdict.Reason.TheVariants.JoinWrong, inner.Steps.{same_hop, is_join}, Joining.{same_mark, same_point, joins_checked, IsSummable}}
+use Rattle.frontier_audit.specs.{declared.verdict.Reason.TheVariants.JoinWrong, inner.Steps.is_join, Joining.{same_point, joins_checked, IsSummable}}
 use Rattle.frontier_audit.proofs.{Passing.{then_ok, ok_then, refused_not, not_refused}, Tried.same_decides, Solved.sums_said}
 
 -- ---- the test of the same point
 
-hop_decides : (a b : Hop) → Decides (same_hop a b) (a ≡ b)
-hop_decides a b = grind (arith, Decides-like, Decides-and, Decides-eqb)
-
-mark_is : (m n : Mark) → same_mark m n ≡ true → m ≡ n
-mark_is mark.Optimal mark.Optimal e = refl
-mark_is mark.Open mark.Open e = refl
-mark_is (mark.Joined a) (mark.Joined b) e = ap (λ n. mark.Joined n) (eqb-true a b e)
-mark_is _ _ e = absurd (cc)
-
-mark_itself : (m : Mark) → same_mark m m ≡ true
-mark_itself mark.Optimal = refl
-mark_itself mark.Open = refl
-mark_itself (mark.Joined a) = eq-eqb a a refl
-
 point_decides : (a b : PointValue) → Decides (same_point a b) (a ≡ b)
-point_decides a b = grind (arith, Decides-like, Decides-and, same_decides, bytes_eq-Decides, slice_eq-Decides, hop_decides, mark_is, mark_itself)
+point_decides a b = grind (arith, same_decides, bytes_eq-Decides, slice_eq-Decides, eqb-true, eq-eqb)
 
 pub point_is : (a b : PointValue) → same_point a b ≡ true → a ≡ b
 point_is a b = (point_decides a b).0

@@ -1,19 +1,10 @@
 -- What is joined, by the kind of the collective and by the parts of a valid report.
-use Rattle.std.proofs.Common.{arith, ◌≡◌, List, [], ◌∷◌, append-nil, sym, ap, ◌∙◌}
-use Rattle.outer_ports.specs.declared.part.Part.{Part}
+use Rattle.std.proofs.Common.{arith, ◌≡◌, append-nil}
 use Rattle.outer_ports.specs.declared.part.Part.TheVariants as part
 use Rattle.collective_spec.specs.declared.kind.Kind.{Kind}
-use Rattle.collective_spec.specs.declared.kind.Kind.TheVariants as kind
-use Rattle.candidate_order.specs.Frontiers.{FrontierValue}
-use Rattle.allreduce_join.specs.Joins.{pairs_of}
 use Rattle.report_form.specs.Reports.{ReportValue, IsReport, parts_of}
-use Rattle.frontier_audit.{specs.{Denials.in_part, Joining.{joined_checked, joins_checked}, Parts.{is_gather, is_reduce, points_of}, inner.Steps.joins_of}, proofs.Jointly.{one_part, parts_are}}
-
-two_joined : (r : ReportValue) (f h : FrontierValue) (xs : List (Part × FrontierValue)) → xs ≡ (part.Reduce, f) ∷ (part.Gather, h) ∷ []
-    → in_part part.Joined (joins_checked r.topology.topology (pairs_of (points_of is_reduce xs) (points_of is_gather xs)) r.joined) ≡ joined_checked r xs
-two_joined r f h xs are = grind (arith, append-nil)
+use Rattle.frontier_audit.{specs.{Denials.in_part, Joining.{joined_checked}, inner.Steps.joins_of}, proofs.Jointly.{one_part, parts_are}}
 
 -- only an allreduce joins, the points of the one part with those of the other
 pub joined_by_kind : (k : Kind) (r : ReportValue) → r.words.collective.kind ≡ k → IsReport r → in_part part.Joined (joins_of k r) ≡ joined_checked r r.frontiers
-joined_by_kind kind.Allreduce r e ok = let parts = parts_are r ok e in two_joined r parts.reduce parts.gather r.frontiers parts.are
-joined_by_kind _ r e ok = let (f, are) = one_part r.frontiers (ok.parts ∙ ap parts_of e) in ap (joined_checked r) (sym are)
+joined_by_kind k r e ok = grind (arith, parts_are, one_part, append-nil, parts_of, joined_checked)

@@ -2,7 +2,7 @@
 use Rattle.std.proofs.Common.{◌≡◌, ℕ, suc, ◌+◌, ◌-◌, ◌<◌, ◌≤◌, List, [], ◌++◌, map, append_assoc, refl, sym, ap, ◌∙◌, subst, arith, ◌↔◌, flat_map, All, AllPairs, Contains}
 use Rattle.std.{proofs.lemmas.List.Elements.{All-contains, All-contains_itself, filter-append}, specs.List.range_with_len}
 use Rattle.collective_spec.specs.{declared.kind.Kind.Kind, Collectives.kind_in}
-use Rattle.candidate_order.{specs.{declared.candidate.Candidate.Candidate, Ranges.LimitsValue, Costs.Before, Listed.{IsListed, IsCount, candidate_at}, Frontiers.{QuestionValue, IsWithin}}, proofs.Unique.one_list_of_candidates}
+use Rattle.candidate_order.{specs.{declared.candidate.Candidate.Candidate, Ranges.LimitsValue, Costs.Before, Listed.{IsListed, IsCount, candidate_at}, Frontiers.{QuestionValue}}, proofs.Unique.one_list_of_candidates}
 use Rattle.candidate_formula.specs.Counts.{allowed_up_to, chunk_counts}
 use Rattle.send_encoding.proofs.Everywhere.{in_map, in_flat, From, in_range}
 use Rattle.frontier_audit.{specs.{Candidates.{candidates_within, in_search_order}, inner.Steps.{unrefuted_among, candidates_of_step}}, proofs.{InOrder.step_ascends, Tried.{all_ordered, counts_allowed, listed_contains, step_listed}}}
@@ -18,12 +18,9 @@ each_listed q s = all_ordered (IsListed q.limits.k s (chunk_counts q)) (candidat
     (λ r rounds. in_map (IsListed q.limits.k s (chunk_counts q)) (Contains (chunk_counts q)) (λ c. candidate_at s (r, c)) (chunk_counts q)
     (λ c has. record { steps = refl; all_rounds = rounds.0; rounds = omega (arith, rounds.1); chunks = has }) (All-contains_itself (chunk_counts q))) (in_range s (q.limits.k + 1)))
 
-listed_within : (q : QuestionValue) (s : ℕ) (x : Candidate) → 1 ≤ s → s ≤ q.limits.max_s → IsListed q.limits.k s (chunk_counts q) x → IsWithin q x
-listed_within q s x some few l = grind (arith, All-contains, counts_allowed)
-
 pub listed_step : (q : QuestionValue) (s : ℕ) (xs : List Candidate) → 1 ≤ s → s ≤ q.limits.max_s → ((x : Candidate) → Contains xs x ↔ IsListed q.limits.k s (chunk_counts q) x) → AllPairs Before xs → xs ≡ step_of q s
 listed_step q s xs some few members ascend = one_list_of_candidates xs (step_of q s) ascend (step_ascends q s) (λ x. (
-  λ has. let l = (members x).0 has in subst (λ n. Contains (step_of q n) x) l.steps (listed_contains (step_of q x.s) x (step_listed q x (listed_within q s x some few l))),
+  λ has. let l = (members x).0 has in subst (λ n. Contains (step_of q n) x) l.steps (listed_contains (step_of q x.s) x (step_listed q x (grind (arith, All-contains, counts_allowed)))),
   λ has. (members x).1 (All-contains (IsListed q.limits.k s (chunk_counts q)) (step_of q s) x (each_listed q s) has),
 ))
 

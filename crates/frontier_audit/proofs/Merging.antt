@@ -54,11 +54,10 @@ module _ {E : Type 0} (tells : Bool) (shelf : Files) where
         → AnswersBeside tells shelf (λ files. first files >>= (λ _. rest files)) d
     goes_on own d one two a b =
         let files : Files = merged own a.files b.files in
-        let passes : denial_of (first files) ≡ None = ap denial_of (one files a.files (is_own own a.files b.files)) ∙ sym a.is in
         record {
           files = files;
           told = λ t. merged_stays own shelf a.files b.files (a.told t) (b.told t);
-          is = b.is ∙ ap denial_of (sym (two files b.files (is_other own a.files b.files))) ∙ ap denial_of (sym (rest_decides (first files) (rest files) passes));
+          is = b.is ∙ ap denial_of (sym (two files b.files (is_other own a.files b.files))) ∙ ap denial_of (sym (rest_decides (first files) (rest files) (ap denial_of (one files a.files (is_own own a.files b.files)) ∙ sym a.is)));
         }
 
   -- after a check that looks at no file, and before one

@@ -1,7 +1,6 @@
 -- The joined points of an allreduce, pair by pair.
-use Rattle.std.proofs.lemmas.{Bool.Decides.nat_tests, Grind.common_steps}
 use Rattle.std.proofs.Common.{arith, ◌≡◌, ℕ, zero, suc, ◌+◌, ◌<◌, ◌≤◌, Bool, true, false, List, [], ◌∷◌, ◌++◌, length, map, take, drop, get_or, Option, None, Some, add-one, append_assoc, append-nil, refl, sym, ap, ◌∙◌, subst, ◌==◌, ◌&&◌, if◌then◌else◌, filter, slice_get}
-use Rattle.std.proofs.lemmas.{Bool.eq-eqb, List.{map-append, take-append-drop, take_more, take_all, Elements.filter-append}, Option.slice_get-get_or}
+use Rattle.std.proofs.lemmas.{Bool.{Decides.nat_tests, eq-eqb}, Grind.common_steps, List.{map-append, take-append-drop, take_more, take_all, Elements.filter-append}, Option.slice_get-get_or}
 use Rattle.schedule.specs.Links.{TopologyValue}
 use Rattle.collective_spec.specs.declared.kind.Kind.TheVariants as kind
 use Rattle.collective_spec.specs.Collectives.{chunks_of}
@@ -23,17 +22,9 @@ due_alike t a b p = go (same_point (join_of a b) p) refl
     sums : PointValue → Bool
     sums z = says_sums (joined_verdict_of t (chunks_of kind.Allreduce t.nodes z.candidate.c) z.schedule a.candidate.s)
 
-    with_true : (x : Bool) → x ≡ (x && true)
-    with_true true = refl
-    with_true false = refl
-
-    with_false : (x : Bool) → false ≡ (x && false)
-    with_false true = refl
-    with_false false = refl
-
     go : (s : Bool) → same_point (join_of a b) p ≡ s → (s && sums p) ≡ (is_join t (a, b) && s)
-    go true e = ap sums (sym (point_is (join_of a b) p e)) ∙ with_true (is_join t (a, b))
-    go false e = with_false (is_join t (a, b))
+    go true e = ap sums (sym (point_is (join_of a b) p e)) ∙ (grind arith)
+    go false e = grind arith
 
 module _ (t : TopologyValue) (a b : PointValue) (due : PointValue) (made : due ≡ join_of a b) (printed : Option PointValue) where
   module _ (p : PointValue) (there : printed ≡ Some p) (said : Bool) (is : said ≡ (same_point due p && says_sums (joined_verdict_of t (chunks_of kind.Allreduce t.nodes p.candidate.c) p.schedule a.candidate.s))) where
@@ -73,11 +64,7 @@ module _ (t : TopologyValue) (joined : List PointValue) where
   one_goes pair before e more = join_goes t pair more joined before (sym e) ∙ ap (λ n. joins_checked t more (drop n joined)) (sym (add-one before))
 
   pub say_then : (first second : Pairs) (before middle now : ℕ) (d : Option Denial) → JoinsSay t first joined before middle None → JoinsSay t second joined middle now d → JoinsSay t (first ++ second) joined before now d
-  say_then first second before middle now None a b = λ more. ap (λ ps. joins_checked t ps (drop before joined)) (append_assoc first second more) ∙ (a (second ++ more) ∙ b more)
-  say_then first second before middle now (Some d) a b = λ more. ap denial_of (ap (λ ps. joins_checked t ps (drop before joined)) (append_assoc first second more) ∙ a (second ++ more)) ∙ b more
-
-  pub say_stop : (first second : Pairs) (before middle now : ℕ) (d : Denial) → JoinsSay t first joined before middle (Some d) → JoinsSay t (first ++ second) joined before now (Some d)
-  say_stop first second before middle now d a more = ap (λ ps. denial_of (joins_checked t ps (drop before joined))) (append_assoc first second more) ∙ a (second ++ more)
+  say_then first second before middle now d a b = grind (arith, joins_checked, drop, append_assoc, denial_of)
 
 -- ---- pairs of two lists
 
@@ -97,14 +84,11 @@ module _ (t : TopologyValue) (joined : List PointValue) (f : List PointValue →
     up_to : take (i + 1) xs ≡ take i xs ++ x ∷ []
     up_to = take_more xs i x low ∙ ap (λ y. take i xs ++ y ∷ []) (sym is)
 
-    whole : xs ≡ (take i xs ++ x ∷ []) ++ drop (i + 1) xs
-    whole = sym (ap (λ ys. ys ++ drop (i + 1) xs) (sym up_to) ∙ take-append-drop (i + 1) xs)
-
     pub walk_goes : JoinsSay t (f (x ∷ [])) joined middle now None → JoinsSay t (f (take (i + 1) xs)) joined before now None
     walk_goes a = subst (λ ps. JoinsSay t ps joined before now None) (sym (adds (take i xs) (x ∷ [])) ∙ ap f (sym up_to)) (say_then t joined (f (take i xs)) (f (x ∷ [])) before middle now None so_far a)
 
     pub walk_stops : (d : Denial) → JoinsSay t (f (x ∷ [])) joined middle now (Some d) → JoinsSay t (f xs) joined before now (Some d)
-    walk_stops d a = grind (arith, nat_tests, common_steps, say_then, whole, say_stop)
+    walk_stops d a = grind (arith, nat_tests, common_steps, say_then, sym (ap (λ ys. ys ++ drop (i + 1) xs) (sym up_to) ∙ take-append-drop (i + 1) xs))
 
   pub walk_ends : (before now : ℕ) → length xs ≤ i → JoinsSay t (f (take i xs)) joined before now None → JoinsSay t (f xs) joined before now None
   walk_ends before now past a = subst (λ ys. JoinsSay t (f ys) joined before now None) (take_all i xs past) a

@@ -1,11 +1,7 @@
 -- The checks of a part, one after the other, and of the parts.
-use Rattle.std.proofs.{Common.{arith, ◌≡◌, ℕ, ◌<◌, Bool, true, List, [], ◌∷◌, length, map, get_or, Option, None, Some, Ok, Err, refl, sym, ap, ◌∙◌, subst, ◌==◌, not, AllPairs, Contains, IsTrue}, Math.ListN.get_or-map}
-use Rattle.std.proofs.lemmas.List.{length-map, Elements.{All-nil, All-cons}, Kept.AllPairs-cons}
+use Rattle.std.proofs.{Common.{arith, ◌≡◌, ℕ, ◌<◌, Bool, true, List, length, map, get_or, Option, None, Some, refl, sym, ap, ◌∙◌, subst, ◌==◌, not, AllPairs, Contains, IsTrue}, Math.ListN.get_or-map, lemmas.List.length-map}
 use Rattle.text_lines.specs.Check.{◌>>=◌}
 use Rattle.outer_ports.specs.{declared.{part.Part.Part, proof_name.{FileKind.TheVariants.Partial, ProofName.ProofName}}, Files.{Files, kind_number, part_number}, Port.Tells, Shelf.FilesStay}
-use Rattle.outer_ports.specs.declared.part.Part.TheVariants as part
-use Rattle.collective_spec.specs.declared.kind.Kind.{Kind}
-use Rattle.collective_spec.specs.declared.kind.Kind.TheVariants as kind
 use Rattle.candidate_order.specs.Frontiers.{QuestionValue, FrontierValue}
 use Rattle.report_form.specs.Reports.{ReportValue, IsReport, IsFrontier, parts_of, question_of}
 use Rattle.send_encoding.proofs.Orders.{one_pairs}
@@ -32,8 +28,7 @@ module _ (p : Part) (q : QuestionValue) (f : FrontierValue) where
   behind_points files = refuted files >>= (λ _. unknown files >>= (λ _. answers_checked q f))
 
   looks_files : (own : ProofName → Bool) → LooksAt own refuted → LooksAt own unknown → LooksAt own (λ files. frontier_checked p q files f)
-  looks_files own a b =
-      looks_then own (λ files. points) behind_points (λ g h s. refl) (looks_then own refuted (λ files. unknown files >>= (λ _. answers_checked q f)) a (looks_then own unknown (λ files. answers_checked q f) b (λ g h s. refl)))
+  looks_files own a b = grind (arith, looks_then)
 
   looks_formulas : (own : ProofName → Bool) → ((name : ProofName) → name.part ≡ p → of_refuted name ≡ true → own name ≡ true) → LooksAt own refuted
   looks_formulas own has = looks_each own (refuted_checked p q) f.refuted (λ k d low. looks_refuted own p q (get_or f.refuted k d) (has _ refl refl) (has _ refl refl))
@@ -76,19 +71,9 @@ looks_at_part own r x has f g same =
     let q = question_of r.words r.topology x.0 in
     ap (in_part x.0) (looks_files x.0 q x.1 own (looks_formulas x.0 q x.1 own (λ name here _. has name here)) (looks_logs x.0 q x.1 own (λ name here _. has name here)) f g same)
 
-same_number : (p : Part) → (part_number p == part_number p) ≡ true
-same_number part.Whole = refl
-same_number part.Reduce = refl
-same_number part.Gather = refl
-same_number part.Joined = refl
-
 -- the parts of a report are different ones
 abbrev PartsApart : Part → Part → Type 0
 PartsApart a b = not (part_number b == part_number a) ≡ true
-
-kinds_apart : (k : Kind) → AllPairs PartsApart (parts_of k)
-kinds_apart kind.Allreduce = AllPairs-cons PartsApart part.Reduce (part.Gather ∷ []) (All-cons (PartsApart part.Reduce) part.Gather [] refl (All-nil (PartsApart part.Reduce))) (one_pairs PartsApart part.Gather)
-kinds_apart _ = one_pairs PartsApart part.Whole
 
 -- what holds of each pair of names holds of what they name
 pub unnamed_pairs : {X Y : Type 0} (R : Y → Y → Type 0) (f : X → Y) (xs : List X) → AllPairs R (map f xs) → AllPairs (λ a b. R (f a) (f b)) xs
@@ -97,12 +82,12 @@ unnamed_pairs R f xs all i j d before within = grind (arith, all i j (f d) befor
 pub separate_parts : (r : ReportValue) → IsReport r → Separate (part_checked r) r.frontiers
 separate_parts r ok = record {
   own = λ x. is_in x.0;
-  looks = λ x. looks_at_part (is_in x.0) r x (λ name e. ap (λ p. part_number p == part_number x.0) e ∙ same_number x.0);
+  looks = λ x. looks_at_part (is_in x.0) r x (λ name e. ap (λ p. part_number p == part_number x.0) e ∙ (grind arith));
   apart = λ i j d below low. looks_at_part _ r _ (λ name e. ap (λ p. not (part_number p == part_number (get_or r.frontiers i d).0)) e ∙ parts_differ i j d below low);
 }
   where
     parts_differ : AllPairs (λ x y. PartsApart x.0 y.0) r.frontiers
-    parts_differ = unnamed_pairs PartsApart (λ x. x.0) r.frontiers (subst (AllPairs PartsApart) (sym ok.parts) (kinds_apart r.words.collective.kind))
+    parts_differ = unnamed_pairs PartsApart (λ x. x.0) r.frontiers (subst (AllPairs PartsApart) (sym ok.parts) (grind (arith, one_pairs)))
 
 -- ---- a part at its place
 
@@ -130,8 +115,7 @@ named_in p None = None
 named_in p (Some d) = Some (p, d)
 
 pub named_denial : (p : Part) (checked : Checked Denial) → named_in p (denial_of checked) ≡ denial_of (in_part p checked)
-named_denial p (Ok u) = refl
-named_denial p (Err d) = refl
+named_denial p checked = grind arith
 
 pub in_report : {tells : Bool} {shelf : Files} (r : ReportValue) (x : Part × FrontierValue) {q : QuestionValue} {d : Option Denial} → q ≡ question_of r.words r.topology x.0 → AnswersBeside tells shelf (λ files. frontier_checked x.0 q files x.1) d
     → AnswersBeside tells shelf (λ files. part_checked r files x) (named_in x.0 d)

@@ -1,5 +1,5 @@
 -- Where checks pass.
-use Rattle.std.proofs.{Common.{◌≡◌, Bool, true, false, List, [], ◌∷◌, Ok, Err, refl, All, not}, lemmas.List.Elements.{All-nil, All-cons, All-head, All-tail}}
+use Rattle.std.proofs.{Common.{arith, ◌≡◌, Bool, true, List, [], ◌∷◌, Ok, refl, All, not}, lemmas.List.Elements.{All-nil, All-cons, All-head, All-tail}}
 use Rattle.text_lines.{specs.Check.{◌>>=◌, refuse}, proofs.Checks.bind_ok}
 use Rattle.outer_ports.specs.declared.part.Part.{Part}
 use Rattle.frontier_audit.specs.{declared.verdict.AuditVerdict.TheVariants.Verified, Denials.{Denial, Checked, each, in_part, verdict_from}}
@@ -9,8 +9,7 @@ pub then_ok : {E : Type 0} (first rest : Checked E) → (first >>= (λ _. rest))
 then_ok {E} first rest e = let (u, head, tail) = bind_ok first (λ _. rest) tt e in (head, tail)
 
 pub ok_then : {E : Type 0} (first rest : Checked E) → first ≡ Ok tt → rest ≡ Ok tt → (first >>= (λ _. rest)) ≡ Ok tt
-ok_then (Ok u) rest a b = b
-ok_then (Err x) rest a b = absurd (cc)
+ok_then {E} first rest a b = grind arith
 
 pub each_ok : {X E : Type 0} (check : X → Checked E) (xs : List X) → each check xs ≡ Ok tt → All (λ x. check x ≡ Ok tt) xs
 each_ok check [] e = All-nil (λ x. check x ≡ Ok tt)
@@ -21,25 +20,19 @@ ok_each check [] a = refl
 ok_each check (x ∷ xs) a = ok_then (check x) (each check xs) (All-head (λ y. check y ≡ Ok tt) x xs a) (ok_each check xs (All-tail (λ y. check y ≡ Ok tt) x xs a))
 
 pub refused_not : {C : Type 0} (b : Bool) (code : C) → refuse (not b) code ≡ Ok tt → b ≡ true
-refused_not true code e = refl
-refused_not false code e = absurd (cc)
+refused_not {C} b code e = grind arith
 
 pub not_refused : {C : Type 0} (b : Bool) (code : C) → b ≡ true → refuse (not b) code ≡ Ok tt
-not_refused true code e = refl
-not_refused false code e = absurd (cc)
+not_refused {C} b code e = grind arith
 
 pub in_part_ok : (part : Part) (checked : Checked Denial) → in_part part checked ≡ Ok tt → checked ≡ Ok tt
-in_part_ok part (Ok u) e = refl
-in_part_ok part (Err denial) e = absurd (cc)
+in_part_ok part checked e = grind arith
 
 pub ok_in_part : (part : Part) (checked : Checked Denial) → checked ≡ Ok tt → in_part part checked ≡ Ok tt
-ok_in_part part (Ok u) e = refl
-ok_in_part part (Err denial) e = absurd (cc)
+ok_in_part part checked e = grind arith
 
 pub verified_ok : (checked : Checked (Part × Denial)) → verdict_from checked ≡ Verified → checked ≡ Ok tt
-verified_ok (Ok u) e = refl
-verified_ok (Err x) e = absurd (cc)
+verified_ok checked e = grind arith
 
 pub ok_verified : (checked : Checked (Part × Denial)) → checked ≡ Ok tt → verdict_from checked ≡ Verified
-ok_verified (Ok u) e = refl
-ok_verified (Err x) e = absurd (cc)
+ok_verified checked e = grind arith

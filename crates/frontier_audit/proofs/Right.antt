@@ -1,20 +1,17 @@
 -- An audit finds nothing to deny exactly where the frontiers, the files and the joined points are right.
-use Rattle.std.proofs.{lemmas.{Bool.Decides.nat_tests, Grind.common_steps}, Common.{arith, ◌≡◌, true, [], get_or, Option, None, Some, Ok, refl, sym, ◌∙◌, ◌≢◌, All, Contains}}
-use Rattle.std.proofs.lemmas.List.Elements.{All-nil, All-cons, All-contains, All-contains_itself}
+use Rattle.std.proofs.{lemmas.{Bool.Decides.nat_tests, Grind.common_steps, List.Elements.{All-contains, All-contains_itself}}, Common.{arith, ◌≡◌, true, get_or, Option, None, Ok, refl, sym, ◌∙◌, ◌≢◌, All, Contains}}
 use Rattle.outer_ports.specs.{declared.part.Part.Part, Files.Files}
 use Rattle.outer_ports.specs.declared.part.Part.TheVariants as part
 use Rattle.collective_spec.specs.{Collectives.{kind_in, spec_of, fits_kind}, declared.{collective.Collective.Collective, kind.Kind.Kind}, Patterns.PatternValue}
-use Rattle.collective_spec.specs.declared.spec.Spec.TheVariants as spec
 use Rattle.collective_spec.specs.declared.kind.Kind.TheVariants as kind
 use Rattle.candidate_order.specs.Frontiers.{QuestionValue, FrontierValue, IsSolvable, IsPoint, RightFrontier}
 use Rattle.allreduce_join.specs.Joins.{Joins, pairs_of}
 use Rattle.report_form.specs.Reports.{ReportValue, IsReport, IsFrontier, parts_of, kind_of, question_of}
 use Rattle.round_encoding.proofs.Obeyed.{all_map}
-use Rattle.frontier_audit.specs.{declared.verdict.{AuditVerdict.TheVariants.Verified, Reason.TheVariants.{ScheduleWrong, MarkWrong, CandidateMissing}}, Shelves.{PartRight, ShelfRight}, Candidates.candidates_within}
-use Rattle.frontier_audit.specs.{Solutions.{is_solution, is_optimal}, Auditing.audit_of, Joining.{IsSummable, joins_checked, joined_checked}, Parts.{is_reduce, is_gather, points_of}, inner.Steps.{is_answered, is_mark, joins_of}}
-use Rattle.frontier_audit.proofs.{Passing.{refused_not, not_refused, in_part_ok, ok_in_part}, Beside.passes_log, CutAway.passes_refuted, Shelves.question, Audited.{Passes, PartPasses, report_passes, report_passed}}
-use Rattle.frontier_audit.proofs.{Tried.{listed_contains, within_listed, each_within}, Marked.{answered_decides, optimal_decides, mark_by, by_mark}, Solved.{solved_by, by_solution}, JoinedParts.joined_by_kind}
-use Rattle.frontier_audit.proofs.Joined.{are_joined, joined_are}
+use Rattle.frontier_audit.{specs.declared.verdict.{AuditVerdict.TheVariants.Verified, Reason.TheVariants.{ScheduleWrong, MarkWrong, CandidateMissing}}, proofs.{Marked.{answered_decides, optimal_decides, mark_by, by_mark}, Shelves.question}}
+use Rattle.frontier_audit.{proofs.{Passing.{refused_not, not_refused, in_part_ok, ok_in_part}, Audited.{Passes, PartPasses, report_passes, report_passed}, CutAway.passes_refuted}, specs.Joining.{IsSummable, joins_checked, joined_checked}}
+use Rattle.frontier_audit.{proofs.Tried.{listed_contains, within_listed, each_within}, specs.{inner.Steps.{is_answered, is_mark, joins_of}, Parts.{is_reduce, is_gather, points_of}, Solutions.{is_solution, is_optimal}, Auditing.audit_of}}
+use Rattle.frontier_audit.{specs.{Shelves.{PartRight, ShelfRight}, Candidates.candidates_within}, proofs.{Solved.{solved_by, by_solution}, Joined.{are_joined, joined_are}, JoinedParts.joined_by_kind, Beside.passes_log}}
 
 -- ---- a part
 
@@ -52,8 +49,7 @@ part_passes part q files f right shelf = record {
 -- ---- no part is an allreduce
 
 pub apart : (k : Kind) → All (λ x. kind_of k x ≢ kind.Allreduce) (parts_of k)
-apart kind.Allreduce = grind (arith, All-cons, All-nil)
-apart k = All-cons (λ x. kind_of k x ≢ kind.Allreduce) part.Whole [] (λ e. absurd (cc)) (All-nil (λ x. kind_of k x ≢ kind.Allreduce))
+apart k = grind arith
 
 pub each_apart : (r : ReportValue) → IsReport r → All (λ x. kind_of r.words.collective.kind x.0 ≢ kind.Allreduce) r.frontiers
 each_apart r ok = grind (arith, nat_tests, common_steps, all_map, apart)
@@ -62,13 +58,11 @@ each_apart r ok = grind (arith, nat_tests, common_steps, all_map, apart)
 
 -- a pattern is no allreduce
 pub apart_in : (c : Collective) (o : Option PatternValue) → c.kind ≢ kind.Allreduce → kind_in (spec_of c o) ≢ kind.Allreduce
-apart_in c None apart e = apart e
-apart_in c (Some p) apart e = absurd (cc)
+apart_in c o apart = grind (arith, apart)
 
 -- an allreduce has no pattern
 pub unpatterned : (o : Option PatternValue) → fits_kind kind.Allreduce o ≡ true → o ≡ None
-unpatterned None e = refl
-unpatterned (Some p) e = absurd (cc)
+unpatterned o e = grind arith
 
 pub verified_right : (r : ReportValue) (files : Files) → IsReport r → audit_of r files ≡ Verified → (part : Part) (f : FrontierValue) → Contains r.frontiers (part, f) → All (λ x. IsSolvable (question r part) x → ⊥) f.refuted → RightFrontier (question r part) f
 verified_right r files ok e part f at unsolvable =
@@ -90,13 +84,9 @@ only_then r ok same e =
 pub verified_joins : (r : ReportValue) (files : Files) → IsReport r → audit_of r files ≡ Verified → r.words.collective.kind ≡ kind.Allreduce → JoinsOf r
 verified_joins r files ok e same = grind (arith, are_joined, joinable, only_then, report_passes)
 
-joins_pass : (k : Kind) (r : ReportValue) → (k ≡ kind.Allreduce → joins_checked r.topology.topology (pairs_of (points_of is_reduce r.frontiers) (points_of is_gather r.frontiers)) r.joined ≡ Ok tt) → joins_of k r ≡ Ok tt
-joins_pass kind.Allreduce r h = h refl
-joins_pass _ r h = refl
-
 joined_passes : (r : ReportValue) → IsReport r → (r.words.collective.kind ≡ kind.Allreduce → joins_checked r.topology.topology (pairs_of (points_of is_reduce r.frontiers) (points_of is_gather r.frontiers)) r.joined ≡ Ok tt) → joined_checked r r.frontiers ≡ Ok tt
 joined_passes r ok h =
-    sym (joined_by_kind r.words.collective.kind r refl ok) ∙ ok_in_part part.Joined (joins_of r.words.collective.kind r) (joins_pass r.words.collective.kind r h)
+    sym (joined_by_kind r.words.collective.kind r refl ok) ∙ ok_in_part part.Joined (joins_of r.words.collective.kind r) (grind arith)
 
 pub right_verified : (r : ReportValue) (files : Files) → IsReport r → ShelfRight r files → ((part : Part) (f : FrontierValue) → Contains r.frontiers (part, f) → RightFrontier (question r part) f) → (r.words.collective.kind ≡ kind.Allreduce → JoinsOf r) → audit_of r files ≡ Verified
 right_verified r files ok shelf right joins =

@@ -29,8 +29,7 @@ of_text name = kind_number name.kind == kind_number Cnf
 module _ (part : Part) (q : QuestionValue) (x : Candidate) {f : FormulaValue} (is : f ≡ formula_for q x) {one : ProofName} (at : one ≡ file_of Cnf part x) {told : Bool} {shelf : Files} {a : Option Denial}
     (text : AnswersBeside told shelf (λ files. judged (file_verdict (is_text_of f) (files one)) CnfDiffers x) a) where
   of_candidate : AnswersBeside told shelf (text_checked part q x) a
-  of_candidate = subst (λ g. AnswersBeside told shelf (λ files. judged (file_verdict (is_text_of g) (files (file_of Cnf part x))) CnfDiffers x) a) is
-      (subst (λ n. AnswersBeside told shelf (λ files. judged (file_verdict (is_text_of f) (files n)) CnfDiffers x) a) at text)
+  of_candidate = grind (arith, is_text_of)
 
   pub text_denies : (d : Denial) → a ≡ Some d → AnswersBeside told shelf (λ files. refutation_checked part q files x) (Some d)
   text_denies d e = reads_as (by_verdicts part q x) (stops told shelf (text_checked part q x) (proof_checked part q x) d (subst (AnswersBeside told shelf (text_checked part q x)) e of_candidate))

@@ -1,7 +1,6 @@
 -- The check of a point's schedule passes exactly where it solves, or sums.
-use Rattle.std.proofs.Common.{arith, ◌≡◌, ℕ, Bool, true, false, length, sum, refl, ap, if◌then◌else◌}
-use Rattle.schedule.{specs.{declared.verdict.Verdict.Verdict, Links.TopologyValue, Placed.PlacementValue, Sends.ScheduleValue, Solving.Solves, Summing.Sums, Judging.verdict_of}, proofs.Verdicts.tells_solves}
-use Rattle.schedule.specs.declared.verdict.Verdict.TheVariants as verdict
+use Rattle.std.proofs.Common.{arith, ◌≡◌, Bool, true, if◌then◌else◌}
+use Rattle.schedule.{specs.{Judging.verdict_of}, proofs.Verdicts.tells_solves}
 use Rattle.inversion.{specs.{declared.verdict.SumVerdict.SumVerdict, Judging.sum_verdict_of, Saying.{says_solves, says_sums}}, proofs.Told.sums_exactly}
 use Rattle.inversion.specs.declared.verdict.SumVerdict.TheVariants as sums
 use Rattle.collective_spec.specs.Collectives.{adds_up}
@@ -9,40 +8,18 @@ use Rattle.candidate_order.specs.Frontiers.{QuestionValue, PointValue, IsSolvedB
 use Rattle.report_form.specs.Reports.{HasSchedule}
 use Rattle.frontier_audit.specs.Solutions.{is_solution}
 
-solves_said : (v : Verdict) → says_solves v ≡ true → v ≡ verdict.Solves
-solves_said verdict.Solves e = refl
-solves_said _ e = absurd (cc)
-
 pub sums_said : (v : SumVerdict) → says_sums v ≡ true → v ≡ sums.Sums
-sums_said sums.Sums e = refl
-sums_said _ e = absurd (cc)
-
-solves_by : (t : TopologyValue) (pre post : PlacementValue) (s : ScheduleValue) (n r : ℕ) → length s.rounds ≡ n → sum s.rounds ≡ r → says_solves (verdict_of t pre post s) ≡ true → Solves t pre post s n r
-solves_by t pre post s n r steps rounds e = grind (arith, tells_solves, solves_said)
-
-by_solving : (t : TopologyValue) (pre post : PlacementValue) (s : ScheduleValue) (n r : ℕ) → Solves t pre post s n r → says_solves (verdict_of t pre post s) ≡ true
-by_solving t pre post s n r h = ap says_solves ((tells_solves t pre post s (verdict_of t pre post s) refl).1 (record { steps_are = refl; rounds_are = refl; fits = h.fits; delivers = h.delivers }))
-
-sums_by : (t : TopologyValue) (demand : PlacementValue) (s : ScheduleValue) (n r : ℕ) → length s.rounds ≡ n → sum s.rounds ≡ r → says_sums (sum_verdict_of t demand s) ≡ true → Sums t demand s n r
-sums_by t demand s n r steps rounds e = grind (arith, sums_exactly, sums_said)
-
-by_summing : (t : TopologyValue) (demand : PlacementValue) (s : ScheduleValue) (n r : ℕ) → Sums t demand s n r → says_sums (sum_verdict_of t demand s) ≡ true
-by_summing t demand s n r h = ap says_sums ((sums_exactly t demand s).1 (record { steps_are = refl; rounds_are = refl; fits = h.fits; sums = h.sums }))
+sums_said v e = grind arith
 
 module _ (q : QuestionValue) (p : PointValue) where
   abbrev judged : Bool → Bool
   judged b = if b then says_sums (sum_verdict_of q.topology (demand_for q p.candidate) p.schedule) else says_solves (verdict_of q.topology (instance_for q p.candidate).pre (instance_for q p.candidate).post p.schedule)
 
   achieves_by : HasSchedule q p → (b : Bool) → judged b ≡ true → Achieves b q p.candidate p.schedule
-  achieves_by h true e = sums_by q.topology (demand_for q p.candidate) p.schedule p.candidate.s p.candidate.r h.steps h.rounds e
-  achieves_by h false e = solves_by q.topology (instance_for q p.candidate).pre (instance_for q p.candidate).post p.schedule p.candidate.s p.candidate.r h.steps h.rounds e
-
-  by_achieving : (b : Bool) → Achieves b q p.candidate p.schedule → judged b ≡ true
-  by_achieving true a = by_summing q.topology (demand_for q p.candidate) p.schedule p.candidate.s p.candidate.r a
-  by_achieving false a = by_solving q.topology (instance_for q p.candidate).pre (instance_for q p.candidate).post p.schedule p.candidate.s p.candidate.r a
+  achieves_by h b e = grind (arith, tells_solves, sums_exactly, sums_said)
 
   pub solved_by : HasSchedule q p → is_solution q p ≡ true → IsSolvedBy q p.candidate p.schedule
   solved_by h e = record { valid = h.schedule; in_range = h.in_range; achieves = achieves_by h (adds_up q.spec) e }
 
   pub by_solution : IsSolvedBy q p.candidate p.schedule → is_solution q p ≡ true
-  by_solution h = by_achieving (adds_up q.spec) h.achieves
+  by_solution h = grind (arith, tells_solves, sums_exactly)

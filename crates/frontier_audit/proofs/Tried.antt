@@ -1,6 +1,6 @@
 -- The candidates of a search are just those within the limits.
-use Rattle.std.proofs.Common.{◌≡◌, ℕ, zero, suc, ◌+◌, ◌<◌, ◌≤◌, Bool, true, false, List, [], ◌∷◌, map, Decides, refl, sym, ap, ◌∙◌, ⊎_elim, arith, ◌||◌, ◌↔◌, if◌then◌else◌, filter, nat_le, All, Contains}
-use Rattle.std.proofs.lemmas.{Bool.{and_parts, cases_eq, or_left, or_right, leb-true, Decides.{Decides-and, Decides-eqb, Decides-like, same_from_decides}}, List.Elements.{All-nil, All-cons, All-head, All-tail, All-contains}}
+use Rattle.std.proofs.Common.{◌≡◌, ℕ, zero, suc, ◌+◌, ◌<◌, ◌≤◌, Bool, true, List, [], ◌∷◌, map, Decides, refl, ap, ◌∙◌, arith, ◌||◌, ◌↔◌, filter, nat_le, All, Contains}
+use Rattle.std.proofs.lemmas.{Bool.{and_parts, cases_eq, or_left, or_right, leb-true, Decides.{Decides-and, Decides-eqb, Decides-like}}, List.Elements.{All-nil, All-cons, All-head, All-tail, All-contains}}
 use Rattle.std.{proofs.lemmas.List.Folds.{list_any_at, Any-from_list_any}, specs.List.{list_any, range_with_len}}
 use Rattle.collective_spec.specs.{Kinds.allows, Collectives.kind_in}
 use Rattle.candidate_order.specs.{declared.candidate.Candidate.Candidate, Listed.candidate_at, Frontiers.{QuestionValue, IsWithin}}
@@ -19,13 +19,9 @@ same_is a b = (same_decides a b).0
 pub same_itself : (a : Candidate) → same_candidate a a ≡ true
 same_itself a = (same_decides a a).1 refl
 
-same_turned : (a b : Candidate) → same_candidate a b ≡ same_candidate b a
-same_turned a b = same_from_decides (same_candidate a b) (same_candidate b a) (same_decides a b) (Decides-like (same_candidate b a) (λ e. sym e) (λ e. sym e) (same_decides b a))
-
 -- a test for the same candidate as each in the list
 pub listed_by : (test : Candidate → Bool) (x : Candidate) (xs : List Candidate) → ((y : Candidate) → test y ≡ same_candidate y x) → list_any test xs ≡ is_listed xs x
-listed_by test x [] is = refl
-listed_by test x (y ∷ ys) is = ap (λ b. b || list_any test ys) (is y ∙ same_turned y x) ∙ ap (λ b. same_candidate x y || b) (listed_by test x ys is)
+listed_by test x xs is = grind arith
 
 pub listed_contains : (xs : List Candidate) (x : Candidate) → is_listed xs x ≡ true → Contains xs x
 listed_contains xs x e = grind (arith, Any-from_list_any, same_is)
@@ -35,14 +31,9 @@ contains_listed xs x (k, low, at) = list_any_at (same_candidate x) xs k x low (a
 
 -- ---- a search's order leaves the same candidates
 
-swapped : (a b c : Bool) → (a || (b || c)) ≡ (b || (a || c))
-swapped true true c = refl
-swapped true false c = refl
-swapped false b c = refl
-
 any_put : (p : Candidate → Bool) (x : Candidate) (ys : List Candidate) → list_any p (put_in_order x ys) ≡ (p x || list_any p ys)
 any_put p x [] = refl
-any_put p x (y ∷ ys) = grind (arith, swapped, any_put p x ys)
+any_put p x (y ∷ ys) = grind (arith, any_put p x ys)
 
 any_ordered : (p : Candidate → Bool) (xs : List Candidate) → list_any p (in_search_order xs) ≡ list_any p xs
 any_ordered p [] = refl
@@ -77,21 +68,7 @@ each_within q = in_flat (IsWithin q) (From 1 q.limits.max_s) (λ s. in_search_or
 
 any_passing : {X : Type 0} (p : X → Bool) (g : ℕ → X) (keep : ℕ → Bool) (a n j : ℕ) → a ≤ j → j < a + n → keep j ≡ true → p (g j) ≡ true → list_any p (map g (filter keep (range_with_len a n))) ≡ true
 any_passing p g keep a zero j low high k h = absurd (omega (arith, low, high))
-any_passing p g keep a (suc n) j low high k h = ⊎_elim
-    (λ (e : a ≡ j). first (keep a) (ap keep e ∙ k) (ap (λ i. p (g i)) e ∙ h))
-    (λ ne. later (keep a) (any_passing p g keep (a + 1) n j (omega (arith, low, ne)) (omega (arith, high)) k h))
-    (cases_eq a j)
-  where
-    others : List ℕ
-    others = filter keep (range_with_len (a + 1) n)
-
-    first : (b : Bool) → b ≡ true → p (g a) ≡ true → list_any p (map g (if b then a ∷ others else others)) ≡ true
-    first true e d = or_left (p (g a)) (list_any p (map g others)) d
-    first false e d = absurd (cc)
-
-    later : (b : Bool) → list_any p (map g others) ≡ true → list_any p (map g (if b then a ∷ others else others)) ≡ true
-    later true d = or_right (p (g a)) (list_any p (map g others)) d
-    later false d = d
+any_passing p g keep a (suc n) j low high k h = grind (arith, cases_eq, or_left, or_right, any_passing p g keep (a + 1) n j)
 
 pub step_listed : (q : QuestionValue) (x : Candidate) → IsWithin q x → is_listed (in_search_order (candidates_of_step q x.s)) x ≡ true
 step_listed q x w =

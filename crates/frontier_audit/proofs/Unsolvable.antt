@@ -1,7 +1,6 @@
 -- A refuted candidate has no solution, since its formula is satisfiable where it has one.
-use Rattle.std.proofs.{Common.{◌≡◌, ◌≢◌, Bool, true, false, [], get_or, Option, None, Some, refl, sym, subst, arith, ◌↔◌, All, Contains}, lemmas.List.Elements.{All-nil, All-cons, All-contains, All-contains_itself}}
+use Rattle.std.proofs.{Common.{◌≡◌, ◌≢◌, Bool, true, false, get_or, Option, refl, sym, subst, arith, ◌↔◌, All, Contains}, lemmas.List.Elements.{All-contains, All-contains_itself}}
 use Rattle.outer_ports.specs.{declared.part.Part.Part, Files.Files}
-use Rattle.outer_ports.specs.declared.part.Part.TheVariants as part
 use Rattle.schedule.{specs.Links.{IsTopology, reversed_of}, proofs.Turned.turned_topology}
 use Rattle.collective_spec.{specs.{declared.kind.Kind.Kind, Patterns.PatternValue, Collectives.{IsSpec, adds_up, fits_kind, kind_in}}, proofs.{Sized.{before_among, after_among, fitting_spec}, Chunks.{chunks_some, few_base, chunks_few}}}
 use Rattle.collective_spec.specs.declared.kind.Kind.TheVariants as kind
@@ -19,9 +18,7 @@ use Rattle.candidate_formula.{specs.{Formulas.formula_for, Pruned.is_cut_away}, 
 
 -- a part has a pattern where the whole has one
 pub parts_fit : (k : Kind) (c : Option PatternValue) → fits_kind k c ≡ true → All (λ x. fits_kind (kind_of k x) c ≡ true) (parts_of k)
-parts_fit kind.Allreduce None e = grind (arith, All-cons, All-nil)
-parts_fit kind.Allreduce (Some p) e = absurd (cc)
-parts_fit k c e = All-cons (λ x. fits_kind (kind_of k x) c ≡ true) part.Whole [] e (All-nil (λ x. fits_kind (kind_of k x) c ≡ true))
+parts_fit k c e = grind arith
 
 spec_is : (r : ReportValue) (part : Part) (f : FrontierValue) → IsReport r → Contains r.frontiers (part, f) → IsSpec r.topology.topology.nodes (question r part).spec
 spec_is r part f ok at = grind (arith, all_map, parts_fit, All-contains, fitting_spec)
@@ -56,8 +53,7 @@ module _ (q : QuestionValue) (x : Candidate) (topology : IsTopology q.topology) 
 
 -- one or the other
 by_either : (b : Bool) → (b ≡ true → ⊥) → (b ≡ false → ⊥) → ⊥
-by_either true on off = on refl
-by_either false on off = off refl
+by_either b on off = grind arith
 
 module _ (r : ReportValue) (part : Part) (f : FrontierValue) (x : Candidate) (ok : IsReport r) (at : Contains r.frontiers (part, f)) (of : Contains f.refuted x) where
   alone : kind_in (question r part).spec ≢ kind.Allreduce
@@ -66,8 +62,7 @@ module _ (r : ReportValue) (part : Part) (f : FrontierValue) (x : Candidate) (ok
   formula_is_exact : Satisfiable (formula_for (question r part) x) ↔ IsSolvable (question r part) x
   formula_is_exact =
       let frontier = All-contains (λ y. IsFrontier (question_of r.words r.topology y.0) y.1) r.frontiers (part, f) ok.frontiers at in
-      let within = All-contains (IsWithin (question r part)) f.refuted x frontier.refuted of in
-      exactly_solved (question r part) x ok.topology.topology (spec_is r part f ok at) alone ok.words.limits within
+      exactly_solved (question r part) x ok.topology.topology (spec_is r part f ok at) alone ok.words.limits (All-contains (IsWithin (question r part)) f.refuted x frontier.refuted of)
 
 -- what is cut away has no solution, and the formula of another has a proof beside it
 pub no_solution : (r : ReportValue) (files : Files) (part : Part) (f : FrontierValue) (x : Candidate) → IsReport r → ShelfRight r files → Contains r.frontiers (part, f) → Contains f.refuted x → IsSolvable (question r part) x → ⊥

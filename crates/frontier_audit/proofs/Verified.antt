@@ -1,26 +1,21 @@
 -- What a verified report says, and the verdict on a report from the answers of its checks.
-use Rattle.std.proofs.{Common.{arith, ◌≡◌, Bool, List, [], ◌∷◌, get_or, Option, None, Some, Ok, Err, append-nil, refl, sym, ap, ◌∙◌, subst, IsTrue}, lemmas.List.Elements.All-contains_itself}
+use Rattle.std.proofs.{Common.{arith, ◌≡◌, Bool, get_or, Option, None, Some, append-nil, refl, sym, subst, IsTrue}, lemmas.List.Elements.All-contains_itself}
 use Rattle.outer_ports.specs.{declared.part.Part.Part, Files.Files}
 use Rattle.outer_ports.specs.declared.part.Part.TheVariants as part
 use Rattle.collective_spec.specs.declared.kind.Kind.{Kind}
 use Rattle.collective_spec.specs.declared.kind.Kind.TheVariants as kind
-use Rattle.candidate_order.specs.Frontiers.{FrontierValue}
 use Rattle.allreduce_join.specs.Joins.{Joins}
 use Rattle.report_form.specs.Reports.{ReportValue, IsReport, parts_of, question_of}
 use Rattle.candidate_formula.specs.Formulas.{formula_for}
 use Rattle.proof_audit.specs.Files.{HasSpentLog}
-use Rattle.frontier_audit.specs.{declared.verdict.AuditVerdict.{AuditVerdict, TheVariants.{Verified, Denied}}, Denials.{Denial, Checked, verdict_from}, Joining.joined_checked, Parts.{is_gather, is_reduce, points_of}, Auditing.audit_of}
+use Rattle.frontier_audit.specs.{declared.verdict.AuditVerdict.{AuditVerdict, TheVariants.{Verified, Denied}}, Denials.{Denial}, Joining.joined_checked, Parts.{is_gather, is_reduce, points_of}, Auditing.audit_of}
 use Rattle.frontier_audit.specs.{Rights.{AreJoined, HasLogs, IsRight}, Beside.{denial_of, AnswersBeside, IsVerdictOver}, inner.Steps.{joins_of, parts_checked, report_checked}}
 use Rattle.frontier_audit.proofs.{Audited.shelf_right, Jointly.{one_part, parts_are}, JoinedParts.joined_by_kind, Merging.{stops, then_plainly}, Parting.{named_denial, named_in}, Right.verified_joins, Unsolvable.all_right}
 
 -- ---- a verified report is right
 
-joined_parts : (r : ReportValue) (f h : FrontierValue) (xs : List (Part × FrontierValue)) → xs ≡ (part.Reduce, f) ∷ (part.Gather, h) ∷ [] → Joins r.topology.topology (points_of is_reduce xs) (points_of is_gather xs) r.joined → AreJoined r xs
-joined_parts r f h xs are joins = grind (arith, append-nil)
-
 are_joined : (k : Kind) (r : ReportValue) → r.words.collective.kind ≡ k → IsReport r → (r.words.collective.kind ≡ kind.Allreduce → Joins r.topology.topology (points_of is_reduce r.frontiers) (points_of is_gather r.frontiers) r.joined) → AreJoined r r.frontiers
-are_joined kind.Allreduce r e ok joins = let parts = parts_are r ok e in joined_parts r parts.reduce parts.gather r.frontiers parts.are (joins e)
-are_joined _ r e ok joins = let (f, are) = one_part r.frontiers (ok.parts ∙ ap parts_of e) in subst (AreJoined r) (sym are) (ok.only_allreduce (λ a. absurd (cc)))
+are_joined k r e ok joins = grind (arith, parts_are, one_part, append-nil, parts_of)
 
 pub report_right : (r : ReportValue) (files : Files) → IsReport r → audit_of r files ≡ Verified → IsRight r
 report_right r files ok e = record {
@@ -43,10 +38,6 @@ abbrev pub verdict_of : Option (Part × Denial) → AuditVerdict
 verdict_of None = Verified
 verdict_of (Some (p, (reason, x))) = Denied reason p x
 
-same_verdict : (checked : Checked (Part × Denial)) → verdict_of (denial_of checked) ≡ verdict_from checked
-same_verdict (Ok u) = refl
-same_verdict (Err (p, (reason, x))) = refl
-
 -- what the answer of the checks says of the report
 pub record IsJudged (tells : Bool) (shelf : Files) (r : ReportValue) (v : AuditVerdict) : Type 0 where
   pub exact : IsTrue tells → v ≡ audit_of r shelf
@@ -54,7 +45,7 @@ pub record IsJudged (tells : Bool) (shelf : Files) (r : ReportValue) (v : AuditV
 
 module _ {tells : Bool} {shelf : Files} (r : ReportValue) where
   judged_by : {d : Option (Part × Denial)} (v : AuditVerdict) → v ≡ verdict_of d → AnswersBeside tells shelf (report_checked r) d → IsJudged tells shelf r v
-  judged_by v is a = grind (arith, same_verdict)
+  judged_by v is a = grind arith
 
   module _ {a : Option (Part × Denial)} (parts : AnswersBeside tells shelf (λ files. parts_checked r files r.frontiers) a) where
     pub judged_by_parts : (d : Part × Denial) → a ≡ Some d → (v : AuditVerdict) → v ≡ verdict_of (Some d) → IsJudged tells shelf r v

@@ -5,9 +5,8 @@ use Rattle.outer_ports.specs.{declared.{part.Part.Part, proof_name.FileKind.TheV
 use Rattle.candidate_order.specs.{declared.{candidate.Candidate.Candidate, mark.Mark.TheVariants.{Optimal, Open}}, Frontiers.{QuestionValue, UnknownValue, FrontierValue, given_up}}
 use Rattle.lrat_text.specs.Printing.{cnf_text}
 use Rattle.report_form.specs.{Tests.is_no_worse, Reports.{ReportValue, question_of}}
-use Rattle.frontier_audit.specs.{declared.verdict.AuditVerdict.AuditVerdict, Denials.{Denial, Checked, each, in_part, verdict_from}}
-use Rattle.frontier_audit.specs.{declared.verdict.Reason.TheVariants.{ScheduleWrong, MarkWrong, CandidateMissing, ProofMissing, ProofRefused, CnfDiffers, PartialRefused}, Candidates.{is_listed, candidates_within}}
-use Rattle.frontier_audit.specs.{Solutions.{is_solution, is_optimal}, Joining.{same_mark, joined_checked}}
+use Rattle.frontier_audit.specs.{declared.verdict.{AuditVerdict.AuditVerdict, Reason.TheVariants.{ScheduleWrong, MarkWrong, CandidateMissing, ProofMissing, ProofRefused, CnfDiffers, PartialRefused}}, Solutions.{is_solution, is_optimal}}
+use Rattle.frontier_audit.specs.{Denials.{Denial, Checked, each, in_part, verdict_from}, Candidates.{is_listed, candidates_within}, Joining.{same_mark, joined_checked}}
 use Rattle.candidate_formula.specs.{Formulas.formula_for, Files.file_of, Pruned.is_cut_away}
 use Rattle.proof_audit.specs.Proving.{is_refutation, is_spent_log}
 

@@ -14,15 +14,10 @@ last_is (x ∷ []) o (suc k) d e = absurd (omega arith)
 last_is (x ∷ next ∷ xs) o zero d e = absurd (omega arith)
 last_is (x ∷ next ∷ xs) o (suc k) d e = last_is (next ∷ xs) (Some x) k d (omega arith)
 
--- the place before one that is not the first
-before_place : (n : ℕ) → 0 < n → (k : ℕ) × (n ≡ suc k)
-before_place zero h = absurd (omega arith)
-before_place (suc k) h = (k, refl)
-
 -- where a relation leads on among elements of a kind, one behind the last is behind each
 module _ {A : Type 0} (R : A → A → Type 0) (P : A → Type 0) (trans : (a b c : A) → P a → P b → P c → R a b → R b c → R a c) where
   behind_each : (xs : List A) (x : A) → All P xs → P x → AllPairs R xs → ((l : A) → last_or None xs ≡ Some l → R l x) → (k : ℕ) (d : A) → k < length xs → R (get_or xs k d) x
-  behind_each xs x ps px ascending behind k d within = grind (arith, before_place, last_is, cases_lt)
+  behind_each xs x ps px ascending behind k d within = grind (arith, last_is, cases_lt)
 
   pub push_behind : (xs : List A) (x : A) → All P xs → P x → AllPairs R xs → ((l : A) → last_or None xs ≡ Some l → R l x) → AllPairs R (xs ++ x ∷ [])
   push_behind xs x ps px ascending behind = all_pairs_push R xs x ascending (behind_each xs x ps px ascending behind)

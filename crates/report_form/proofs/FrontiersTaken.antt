@@ -1,6 +1,6 @@
 -- What the checks of a report's parts took stands there, and is valid.
-use Rattle.std.proofs.{Common.{◌≡◌, ℕ, List, [], ◌∷◌, ◌++◌, map, length, refl, ap, ◌≢◌, codes, flat_map, All}, lemmas.List.Elements.{All-nil, All-cons}}
-use Rattle.text_lines.{specs.Text.{Place, words_of}, proofs.Gives.{gives_done, gives_like, gives_then, here, then_on, cut_here, cut_more, cut_on, GivesPart, parts_give, lines_give}}
+use Rattle.std.proofs.{Common.{arith, ◌≡◌, ℕ, List, [], ◌∷◌, ◌++◌, map, length, refl, ap, ◌≢◌, codes, flat_map, All}, lemmas.List.Elements.{All-nil, All-cons}}
+use Rattle.text_lines.{specs.Text.{Place}, proofs.Gives.{gives_done, gives_like, gives_then, here, then_on, cut_here, cut_more, cut_on, GivesPart, parts_give, lines_give}}
 use Rattle.outer_ports.specs.declared.part.Part.{Part}
 use Rattle.outer_ports.specs.declared.part.Part.TheVariants as part
 use Rattle.collective_spec.specs.declared.kind.Kind.{Kind}
@@ -10,10 +10,6 @@ use Rattle.topology_text.specs.Value.{NamedTopologyValue}
 use Rattle.report_form.specs.{Reports.{WordsValue, IsFrontier, IsJoinedPoint, question_of}, Points.{frontier_point_at, joined_point_at}, Spelling.{point_lines, refuted_words, unknown_words, part_words, frontier_lines, joined_lines}}
 use Rattle.report_form.specs.Reading.{refuted_line, unknown_line, part_bytes, frontier_at, frontiers_from, joined_at}
 use Rattle.report_form.proofs.{LineTaken.fixed_gives, ListsTaken.{AreListed, none_listed, refuted_takes, AreUnknown, none_unknown, unknown_takes}, PointsTaken.{ArePoints, no_points, point_steps}, JoinedTaken.{joined_steps, no_joined}}
-
-pub part_tokens : (x : Part) → words_of (part_bytes x) ≡ part_words x
-part_tokens part.Joined = refl
-part_tokens x = refl
 
 abbrev pub frontier : List PointValue → List Candidate → List UnknownValue → FrontierValue
 frontier points refuted unknown = record { points = points; refuted = refuted; unknown = unknown }
@@ -40,7 +36,7 @@ module _ (names : List (List ℕ)) (q : QuestionValue) (as_many : length names �
       let B : List Candidate → List (List (List ℕ)) = map refuted_words in
       let C : List UnknownValue → List (List (List ℕ)) = map unknown_words in
       let title : List (List (List ℕ)) = part_words x ∷ [] in
-      gives_then _ _ (fixed_gives (part_bytes x) (part_words x) (part_tokens x) p)
+      gives_then _ _ (fixed_gives (part_bytes x) (part_words x) (grind arith) p)
       (λ e line. record { value = nothing_found; valid = nothing_valid; cut = cut_here _ p e.1 line })
       (λ h read head. gives_then _ _ (parts_give (point_lines names) (ArePoints names q as_many) (codes "point ") (frontier_point_at names q) (point_steps names q as_many ok) (no_points names q as_many) h.1)
       (λ e s. record { value = frontier s.value [] []; valid = frontier_valid s.value [] [] s.valid (none_listed q) (none_unknown q); cut = cut_on title (A s.value ++ []) p h.1 e.1 head.1 (cut_more (A s.value) [] h.1 e.1 s.cut) })

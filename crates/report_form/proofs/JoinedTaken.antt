@@ -40,17 +40,12 @@ module _ (names : List (List ℕ)) (q : QuestionValue) (as_many : length names �
       (λ before p are. ruled_gives joined_head_from (λ h. may_join q h.0 h.1) joined_of headed (Headed q (λ ps. All (IsJoinedPoint q) ps) before)
       (λ words h shape rule.
       let may = (decides_join q h.0 h.1).0 rule in
-      let low = may.some_steps in
-      let high = may.steps in
-      let rounds = may.rounds in
-      let most = ok.steps in
-      let more = ok.k in
       let J : Candidate → Type 0 = λ x. MayJoin q x h.1 in (
         joined_head_take words h shape,
         record {
-          some = some_rounds h.0.s h.0.r may.all_rounds (omega (arith, low, rounds, more));
+          some = some_rounds h.0.s h.0.r may.all_rounds (omega (arith, may.some_steps, may.rounds, ok.k));
           keeps = λ x s. let m = subst J (sym s.candidate) may in All-push (IsJoinedPoint q) before x are (record {
-            has = s.has (omega (arith, low)) (omega (arith, high, most));
+            has = s.has (omega (arith, may.some_steps)) (omega (arith, may.steps, ok.steps));
             some_steps = m.some_steps;
             steps = m.steps;
             all_rounds = m.all_rounds;

@@ -1,35 +1,16 @@
 -- What the checks of one line took stands there.
-use Rattle.std.proofs.{Common.{arith, ◌≡◌, ℕ, Bool, true, not, List, [], ◌∷◌, ◌++◌, Option, None, Some, Result, Ok, ap, ◌∙◌, subst, bytes_eq}, lemmas.{Bool.not-false, Slice.Eq.bytes_eq-Decides}}
+use Rattle.std.proofs.{Common.{arith, ◌≡◌, ℕ, Bool, true, not, List, [], ◌∷◌, ◌++◌, Option, Some, Result, Ok, ap, ◌∙◌, subst, bytes_eq}, lemmas.{Bool.not-false, Slice.Eq.bytes_eq-Decides}}
 use Rattle.text_lines.{specs.{Text.{Row, Place, words_of}, Check.{◌>>=◌, refuse, first, line_part}}, proofs.{Checks.{bind_ok, refuse_ok, refuse_alone, part_ok, ok_is}, Gives.{Gives, Between, line_gives, Takes}, Rows.{row_of, row_back}}}
 use Rattle.report_form.specs.{declared.fault.ReportCode.ReportCode, Lines.{whole_line, tokens_line, fixed_line, no_line}}
 use Rattle.report_form.specs.declared.fault.ReportCode.TheVariants as code
 
-pub record WholeTaken (line : Option Row) (row : Row) : Type 0 where
-  pub is : line ≡ Some row
-  pub whole : row.whole ≡ true
-
-pub whole_take : (line : Option Row) (row : Row) → whole_line line ≡ Ok row → WholeTaken line row
-whole_take None row e = absurd (cc)
-whole_take (Some r) row e = grind (arith, refuse_ok, ok_is, not-false)
-
 -- a whole line whose bytes fall into these words
 pub whole_words : (line : Option Row) (row : Row) (words : List (List ℕ)) → whole_line line ≡ Ok row → words_of row.bytes ≡ words → line ≡ Some (row_of words)
-whole_words line row words e same = let t = whole_take line row e in t.is ∙ ap (λ r. Some r) (row_back row words t.whole same)
+whole_words line row words e same = grind (arith, row_back, refuse_ok, ok_is, not-false)
 
 -- a whole line, by a check of its tokens
 abbrev pub on_words : {A : Type 0} → (List (List ℕ) → Result A ReportCode) → Option Row → Result A ReportCode
 on_words check line = tokens_line line >>= check
-
-pub record OnWords {A : Type 0} (check : List (List ℕ) → Result A ReportCode) (line : Option Row) (x : A) : Type 0 where
-  pub words : List (List ℕ)
-  pub is : line ≡ Some (row_of words)
-  pub checked : check words ≡ Ok x
-
-pub on_words_take : {A : Type 0} (check : List (List ℕ) → Result A ReportCode) (line : Option Row) (x : A) → on_words check line ≡ Ok x → OnWords check line x
-on_words_take check line x e =
-    let (words, tokens, e1) = bind_ok (tokens_line line) check x e in
-    let (row, found, e2) = bind_ok (whole_line line) (λ r. Ok (words_of r.bytes)) words tokens in
-    record { words = words; is = whole_words line row words found (ok_is {C = ReportCode} (words_of row.bytes) words e2); checked = e1 }
 
 -- ---- a shape, and then a rule
 
@@ -41,29 +22,16 @@ abbrev pub Spelled : {B : Type 0} → (B → List (List ℕ)) → (B → Type 0)
 Spelled spell N words x = (words ≡ spell x) × N x
 
 module _ {A B : Type 0} (shape : List (List ℕ) → Result A ReportCode) (rule : A → Bool) (made : A → B) where
-  pub record Ruled (line : Option Row) (x : B) : Type 0 where
-    pub words : List (List ℕ)
-    pub is : line ≡ Some (row_of words)
-    pub found : A
-    pub shaped : shape words ≡ Ok found
-    pub kept : rule found ≡ true
-    pub same : made found ≡ x
-
-  pub ruled_take : (line : Option Row) (x : B) → on_words (ruled_by shape rule made) line ≡ Ok x → Ruled line x
-  ruled_take line x e =
-      let t = on_words_take (ruled_by shape rule made) line x e in
-      let (a, shaped, e1) = bind_ok (shape t.words) (λ a. refuse (not (rule a)) code.Limits >>= (λ u. Ok (made a))) x t.checked in
-      let (kept, e2) = refuse_ok (not (rule a)) code.Limits (λ u. Ok (made a)) x e1 in
-      record { words = t.words; is = t.is; found = a; shaped = shaped; kept = not-false (rule a) kept; same = ok_is {C = ReportCode} (made a) x e2 }
-
   -- what holds of each value of the line holds of the one that was read
   pub ruled_spelled : (spell : B → List (List ℕ)) (N : B → Type 0) → ((words : List (List ℕ)) (a : A) → shape words ≡ Ok a → rule a ≡ true → Spelled spell N words (made a))
       → (line : Option Row) (x : B) → on_words (ruled_by shape rule made) line ≡ Ok x → (line ≡ Some (row_of (spell x))) × N x
   ruled_spelled spell N each line x e =
-      let t = ruled_take line x e in
-      let P : B → Type 0 = λ y. Spelled spell N t.words y in
-      let (same, holds) = subst P t.same (each t.words t.found t.shaped t.kept) in
-      (t.is ∙ ap (λ ws. Some (row_of ws)) same, holds)
+      let (words, tokens, e1) = bind_ok (tokens_line line) (ruled_by shape rule made) x e in
+      let (row, found, e2) = bind_ok (whole_line line) (λ r. Ok (words_of r.bytes)) words tokens in
+      let (a, shaped, e3) = bind_ok (shape words) (λ a. refuse (not (rule a)) code.Limits >>= (λ u. Ok (made a))) x e1 in
+      let (kept, e4) = refuse_ok (not (rule a)) code.Limits (λ u. Ok (made a)) x e3 in
+      let (same, holds) = subst (λ y. Spelled spell N words y) (ok_is {C = ReportCode} (made a) x e4) (each words a shaped (not-false (rule a) kept)) in
+      (whole_words line row words found (ok_is {C = ReportCode} (words_of row.bytes) words e2) ∙ ap (λ ws. Some (row_of ws)) same, holds)
 
   pub ruled_gives : (spell : B → List (List ℕ)) (N : B → Type 0) → ((words : List (List ℕ)) (a : A) → shape words ≡ Ok a → rule a ≡ true → Spelled spell N words (made a))
       → (p : Place) → Gives (λ (e : ReportCode × ℕ). e.1 ≡ p.number) (λ (x : B × Place). N x.0 × Between (spell x.0 ∷ []) p x.1) (line_part (on_words (ruled_by shape rule made)) p)
@@ -82,8 +50,7 @@ fixed_gives bytes words tokens p = line_gives (fixed_line bytes) (λ u. words) p
     there : (line : Option Row) (u : Unit {0}) → fixed_line bytes line ≡ Ok u → line ≡ Some (row_of words)
     there line u e =
         let (row, found, e1) = bind_ok (whole_line line) (λ r. refuse (not (bytes_eq r.bytes bytes)) code.BadLine) u e in
-        let is : row.bytes ≡ bytes = (bytes_eq-Decides row.bytes bytes).0 (not-false (bytes_eq row.bytes bytes) (refuse_alone (not (bytes_eq row.bytes bytes)) code.BadLine u e1)) in
-        whole_words line row words found (ap words_of is ∙ tokens)
+        whole_words line row words found (ap words_of ((bytes_eq-Decides row.bytes bytes).0 (not-false (bytes_eq row.bytes bytes) (refuse_alone (not (bytes_eq row.bytes bytes)) code.BadLine u e1))) ∙ tokens)
 
 pub nothing_take : (p : Place) (x : Unit {0} × Place) → line_part no_line p ≡ Ok x → p.rows ≡ []
 nothing_take p x e = grind (arith, part_ok)

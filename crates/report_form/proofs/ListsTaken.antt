@@ -48,8 +48,7 @@ module _ (q : QuestionValue) where
       let front = and_parts (is_within q u.candidate) (comes_next (last_or None (candidates before)) u.candidate) parts.0 in
       let w = (decides_within q u.candidate).0 front.0 in
       let same = eqb-true u.conflicts q.limits.conflicts parts.1 in
-      let few = ok.conflicts in
-      let number = any_number_is taken.token u.conflicts taken.number (omega (arith, same, few)) in (
+      let number = any_number_is taken.token u.conflicts taken.number (omega (arith, same, ok.conflicts)) in (
         taken.stands ∙ ap (λ w. codes "unknown" ∷ decimal u.candidate.s ∷ decimal u.candidate.r ∷ decimal u.candidate.c ∷ w ∷ []) number,
         record { each = All-push (IsUnknown q) before u are.each (record { within = w; conflicts = same }); listed = push_part (λ v. v.candidate) before u are.listed w front.1 },
       ))

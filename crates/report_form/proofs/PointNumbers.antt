@@ -30,8 +30,7 @@ pub from_here : {A : Type 0} (xs : List A) (i : ℕ) (x : A) → i < length xs �
 from_here xs i x lt e = at_drop_more (λ ys. ys) xs i x lt ∙ ap (λ z. z ∷ drop (i + 1) xs) (sym e)
 
 pub number_first : (r : ReportValue) (items : List (Part × FrontierValue)) (number : ℕ) → items ≡ r.frontiers → (number ≡ 0 → ⊥) → slice_get (flat_map of_part (drop 0 items) ++ joined_points r.joined) (number - 1) ≡ point_at r number
-number_first r items zero same some = absurd (some refl)
-number_first r items (suc n) same some = grind (arith, slice_get)
+number_first r items number same some = grind arith
 
 module _ (items : List (Part × FrontierValue)) (i : ℕ) (x : Part × FrontierValue) (rest : List (Part × PointValue)) (left : ℕ) where
   -- the points of the part at the place stand in front
@@ -39,16 +38,11 @@ module _ (items : List (Part × FrontierValue)) (i : ℕ) (x : Part × FrontierV
   in_front lt e = ap (λ xs. flat_map of_part xs ++ rest) (from_here items i x lt e) ∙ append_assoc (of_part x) (flat_map of_part (drop (i + 1) items)) rest
 
   pub number_in : (points : List PointValue) (p : PointValue) (all : Option (Part × PointValue)) → i < length items → x ≡ get_or items i x → points ≡ x.1.points → left < length points → p ≡ get_or points left p → slice_get (flat_map of_part (drop i items) ++ rest) left ≡ all → all ≡ Some (x.0, p)
-  number_in points p all lt e same here is g =
-      let few : left < length x.1.points = omega (arith, here, ap length same) in
-      let found = number_here (λ q. (x.0, q)) x.1.points (flat_map of_part (drop (i + 1) items) ++ rest) left p few in
-      let point : get_or x.1.points left p ≡ p = ap (λ ps. get_or ps left p) (sym same) ∙ sym is in
-      sym g ∙ (ap (λ xs. slice_get xs left) (in_front lt e) ∙ (found ∙ ap (λ q. Some (x.0, q)) point))
+  number_in points p all lt e same here is g = grind (arith, number_here, in_front)
 
   pub number_behind : (points : List PointValue) (all : Option (Part × PointValue)) → i < length items → x ≡ get_or items i x → points ≡ x.1.points → length points ≤ left → slice_get (flat_map of_part (drop i items) ++ rest) left ≡ all → slice_get (flat_map of_part (drop (i + 1) items) ++ rest) (left - length points) ≡ all
   number_behind points all lt e same past g = grind (arith, number_later, slice_get, in_front)
 
 -- behind the frontiers stand the joined points
 pub number_joined : (items : List (Part × FrontierValue)) (i left : ℕ) (joined points : List PointValue) (all : Option (Part × PointValue)) → length items ≤ i → points ≡ joined → slice_get (flat_map of_part (drop i items) ++ joined_points joined) left ≡ all → all ≡ option_map (λ p. (Joined, p)) (slice_get points left)
-number_joined items i left joined points all past same g =
-    sym g ∙ (ap (λ xs. slice_get (flat_map of_part xs ++ joined_points joined) left) (drop_all i items past) ∙ (slice_get-map (λ p. (Joined, p)) joined left ∙ ap (λ ps. option_map (λ p. (Joined, p)) (slice_get ps left)) (sym same)))
+number_joined items i left joined points all past same g = grind (arith, drop_all, slice_get-map)

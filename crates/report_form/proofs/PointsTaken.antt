@@ -8,7 +8,7 @@ use Rattle.collective_spec.specs.Collectives.{chunks_in}
 use Rattle.candidate_order.specs.{declared.{candidate.Candidate.Candidate, mark.Mark.Mark}, Ranges.IsLimits, Frontiers.{QuestionValue, PointValue, IsWithin}}
 use Rattle.candidate_order.specs.declared.mark.Mark.TheVariants as mark
 use Rattle.report_form.specs.{declared.fault.ReportCode.ReportCode, Reports.{HasSchedule, IsPrintedPoint}, Tests.{is_within, comes_next}, Spelling.{rounds_words, send_words, point_words, point_lines}}
-use Rattle.report_form.specs.Points.{HeadValue, head_from, head_line, rounds_from, are_rounds, rounds_line, send_from, follows, may_be_sent, send_line, schedule_at, frontier_point_at}
+use Rattle.report_form.specs.Points.{HeadValue, head_from, head_line, rounds_from, are_rounds, send_from, follows, may_be_sent, send_line, schedule_at, frontier_point_at}
 use Rattle.report_form.proofs.{Tested.decides_within, Ascending.{HopBefore, push_hop}, LineTaken.{ruled_gives, ruled_takes}, Shapes.{head_take, rounds_take, send_take}, ListsTaken.{AreListed, none_listed, push_part}}
 
 each_of : {X : Type 0} (p : X → Bool) (P : X → Type 0) (h : (x : X) → p x ≡ true → P x) (xs : List X) → list_all p xs ≡ true → All P xs
@@ -32,9 +32,6 @@ rounds_valid x rounds e =
       total = eqb-true (sum rounds) x.r outer.1;
     }
 
-pub rounds_give : (x : Candidate) (p : Place) → Gives (λ (e : ReportCode × ℕ). e.1 ≡ p.number) (λ (y : List ℕ × Place). AreRounds x y.0 × Between (rounds_words y.0 ∷ []) p y.1) (line_part (rounds_line x) p)
-rounds_give x p = ruled_gives rounds_from (are_rounds x) (λ rounds. rounds) rounds_words (AreRounds x) (λ words rounds shape rule. (rounds_take words rounds shape, rounds_valid x rounds rule)) p
-
 -- so many rounds in so many steps, from 1 to 9 in each
 pub record SomeRounds (s r : ℕ) : Type 0 where
   pub rounds : List ℕ
@@ -47,14 +44,11 @@ some_rounds zero r low high = record { rounds = []; many = refl; each = All-nil 
 some_rounds (suc s) r low high =
     let f : ℕ = min 9 (r - s) in
     let later = some_rounds s (r - f) (omega (arith, low)) (omega (arith, low, high)) in
-    let many = later.many in
-    let total = later.total in
-    let both : f + (r - f) ≡ r = omega (arith, low) in
     record {
       rounds = f ∷ later.rounds;
-      many = omega (arith, many);
+      many = omega (arith, later.many);
       each = All-cons IsRound f later.rounds (record { some = omega (arith, low); few = omega arith }) later.each;
-      total = sum_by-cons (λ (x : ℕ). x) f later.rounds ∙ ap (λ n. f + n) total ∙ both;
+      total = sum_by-cons (λ (x : ℕ). x) f later.rounds ∙ ap (λ n. f + n) later.total ∙ (omega (arith, low));
     }
 
 -- ---- sends
@@ -104,10 +98,6 @@ pub record Scheduled (q : QuestionValue) (head : HeadValue) (x : PointValue) : T
 abbrev pub headed : HeadValue → List (List ℕ)
 headed head = point_words (point_of head [] [])
 
-pub same_head : (q : QuestionValue) (head : HeadValue) (x : PointValue) → Scheduled q head x → headed head ≡ point_words x
-same_head q head x s =
-    ap (λ c. point_words (record { candidate = c; schedule = x.schedule; mark = head.mark })) (sym s.candidate) ∙ ap (λ m. point_words (record { candidate = x.candidate; schedule = x.schedule; mark = m })) (sym s.mark)
-
 -- a point of this head may stand behind those before it
 pub record Headed (q : QuestionValue) (Q : List PointValue → Type 0) (before : List PointValue) (head : HeadValue) : Type 0 where
   pub some : SomeRounds head.candidate.s head.candidate.r
@@ -128,7 +118,7 @@ module _ (names : List (List ℕ)) (q : QuestionValue) (as_many : length names �
       let steps : ℕ = head.candidate.s in
       let made : (rounds : List ℕ) (sends : List Hop) → AreRounds head.candidate rounds → AreSends names (chunks_at head) steps sends → Scheduled q head (point_of head rounds sends) =
       λ rounds sends are sent. record { candidate = refl; mark = refl; has = schedule_valid head rounds sends are sent } in
-      gives_then _ _ (rounds_give head.candidate p)
+      gives_then _ _ (ruled_gives rounds_from (are_rounds head.candidate) (λ rounds. rounds) rounds_words (AreRounds head.candidate) (λ words rounds shape rule. (rounds_take words rounds shape, rounds_valid head.candidate rounds rule)) p)
       (λ e line some. record { value = point_of head some.rounds []; valid = made some.rounds [] (record { many = some.many; each = some.each; total = some.total }) (no_sends names (chunks_at head) steps); cut = cut_here _ p e.1 line })
       (λ y read first. gives_then _ _ (lines_give (codes "send ") _ (send_words names) (AreSends names (chunks_at head) steps) (send_takes names (chunks_at head) steps) (no_sends names (chunks_at head) steps) y.1)
       (λ e s some. record { value = point_of head y.0 s.value; valid = made y.0 s.value first.0 s.valid; cut = cut_on (rounds_words y.0 ∷ []) (map (send_words names) s.value) p y.1 e.1 first.1 s.cut })
@@ -142,7 +132,7 @@ module _ (names : List (List ℕ)) (q : QuestionValue) (as_many : length names �
       → ((before : List PointValue) (p : Place) → Q before → Gives (λ (e : ReportCode × ℕ). e.1 ≡ p.number) (λ (h : HeadValue × Place). Headed q Q before h.0 × Between (headed h.0 ∷ []) p h.1) (line_part (check before) p))
       → Steps (codes "point ") (λ before p. line_part (check before) p >>= (λ h. schedule_at names q h.0 h.1)) (point_lines names) Q
   headed_steps check Q heads before p begun are = gives_then _ _ (heads before p are) (λ e line. inl line)
-      (λ h read head. let lines : (x : PointValue) → Scheduled q h.0 x → Between (point_words x ∷ []) p h.1 = λ x s. subst (λ (ws : List (List ℕ)). Between (ws ∷ []) p h.1) (same_head q h.0 x s) head.1 in
+      (λ h read head. let lines : (x : PointValue) → Scheduled q h.0 x → Between (point_words x ∷ []) p h.1 = λ x s. subst (λ (ws : List (List ℕ)). Between (ws ∷ []) p h.1) (grind arith) head.1 in
       gives_like
       (λ e stops. let s = stops head.0.some in inr (record { value = s.value; valid = head.0.keeps s.value s.valid; cut = cut_on (point_words s.value ∷ []) (schedule_lines names s.value) p h.1 e.1 (lines s.value s.valid) s.cut }))
       (λ x t. record { valid = head.0.keeps x.0 t.valid; lines = then_on (point_words x.0 ∷ []) (schedule_lines names x.0) p h.1 x.1 (lines x.0 t.valid) t.lines })
@@ -168,18 +158,12 @@ module _ (names : List (List ℕ)) (q : QuestionValue) (as_many : length names �
       let taken = head_take words h shape in
       let parts = and_parts (is_within q h.candidate) (comes_next (last_or None (solved_by before)) h.candidate) rule in
       let w : IsWithin q h.candidate = (decides_within q h.candidate).0 parts.0 in
-      let some = w.some_steps in
-      let steps = w.steps in
-      let rounds = w.rounds in
-      let most = ok.steps in
-      let more = ok.k in
-      let W : Candidate → Type 0 = IsWithin q in
       let M : Mark → Type 0 = λ m. (m ≡ mark.Optimal) ⊎ (m ≡ mark.Open) in (
         taken.stands,
         record {
-          some = some_rounds h.candidate.s h.candidate.r w.all_rounds (omega (arith, some, rounds, more));
-          keeps = λ x s. let within : IsWithin q x.candidate = subst W (sym s.candidate) w in record {
-            each = All-push (IsPrintedPoint q) before x are.each (record { has = s.has some (omega (arith, steps, most)); within = within; mark = subst M (sym s.mark) taken.mark });
+          some = some_rounds h.candidate.s h.candidate.r w.all_rounds (omega (arith, w.some_steps, w.rounds, ok.k));
+          keeps = λ x s. let within : IsWithin q x.candidate = subst (IsWithin q) (sym s.candidate) w in record {
+            each = All-push (IsPrintedPoint q) before x are.each (record { has = s.has w.some_steps (omega (arith, w.steps, ok.steps)); within = within; mark = subst M (sym s.mark) taken.mark });
             listed = push_part q (λ y. y.candidate) before x are.listed within (ap (comes_next (last_or None (solved_by before))) s.candidate ∙ parts.1);
           };
         },

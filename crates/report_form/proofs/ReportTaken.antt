@@ -1,23 +1,20 @@
 -- A text that the checks take is the text of the report that they give, which is valid; where they fail, some valid report has the lines before the one that is blamed.
-use Rattle.std.proofs.{Common.{◌≡◌, ℕ, Bool, true, false, not, List, [], ◌∷◌, ◌++◌, map, length, Option, None, Some, Result, Ok, Err, refl, sym, ap, ◌∙◌, subst, arith, codes, flat_map, if◌then◌else◌, is_some}, lemmas.Bool.not-false}
-use Rattle.std.proofs.lemmas.List.{append-nil, map-append, Elements.{All-nil, All-cons}}
-use Rattle.text_lines.specs.{Text.{Row, Place, rows_of, start}, Check.{◌>>=◌, refuse, need, at_line, first, line_part}}
-use Rattle.text_lines.proofs.{Checks.{bind_ok, refuse_alone, need_is, at_line_ok, line_err, part_err_at, ok_is}, Distinct.AreDistinct, Repeated.place, Rows.{row_of, text_back}}
-use Rattle.text_lines.proofs.Gives.{Gives, gives_done, gives_like, gives_then, Between, then_on, Cut, cut_here, cut_more, cut_on, line_gives, Stops}
+use Rattle.std.proofs.{Common.{◌≡◌, ℕ, Bool, true, false, not, List, [], ◌∷◌, ◌++◌, map, length, Option, None, Some, Result, Ok, refl, sym, ap, ◌∙◌, subst, arith, codes, flat_map, if◌then◌else◌, is_some}}
+use Rattle.std.proofs.lemmas.List.{append-nil, map-append}
+use Rattle.text_lines.proofs.{Gives.{Gives, gives_done, gives_like, gives_then, Between, then_on, Cut, cut_here, cut_more, cut_on, line_gives, Stops}, Checks.{bind_ok, need_is, at_line_ok, line_err, part_err_at, ok_is}, Repeated.place}
+use Rattle.text_lines.{specs.{Check.{◌>>=◌, refuse, need, at_line, first, line_part}, Text.{Row, Place, rows_of, start}}, proofs.{Rows.{row_of, text_back}, Distinct.AreDistinct}}
 use Rattle.schedule.specs.Links.{GroupValue}
 use Rattle.outer_ports.specs.declared.part.Part.{Part}
-use Rattle.collective_spec.specs.{declared.kind.Kind.Kind, Kinds.{is_custom, takes_root}, Patterns.PatternValue, Collectives.fits_kind}
+use Rattle.collective_spec.specs.{declared.kind.Kind.Kind, Kinds.{is_custom, takes_root}, Patterns.PatternValue}
 use Rattle.collective_spec.specs.declared.kind.Kind.TheVariants as kind
 use Rattle.candidate_order.specs.{Ranges.{IsLimits, unpruned}, Frontiers.{PointValue, FrontierValue}}
-use Rattle.topology_text.specs.{declared.fault.TopologyCode.TopologyCode, Value.{NamedTopologyValue, IsNamed, named_with}, Names.AreNames, Spelling.{lines_of, version_word, header_words, nodes_words, group_words, custom_lines}}
-use Rattle.topology_text.specs.Reading.{header_line, nodes_line, groups_at, pattern_at}
-use Rattle.topology_text.proofs.{Front.{version_words, header_gives, nodes_give}, Links.node_again, Groups.{Groups, groups_nil, groups_give}, Patterns.{IsCustom, some_pattern, pattern_gives}}
-use Rattle.topology_text.proofs.Laws.{named_valid, body_lines, header_on, front_on, cut_behind}
+use Rattle.topology_text.{specs.{Spelling.{lines_of, version_word, header_words, nodes_words, group_words, custom_lines}, declared.fault.TopologyCode.TopologyCode}, proofs.Laws.{named_valid, body_lines, header_on, front_on, cut_behind}}
+use Rattle.topology_text.{specs.{Reading.{header_line, nodes_line, groups_at, pattern_at}, Value.{NamedTopologyValue, IsNamed, named_with}, Names.AreNames}, proofs.{Patterns.{IsCustom, some_pattern, pattern_gives}, Links.node_again}}
+use Rattle.topology_text.proofs.{Front.{version_words, header_gives, nodes_give}, Groups.{Groups, groups_nil, groups_give}}
 use Rattle.topology_text.specs.Spelling as spelling
-use Rattle.report_form.specs.{declared.fault.ReportCode.ReportCode, Reports.{WordsValue, ReportValue, IsReport, parts_of}, Lines.{whole_line, no_line, among}, Spelling.{frontier_lines, joined_lines, report_lines, report_text}}
-use Rattle.report_form.specs.{SynthLine.{AskedValue, asked_line, root_of, words_from}, Reading.{body_of, version_of, version_line, is_same, report_of}}
-use Rattle.report_form.proofs.{LineTaken.{whole_words, fixed_gives, nothing_take}, SynthLineTaken.{RootFits, asked_words, IsAsked, asked_gives, WordsTaken, words_take}}
-use Rattle.report_form.proofs.FrontiersTaken.{AreFrontiers, AreJoined, none_joined, nothings, nothings_are, frontiers_give, joined_gives}
+use Rattle.report_form.proofs.{FrontiersTaken.{AreFrontiers, AreJoined, none_joined, nothings, nothings_are, frontiers_give, joined_gives}, SynthLineTaken.{RootFits, asked_words, IsAsked, asked_gives, words_take}}
+use Rattle.report_form.specs.{Spelling.{frontier_lines, joined_lines, report_lines, report_text}, Reading.{body_of, version_of, version_line, is_same, report_of}, SynthLine.{AskedValue, asked_line, root_of, words_from}}
+use Rattle.report_form.{specs.{Reports.{WordsValue, ReportValue, IsReport, parts_of}, declared.fault.ReportCode.ReportCode, Lines.{whole_line, no_line, among}}, proofs.LineTaken.{whole_words, fixed_gives, nothing_take}}
 use Rattle.report_form.specs.declared.fault.ReportCode.TheVariants as code
 
 -- ---- the body
@@ -76,8 +73,7 @@ head_words false = codes "sccl" ∷ codes "1" ∷ []
 head_words true = codes "sccl" ∷ codes "2" ∷ []
 
 pub head_spelled : (c : Option PatternValue) → head_words (is_some c) ≡ codes "sccl" ∷ version_word c ∷ []
-head_spelled None = refl
-head_spelled (Some p) = refl
+head_spelled c = grind arith
 
 version_gives : (p : Place) → Gives (λ (e : ReportCode × ℕ). e.1 ≡ p.number) (λ (x : Bool × Place). Unit {0} × Between (head_words x.0 ∷ []) p x.1) (line_part version_line p)
 version_gives p = line_gives version_line head_words p (λ b e. (there (first p.rows) b e, tt))
@@ -87,26 +83,13 @@ version_gives p = line_gives version_line head_words p (λ b e. (there (first p.
         let (row, found, e1) = bind_ok (whole_line line) (λ r. need (version_of r.bytes) code.BadLine) b e in
         whole_words line row (head_words b) found (version_words (codes "sccl 1") (codes "sccl 2") head_words refl refl row.bytes b (need_is (version_of row.bytes) code.BadLine b e1))
 
-same_is : (a b : Bool) → is_same a b ≡ true → a ≡ b
-same_is true true e = refl
-same_is true false e = sym e
-same_is false true e = e
-same_is false false e = refl
-
--- the pattern is there exactly where the kind is the one whose pairs are given
-pub pattern_fits : (k : Kind) (c : Option PatternValue) → is_custom k ≡ is_some c → fits_kind k c ≡ true
-pattern_fits k None e = ap not e
-pattern_fits k (Some p) e = e
-
 -- ---- the topology
 
 pub among_ok : {A : Type 0} (rows : List Row) (r : Result A (TopologyCode × ℕ)) (x : A) → among rows r ≡ Ok x → r ≡ Ok x
-among_ok rows (Ok y) x e = let same : y ≡ x = ok_is {C = ReportCode × ℕ} y x e in ap (λ z. Ok z) same
-among_ok rows (Err c) x e = absurd (cc)
+among_ok {A} rows r x e = grind (arith, ok_is)
 
 among_gives : {A : Type 0} {N : A → Type 0} (E : ℕ → Type 0) (rows : List Row) (r : Result A (TopologyCode × ℕ)) → Gives (λ (e : TopologyCode × ℕ). E e.1) N r → Gives (λ (e : ReportCode × ℕ). E e.1) N (among rows r)
-among_gives E rows (Ok x) g = gives_done x (g.ok x refl)
-among_gives E rows (Err c) g = record { ok = λ x e. absurd (cc); err = λ e h. let at : c.1 ≡ e.1 = cc in subst E at (g.err c refl) }
+among_gives {A} {N} E rows r g = grind (arith, gives_done)
 
 at_line_gives : {A : Type 0} (n : ℕ) (r : Result A ReportCode) → Gives (λ (e : ReportCode × ℕ). e.1 ≡ n) (λ (x : A). r ≡ Ok x) (at_line n r)
 at_line_gives n r = record { ok = λ x e. at_line_ok n r x e; err = λ e h. (line_err n r e h).1 }
@@ -130,9 +113,6 @@ name_for (Some name) = name
 alone : (name : List ℕ) → AreDistinct (name ∷ [])
 alone name = λ i j d ordered h. absurd (omega (arith, ordered, h))
 
-one_name : (takes : Bool) (root : Option (List ℕ)) → RootFits takes root → AreNames (name_for root ∷ [])
-one_name takes root fits = grind (arith, All-cons, All-nil, alone)
-
 root_found : (root : Option (List ℕ)) → root_of (name_for root ∷ []) root ≡ Ok 0
 root_found None = refl
 root_found (Some name) = ap (λ o. need o code.Limits) (node_again (name ∷ []) 0 (alone name) (omega arith))
@@ -151,27 +131,21 @@ module _ (b : Bool) (a : AskedValue) (asked : IsAsked b a) where
   one_node = (named_with one_names [] one_pattern.value, 0)
 
   one_rooted : IsRooted b a one_node
-  one_rooted = record { named = named_valid one_names [] one_pattern.value (one_name (takes_root a.kind) a.root asked.fits) (groups_nil 1) one_pattern.valid.valid; shown = one_pattern.valid.shown; found = root_found a.root }
+  one_rooted = grind (arith, named_valid, one_pattern, groups_nil, root_found, alone)
 
   module _ (z : Rooted) (is : IsRooted b a z) (w : Behind) (valid : AreBehind (words_from a z.1) z.0 w) where
     abbrev made : ReportValue
     made = report (words_from a z.1) z.0 w.0 w.1
 
-    words_are : WordsTaken z.0.names a z.1
-    words_are = words_take z.0.names a z.1 is.named.names.some asked.limits asked.fits is.found
-
     made_valid : IsReport made
-    made_valid = grind (arith, pattern_fits)
+    made_valid = grind arith
 
     -- its lines behind the first two
     abbrev later : List (List (List ℕ))
     later = lines_of z.0 ++ lines_behind (words_from a z.1) z.0 w
 
     made_lines : head_words b ∷ asked_words a ∷ later ≡ report_lines made
-    made_lines =
-        ap (λ c. head_words c ∷ asked_words a ∷ later) (sym is.shown)
-        ∙ ap (λ ws. ws ∷ asked_words a ∷ later) (head_spelled z.0.custom)
-        ∙ ap (λ ws. (codes "sccl" ∷ version_word z.0.custom ∷ []) ∷ ws ∷ later) words_are.spelled
+    made_lines = grind (arith, asked_words, head_spelled, words_take)
 
     made_stops : (p q : Place) (n : ℕ) → Between (head_words b ∷ asked_words a ∷ []) p q → Cut later q n → Stops report_lines IsReport p n
     made_stops p q n front cut = record { value = made; valid = made_valid; cut = subst (λ (ls : List (List (List ℕ))). Cut ls p n) made_lines (cut_on (head_words b ∷ asked_words a ∷ []) later p q n front cut) }
@@ -204,12 +178,10 @@ some_asked : (b : Bool) → (a : AskedValue) × IsAsked b a
 some_asked b = (record { kind = if b then kind.Custom else kind.Allgather; limits = record { k = 0; max_s = 1; max_c = 1; conflicts = 1; pruning = unpruned }; root = None }, record { limits = record { k = omega arith; some_steps = omega arith; steps = omega arith; some_chunks = omega arith; chunks = omega arith; some_conflicts = omega arith; conflicts = omega arith }; fits = no_root b; kind = of_version b })
   where
     no_root : (c : Bool) → RootFits (takes_root (if c then kind.Custom else kind.Allgather)) None
-    no_root true = refl
-    no_root false = refl
+    no_root c = grind arith
 
     of_version : (c : Bool) → is_custom (if c then kind.Custom else kind.Allgather) ≡ c
-    of_version true = refl
-    of_version false = refl
+    of_version c = grind arith
 
 some_report : (b : Bool) → (r : ReportValue) × IsReport r × (rest : List (List (List ℕ))) × (head_words b ∷ rest ≡ report_lines r)
 some_report b =
@@ -268,8 +240,7 @@ report_gives rows p =
     gives_then _ _ (among_gives (λ n. n ≡ a.1.number) rows (line_part header_line a.1) (header_gives a.1)) (λ e line. stop e.1 (one_stops h.0 a.0 ta.0 a.1 e.1 line))
     (λ d rd td. gives_then _ _ (at_line_gives a.1.number (refuse (not (is_same d.0 h.0)) code.BadLine)) (λ e line. stop e.1 (one_stops h.0 a.0 ta.0 a.1 e.1 line))
     (λ u ru kept.
-    let same : d.0 ≡ h.0 = same_is d.0 h.0 (not-false (is_same d.0 h.0) (refuse_alone (not (is_same d.0 h.0)) code.BadLine u kept)) in
-    let header : Between (spelling.head_words h.0 ∷ []) a.1 d.1 = subst (λ (b : Bool). Between (spelling.head_words b ∷ []) a.1 d.1) same td.1 in
+    let header : Between (spelling.head_words h.0 ∷ []) a.1 d.1 = subst (λ (b : Bool). Between (spelling.head_words b ∷ []) a.1 d.1) (grind arith) td.1 in
     gives_then _ _ (among_gives (λ n. n ≡ d.1.number) rows (line_part nodes_line d.1) (nodes_give d.1)) (λ e line. stop e.1 (node_stops h.0 a.0 ta.0 a.1 d.1 e.1 header line))
     (λ n rn tn. gives_then _ _ (at_line_gives d.1.number (root_of n.0 a.0.root)) (λ e line. stop e.1 (node_stops h.0 a.0 ta.0 a.1 d.1 e.1 header line))
     (λ root rr found.
@@ -289,8 +260,7 @@ report_gives rows p =
     (λ r t.
     let first : List (List (List ℕ)) = head_words h.0 ∷ asked_words a.0 ∷ lines_of z.0 in
     let lines = then_on (head_words h.0 ∷ asked_words a.0 ∷ []) (lines_of z.0) p a.1 c.1 front topology in
-    let P : ReportValue → Type 0 = λ x. IsReport x × (p.rows ≡ map row_of (report_lines x)) in
-    subst P t.is (
+    subst (λ x. IsReport x × (p.rows ≡ map row_of (report_lines x))) t.is (
       made_valid h.0 a.0 ta.0 z is t.behind t.valid,
       lines.rows ∙ ap (λ rs. map row_of first ++ rs) t.rows ∙ sym (map-append row_of first (lines_behind (words_from a.0 root) z.0 t.behind)) ∙ ap (map row_of) (made_lines h.0 a.0 ta.0 z is t.behind t.valid),
     ))

@@ -1,11 +1,11 @@
 -- What the checks of a line's shape took stands there.
-use Rattle.std.proofs.{Common.{arith, ◌≡◌, ℕ, ◌<◌, List, [], ◌∷◌, ◌++◌, map, length, Some, Ok, ◌⊎◌, ap, ◌∙◌, codes, decimal, bytes_eq}, lemmas.Slice.Eq.bytes_eq-Decides}
+use Rattle.std.proofs.{Common.{arith, ◌≡◌, ℕ, ◌<◌, List, [], ◌∷◌, ◌++◌, map, length, Some, Ok, ◌⊎◌, ap, ◌∙◌, codes, decimal}, lemmas.Slice.Eq.bytes_eq-Decides}
 use Rattle.text_lines.{specs.Check.◌>>=◌, proofs.{Checks.{bind_ok, need_ok, ok_is}, Numbers.up_to_found}}
 use Rattle.schedule.specs.declared.hop.Hop.{Hop}
 use Rattle.candidate_order.specs.{declared.{candidate.Candidate.Candidate, mark.Mark.Mark}, Frontiers.UnknownValue}
 use Rattle.candidate_order.specs.declared.mark.Mark.TheVariants as mark
 use Rattle.report_form.specs.{declared.fault.ReportCode.{ReportCode, TheVariants.BadLine}, Fields.{any_number, small_number}, Spelling.{candidate_words, mark_words, rounds_words, send_words, refuted_words}}
-use Rattle.report_form.specs.{Reading.{refuted_from, unknown_from}, Points.{HeadValue, candidate_from, mark_named, head_from, joined_head_from, numbers_from, rounds_from, send_from}}
+use Rattle.report_form.specs.{Reading.{refuted_from, unknown_from}, Points.{HeadValue, candidate_from, head_from, joined_head_from, numbers_from, rounds_from, send_from}}
 use Rattle.report_form.proofs.Tokens.{pass_then, pass_done, word_take, fixed_take, no_more_take, number_take, node_take}
 
 -- ---- a candidate
@@ -40,17 +40,12 @@ unknown_take words =
 abbrev pub head : Candidate → Mark → HeadValue
 head x m = record { candidate = x; mark = m }
 
-pub mark_take : (w : List ℕ) (m : Mark) → mark_named w ≡ Some m → (w ∷ [] ≡ mark_words m) × ((m ≡ mark.Optimal) ⊎ (m ≡ mark.Open))
-mark_take w m e = grind (arith, bytes_eq, bytes_eq-Decides)
-
 pub record HeadTaken (words : List (List ℕ)) (h : HeadValue) : Type 0 where
   pub stands : words ≡ codes "point" ∷ candidate_words h.candidate ++ mark_words h.mark
   pub mark : (h.mark ≡ mark.Optimal) ⊎ (h.mark ≡ mark.Open)
 
 pub head_take : (words : List (List ℕ)) (h : HeadValue) → head_from words ≡ Ok h → HeadTaken words h
-head_take words =
-    pass_then _ _ _ _ (fixed_take (codes "point") words) (λ a e1. pass_then _ _ _ _ (candidate_take a) (λ y e2. pass_then _ _ _ _ (word_take mark_named y.1)
-    (λ m t. pass_then _ _ _ _ (no_more_take m.1) (λ u e4. let (token, which) = mark_take t.word m.0 t.read_as in pass_done _ _ (record { stands = (let e3 = t.stands in cc); mark = which })))))
+head_take words = grind (arith, pass_then, fixed_take, candidate_take, word_take, no_more_take, pass_done, bytes_eq-Decides)
 
 pub joined_head_take : (words : List (List ℕ)) (x : Candidate × ℕ) → joined_head_from words ≡ Ok x → words ≡ codes "point" ∷ candidate_words x.0 ++ mark_words (mark.Joined x.1)
 joined_head_take words = grind (arith, pass_then, fixed_take, candidate_take, number_take, no_more_take, pass_done)
@@ -62,8 +57,7 @@ numbers_take [] ns e = let same : [] ≡ ns = ok_is {C = ReportCode} [] ns e in 
 numbers_take (w ∷ ws) ns e =
     let (n, r1, e1) = need_ok (small_number w) BadLine (λ m. numbers_from ws >>= (λ ms. Ok (m ∷ ms))) ns e in
     let (ms, r2, e2) = bind_ok (numbers_from ws) (λ ks. Ok (n ∷ ks)) ns e1 in
-    let same : n ∷ ms ≡ ns = ok_is {C = ReportCode} (n ∷ ms) ns e2 in
-    ap (λ v. v ∷ ws) (up_to_found 65535 n w r1).0 ∙ (ap (λ vs. decimal n ∷ vs) (numbers_take ws ms r2) ∙ ap (map decimal) same)
+    ap (λ v. v ∷ ws) (up_to_found 65535 n w r1).0 ∙ (ap (λ vs. decimal n ∷ vs) (numbers_take ws ms r2) ∙ ap (map decimal) (ok_is {C = ReportCode} (n ∷ ms) ns e2))
 
 pub rounds_take : (words : List (List ℕ)) (rounds : List ℕ) → rounds_from words ≡ Ok rounds → words ≡ rounds_words rounds
 rounds_take words rounds e = grind (arith, bind_ok, fixed_take, numbers_take)

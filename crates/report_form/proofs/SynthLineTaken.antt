@@ -1,14 +1,13 @@
 -- What the checks of the line that says what was asked took stands there, and is valid.
 use Rattle.std.proofs.{Common.{◌≡◌, ℕ, ◌<◌, Bool, true, false, ◌||◌, not, List, [], ◌∷◌, ◌++◌, length, Option, None, Some, Ok, refl, sym, ap, ◌∙◌, arith, codes, decimal, bytes_eq, find, if◌then◌else◌}, lemmas.Bool.and_parts}
 use Rattle.std.proofs.lemmas.{Slice.Eq.bytes_eq-Decides, List.append-nil, Option.same_Some}
-use Rattle.text_lines.{specs.{Text.Place, Check.line_part}, proofs.{Checks.{ok_is, if_some, need_is}, Gives.{Gives, Between}}}
-use Rattle.collective_spec.specs.{declared.kind.Kind.{Kind, TheVariants.Custom}, Kinds.{word_of, takes_root, is_custom}}
+use Rattle.text_lines.{specs.{Text.Place, Check.line_part}, proofs.{Checks.{ok_is, need_is}, Gives.{Gives, Between}}}
+use Rattle.collective_spec.specs.{declared.kind.Kind.{Kind}, Kinds.{word_of, takes_root, is_custom}}
 use Rattle.candidate_order.specs.{declared.pruning.Pruning.Pruning, Ranges.{LimitsValue, IsLimits, unpruned}}
-use Rattle.topology_text.{specs.{Names.{is_name, name_of}, Spelling.name_at, Reading.node_of}, proofs.Links.node_is}
+use Rattle.topology_text.{specs.{Names.{is_name}, Spelling.name_at}, proofs.Links.node_is}
 use Rattle.report_form.specs.{declared.fault.ReportCode.ReportCode, Reports.IsWords, Spelling.{word_if, pruning_words, synth_words}, Tests.are_limits, Fields.{any_number, next_keyed}}
 use Rattle.report_form.specs.SynthLine.{AskedValue, kinds_of, kind_named, limits_from, root_from, said_from, pruning_from, asked_from, may_be_asked, asked_line, root_of, words_from}
 use Rattle.report_form.proofs.{Tested.decides_limits, Tokens.{pass_then, pass_done, word_take, fixed_take, no_more_take, keyed_is, any_number_is}, LineTaken.ruled_gives}
-use Rattle.report_form.specs.declared.fault.ReportCode.TheVariants as code
 
 -- ---- keys
 
@@ -33,11 +32,7 @@ kind_standard : (w : List ℕ) (k : Kind) → kind_named false w ≡ Some k → 
 kind_standard w k e = standard k (ap (kind_named false) (sym (kind_is false w k e)) ∙ e)
   where
     standard : (x : Kind) → kind_named false (word_of x) ≡ Some x → is_custom x ≡ false
-    standard Custom h = absurd (cc)
-    standard x h = refl
-
-name_is : (w name : List ℕ) → name_of w ≡ Some name → (w ≡ name) × (is_name name ≡ true)
-name_is w name e = let (good, found) = if_some (is_name w) (Some w) name e in let same = same_Some w name found in (same, ap is_name (sym same) ∙ good)
+    standard x h = grind arith
 
 -- ---- the limits
 
@@ -52,14 +47,10 @@ pub limits_take : (words : List (List ℕ)) (x : LimitsValue × List (List ℕ))
 limits_take words =
     pass_then _ _ _ _ (keyed_take (codes "k=") any_number words) (λ k t1. pass_then _ _ _ _ (keyed_take (codes "steps=") any_number k.1) (λ s t2. pass_then _ _ _ _ (keyed_take (codes "chunks=") any_number s.1)
     (λ c t3. pass_then _ _ _ _ (keyed_take (codes "conflicts=") any_number c.1) (λ n t4. pass_done _ _ (λ ok.
-    let most_k = ok.k in
-    let most_s = ok.steps in
-    let most_c = ok.chunks in
-    let most_n = ok.conflicts in
-    let e1 = any_number_is t1.value k.0 t1.read_as (omega (arith, most_k)) in
-    let e2 = any_number_is t2.value s.0 t2.read_as (omega (arith, most_s)) in
-    let e3 = any_number_is t3.value c.0 t3.read_as (omega (arith, most_c)) in
-    let e4 = any_number_is t4.value n.0 t4.read_as (omega (arith, most_n)) in
+    let e1 = any_number_is t1.value k.0 t1.read_as (omega (arith, ok.k)) in
+    let e2 = any_number_is t2.value s.0 t2.read_as (omega (arith, ok.steps)) in
+    let e3 = any_number_is t3.value c.0 t3.read_as (omega (arith, ok.chunks)) in
+    let e4 = any_number_is t4.value n.0 t4.read_as (omega (arith, ok.conflicts)) in
     cc)))))
 
 -- ---- the root
@@ -79,13 +70,12 @@ pub record RootTaken (takes : Bool) (words : List (List ℕ)) (x : Option (List 
   pub fits : RootFits takes x.0
 
 pub root_take : (kind : Kind) (words : List (List ℕ)) (x : Option (List ℕ) × List (List ℕ)) → root_from kind words ≡ Ok x → RootTaken (takes_root kind) words x
-root_take kind words = grind (arith, pass_then, keyed_take, name_is, pass_done)
+root_take kind words = grind (arith, pass_then, keyed_take, pass_done)
 
 -- ---- what may be left out
 
 said_is : (word : List ℕ) (words : List (List ℕ)) → words ≡ word_if word (said_from word words).0 ++ (said_from word words).1
-said_is word [] = refl
-said_is word (w ∷ ws) = grind (arith, bytes_eq, bytes_eq-Decides)
+said_is word words = grind (arith, bytes_eq-Decides)
 
 pub pruning_take : (words : List (List ℕ)) (p : Pruning) → pruning_from words ≡ Ok p → words ≡ pruning_words p
 pruning_take words =
@@ -128,11 +118,6 @@ asked_take patterned words =
       kind = kind_fits patterned t.value k.0 t.read_as;
     }))))))
 
--- the kind is that of the version
-kind_of_version : (patterned : Bool) (k : Kind) → (patterned ≡ false → is_custom k ≡ false) → (not patterned || is_custom k) ≡ true → is_custom k ≡ patterned
-kind_of_version true k standard may = may
-kind_of_version false k standard may = standard refl
-
 pub record IsAsked (patterned : Bool) (a : AskedValue) : Type 0 where
   pub limits : IsLimits a.limits
   pub fits : RootFits (takes_root a.kind) a.root
@@ -144,7 +129,7 @@ asked_gives patterned p = ruled_gives (asked_from patterned) (may_be_asked patte
     let taken = asked_take patterned words a shape in
     let (within, may) = and_parts (are_limits a.limits) (not patterned || is_custom a.kind) rule in
     let ok = (decides_limits a.limits).0 within in
-    (taken.stands ok, record { limits = ok; fits = taken.fits; kind = kind_of_version patterned a.kind taken.kind may })) p
+    (taken.stands ok, record { limits = ok; fits = taken.fits; kind = (grind (arith, taken.kind)) })) p
 
 -- ---- with the names
 
@@ -160,15 +145,7 @@ words_take names a root some ok fits e = chosen (takes_root a.kind) refl fits
     front ws = codes "synth" ∷ (codes "collective=" ++ word_of a.kind) ∷ limits_words a.limits (ws ++ pruning_words a.limits.pruning)
 
     chosen : (b : Bool) → b ≡ takes_root a.kind → RootFits b a.root → WordsTaken names a root
-    chosen true takes (name, is, good) =
-        let found : node_of names name ≡ Some root = need_is (node_of names name) code.Limits root (ap (root_of names) (sym is) ∙ e) in
-        let (below, named) = node_is names name root found in
-        record {
-          spelled = ap (λ o. front (root_tokens o)) is
-              ∙ (ap (λ v. front ((codes "root=" ++ v) ∷ [])) (sym named)
-              ∙ ap (λ b. front (if b then (codes "root=" ++ name_at names root) ∷ [] else [])) takes);
-          valid = record { limits = ok; root = below; no_root = λ h. absurd (let both : true ≡ false = takes ∙ h in cc) };
-        }
+    chosen true takes (name, is, good) = grind (arith, node_is, need_is, front)
     chosen false takes is =
         let zero_root : 0 ≡ root = ok_is {C = ReportCode} 0 root (ap (root_of names) (sym is) ∙ e) in
         record {

@@ -1,5 +1,5 @@
 -- What the checks of tokens took stands there.
-use Rattle.std.proofs.{Common.{◌≡◌, ℕ, ◌<◌, ◌^◌, true, ◌&&◌, not, List, [], ◌∷◌, ◌++◌, length, drop, Option, Some, Result, Ok, refl, sym, ap, ◌∙◌, subst, arith, ◌==◌, bytes_eq, decimal, nat_eq, nat_le}, lemmas.Bool.Decides.Decides-eqb}
+use Rattle.std.proofs.{Common.{◌≡◌, ℕ, ◌<◌, ◌^◌, true, List, [], ◌∷◌, ◌++◌, length, drop, Option, Some, Result, Ok, sym, ap, ◌∙◌, subst, arith, decimal, nat_eq, nat_le}, lemmas.Bool.Decides.Decides-eqb}
 use Rattle.std.{proofs.lemmas.{Option.same_Some, Bool.{and_parts, not-true, not-false, leb-true, eqb-false}, Slice.Eq.{bytes_eq-Decides, starts_is}}, specs.{List.list_all, Str.Parse.{AllDigits, digits_value}}}
 use Rattle.text_lines.{specs.Check.◌>>=◌, proofs.{Checks.{bind_ok, done, need_ok, refuse_ok, ok_is, if_some}, Numbers.{up_to_found, spells, digit_is}}}
 use Rattle.topology_text.{specs.{Spelling.name_at, Reading.node_of}, proofs.Links.node_is}
@@ -23,16 +23,13 @@ abbrev pub with_rest : {A : Type 0} → List (List ℕ) → A → Result (A × L
 with_rest ws x = Ok (x, ws)
 
 pub word_take : {A : Type 0} (read : List ℕ → Option A) (words : List (List ℕ)) (x : A × List (List ℕ)) → next_word read words ≡ Ok x → WordTaken read words x
-word_take read [] x e = absurd (cc)
-word_take {A} read (w ∷ ws) x e = grind (arith, need_ok, ok_is)
+word_take {A} read words x e = grind (arith, need_ok, ok_is)
 
 pub fixed_take : (word : List ℕ) (words rest : List (List ℕ)) → fixed_word word words ≡ Ok rest → words ≡ word ∷ rest
-fixed_take word [] rest e = absurd (cc)
-fixed_take word (w ∷ ws) rest e = grind (arith, refuse_ok, bytes_eq, bytes_eq-Decides, not-false, ok_is)
+fixed_take word words rest e = grind (arith, refuse_ok, bytes_eq-Decides, not-false, ok_is)
 
 pub no_more_take : (words : List (List ℕ)) (u : Unit {0}) → no_more words ≡ Ok u → words ≡ []
-no_more_take [] u e = refl
-no_more_take (w ∷ ws) u e = absurd (cc)
+no_more_take words u e = grind arith
 
 -- ---- numbers and names
 
@@ -52,19 +49,11 @@ digits_all (b ∷ bs) e =
     let range = and_parts (nat_le 48 b) (nat_le b 57) parts.0 in
     let low = leb-true 48 b range.0 in
     let high = leb-true b 57 range.1 in
-    let is = digit_is b low high in
-    (omega (arith, is, low, high), digits_all bs parts.1)
+    (omega (arith, digit_is b low high, low, high), digits_all bs parts.1)
 
 -- a canonical number that is small enough is spelled by its digits
 pub canonical : (token : List ℕ) → is_number token ≡ true → digits_value 10 token < 2 ^ 64 → token ≡ decimal (digits_value 10 token)
-canonical [] e small = absurd (cc)
-canonical (b ∷ []) e small = spells (b ∷ []) (digits_all (b ∷ []) (one e)) (omega arith) (λ zero_first. refl) small
-  where
-    one : is_digit b ≡ true → (is_digit b && true) ≡ true
-    one h = ap (λ x. x && true) h
-canonical (b ∷ c ∷ bs) e small =
-    let parts = and_parts (not (b == 48)) (list_all is_digit (b ∷ c ∷ bs)) e in
-    spells (b ∷ c ∷ bs) (digits_all (b ∷ c ∷ bs) parts.1) (omega arith) (λ zero_first. absurd (eqb-false b 48 (not-true (b == 48) parts.0) zero_first)) small
+canonical token e small = grind (arith, spells, digits_all, and_parts, eqb-false, not-true)
 
 pub any_number_is : (token : List ℕ) (n : ℕ) → any_number token ≡ Some n → n < 2 ^ 64 → token ≡ decimal n
 any_number_is token n e small = grind (arith, if_some, same_Some, canonical)

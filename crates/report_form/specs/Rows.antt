@@ -6,7 +6,7 @@ use Rattle.collective_spec.specs.declared.kind.Kind.{Kind, TheVariants.{Broadcas
 use Rattle.candidate_order.specs.{declared.mark.Mark.Mark, Ranges.unpruned, Frontiers.{PointValue, FrontierValue}}
 use Rattle.candidate_order.specs.declared.mark.Mark.TheVariants as mark
 use Rattle.topology_text.specs.Value.{NamedTopologyValue}
-use Rattle.report_form.specs.Reports.{WordsValue, ReportValue}
+use Rattle.report_form.specs.Reports.{WordsValue, ReportValue, whole_report}
 unfoldable pub use Rattle.std.specs.Fmt.{digits}
 
 -- two nodes in a row
@@ -89,19 +89,8 @@ moved_topology =
 
 -- the chunk is moved in two steps; one step is not enough
 abbrev pub moved_report : ReportValue
-moved_report = record {
-  words = record { collective = record { kind = Custom; root = 0 }; limits = record { k = 0; max_s = 2; max_c = 1; conflicts = 1000; pruning = unpruned } };
-  topology = moved_topology;
-  frontiers = (
-    Whole,
-    record {
-      points = point 2 2 mark.Optimal (1 ∷ 1 ∷ []) (send 0 0 1 1 ∷ send 0 1 2 2 ∷ []) ∷ [];
-      refuted = record { s = 1; r = 1; c = 1 } ∷ [];
-      unknown = [];
-    },
-  ) ∷ [];
-  joined = [];
-}
+moved_report = whole_report (record { collective = record { kind = Custom; root = 0 }; limits = record { k = 0; max_s = 2; max_c = 1; conflicts = 1000; pruning = unpruned } }) moved_topology
+    (record { points = point 2 2 mark.Optimal (1 ∷ 1 ∷ []) (send 0 0 1 1 ∷ send 0 1 2 2 ∷ []) ∷ []; refuted = record { s = 1; r = 1; c = 1 } ∷ []; unknown = [] })
 
 -- ---- pieces of texts
 

@@ -7,6 +7,7 @@ ghost use Rattle.report_form.specs.{Reports.{ReportValue, IsReport}, Spelling.re
 use candidate_order::Candidate;
 
 /// Each test of limits and of candidates is true exactly where what it tests holds.
+#[tactic(auto, using(crate::proofs::Tested::decides_limits, crate::proofs::Tested::decides_within, crate::proofs::Tested::decides_no_worse, crate::proofs::Tested::decides_better, crate::proofs::Tested::decides_before))]
 pub fn tests_decide()
     ensures limits { (l : LimitsValue) → Decides (are_limits l) (IsLimits l) }
     ensures within { (q : QuestionValue) (x : Candidate) → Decides (is_within q x) (IsWithin q x) }

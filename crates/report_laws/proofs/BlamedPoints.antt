@@ -1,19 +1,17 @@
 -- A line of a point or of a list that is blamed has the code of its form.
-use Rattle.std.proofs.Common.{◌≡◌, ℕ, ◌<◌, Bool, true, false, ◌&&◌, ◌||◌, List, [], ◌∷◌, ◌++◌, map, length, Option, None, Some, Result, refl, sym, ap, ◌∙◌, arith, ◌==◌, codes, bytes_eq, slice_index_or, drop, is_some}
-use Rattle.std.specs.List.{list_any, last_or}
+use Rattle.std.proofs.Common.{◌≡◌, ℕ, ◌<◌, Bool, true, false, ◌&&◌, ◌||◌, List, [], ◌∷◌, ◌++◌, map, length, None, Result, refl, sym, ap, ◌∙◌, arith, ◌==◌, codes, bytes_eq, slice_index_or, drop, is_some}
+use Rattle.std.{proofs.Math.Bool.or-false, specs.List.{list_any, last_or}}
 use Rattle.text_lines.specs.{Text.{Row, Place, words_of}, Check.{◌>>=◌, first, line_part}, Number.number_up_to, Repeated.{begins, row_begins, parts_at}}
 use Rattle.text_lines.proofs.{Gives.{Gives, gives_done, gives_like}, Steady.piece_shortens, Words.begins_is}
-use Rattle.schedule.specs.declared.hop.Hop.{Hop}
 use Rattle.collective_spec.specs.Collectives.{chunks_in}
 use Rattle.outer_ports.specs.declared.part.Part.{Part}
 use Rattle.candidate_order.specs.declared.mark.Mark.TheVariants as mark
 use Rattle.candidate_order.specs.Frontiers.{QuestionValue, PointValue, FrontierValue}
-use Rattle.report_form.specs.{declared.fault.ReportCode.ReportCode, Tests.{is_within, comes_next}, Lines.fixed_line}
-use Rattle.report_form.specs.Points.{HeadValue, head_from, joined_head_from, may_join, rounds_from, are_rounds, rounds_line, send_from, send_line, may_be_sent, follows, schedule_at, frontier_point_at, joined_point_at}
-use Rattle.report_form.{specs.Reading.{part_bytes, refuted_from, refuted_line, unknown_from, unknown_line, frontier_at}, proofs.LineTaken.{on_words, ruled_by}}
+use Rattle.report_form.specs.{Points.{HeadValue, head_from, joined_head_from, may_join, rounds_from, are_rounds, rounds_line, send_from, send_line, may_be_sent, follows, schedule_at, frontier_point_at, joined_point_at}, Lines.fixed_line}
+use Rattle.report_form.{specs.{Reading.{part_bytes, refuted_from, refuted_line, unknown_from, unknown_line, frontier_at}, declared.fault.ReportCode.ReportCode, Tests.{is_within, comes_next}}, proofs.LineTaken.{on_words, ruled_by}}
 use Rattle.report_laws.specs.Shapes.{Token, Word, Any, has_shape, small, is_decimal, candidate_shape, send_shape, formed, rounds, unknown, refuted, results, forms_after}
 use Rattle.report_laws.proofs.{LocalParts.steady_schedule, ShapesTold.{Told, mark_shape, rounds_shape, refuted_told, unknown_told, head_told, joined_head_told, rounds_told, send_told}}
-use Rattle.report_laws.proofs.Blaming.{Form, goes_on, or_false, told_code, ruled_goes, fixed_goes, first_of_shape, first_of_front, unbegun, Coded, At, coded_at, line_goes, lines_go, parts_go, less}
+use Rattle.report_laws.proofs.Blaming.{Form, goes_on, told_code, ruled_goes, fixed_goes, first_of_shape, first_of_front, unbegun, Coded, At, coded_at, line_goes, lines_go, parts_go, less}
 
 -- ---- the one form that a line with this first word can have
 
@@ -31,18 +29,16 @@ unknown_shape = candidate_shape (codes "unknown") (Any is_decimal ∷ [])
 
 -- where the first of the forms is the only one that fits these words
 alone : (F test : List (List ℕ) → Bool) (row : Row) (ws : List (List ℕ)) → words_of row.bytes ≡ ws → F ws ≡ (test ws || false) → F (words_of row.bytes) ≡ test (words_of row.bytes)
-alone F test row ws is same = ap F is ∙ (same ∙ (or_false (test ws) ∙ ap test (sym is)))
+alone F test row ws is same = ap F is ∙ (same ∙ (or-false (test ws) ∙ ap test (sym is)))
 
 point_alone : (joined : Bool) (row : Row) (rest : List (List ℕ)) → words_of row.bytes ≡ codes "point" ∷ rest → list_any (λ form. form row) (results joined) ≡ has_shape (point_shape joined) (words_of row.bytes)
-point_alone true row rest is = or_false (has_shape (point_shape true) (words_of row.bytes))
-point_alone false row rest is = alone (λ ws. has_shape (point_shape false) ws || (has_shape refuted_shape ws || (has_shape unknown_shape ws || false))) (has_shape (point_shape false)) row (codes "point" ∷ rest) is refl
+point_alone joined row rest is = grind (arith, or-false, alone)
 
 refuted_alone : (row : Row) (rest : List (List ℕ)) → words_of row.bytes ≡ codes "refuted" ∷ rest → list_any (λ form. form row) (refuted ∷ unknown ∷ []) ≡ has_shape refuted_shape (words_of row.bytes)
 refuted_alone row rest is = alone (λ ws. has_shape refuted_shape ws || (has_shape unknown_shape ws || false)) (has_shape refuted_shape) row (codes "refuted" ∷ rest) is refl
 
 send_alone : (names : List (List ℕ)) (joined : Bool) (row : Row) (rest : List (List ℕ)) → words_of row.bytes ≡ codes "send" ∷ rest → list_any (λ form. form row) (formed (send_shape names) ∷ results joined) ≡ has_shape (send_shape names) (words_of row.bytes)
-send_alone names true row rest is = alone (λ ws. has_shape (send_shape names) ws || (has_shape (point_shape true) ws || false)) (has_shape (send_shape names)) row (codes "send" ∷ rest) is refl
-send_alone names false row rest is = alone (λ ws. has_shape (send_shape names) ws || (has_shape (point_shape false) ws || (has_shape refuted_shape ws || (has_shape unknown_shape ws || false)))) (has_shape (send_shape names)) row (codes "send" ∷ rest) is refl
+send_alone names joined row rest is = grind (arith, alone)
 
 -- the code by that form
 alone_code : {b c : Bool} (row : Row) (why : ReportCode) → c ≡ b → why ≡ told_code b row → why ≡ told_code c row
@@ -52,10 +48,6 @@ alone_code row why same e = e ∙ ap (λ t. told_code t row) (sym same)
 no_form : (word : List ℕ) (shape : List Token) (row : Row) → begins (word ++ 32 ∷ []) row.bytes ≡ false → has_shape (Word word ∷ small ∷ shape) (words_of row.bytes) ≡ false
 no_form word shape row other = unbegun word (λ w. is_some (number_up_to 65535 w)) shape row other
 
--- a line that begins so stands there
-there : (word : List ℕ) (o : Option Row) (row : Row) → row_begins word o ≡ true → o ≡ Some row → begins word row.bytes ≡ true
-there word o row begun is = ap (row_begins word) (sym is) ∙ begun
-
 -- the line that begins the part of a frontier
 abbrev pub IsTitle : Part → Type 0
 IsTitle part = slice_index_or (words_of (part_bytes part)) 0 [] ≡ codes "frontier"
@@ -64,17 +56,14 @@ module _ (rows : List Row) (names : List (List ℕ)) where
   -- ---- points
 
   module _ (q : QuestionValue) (joined : Bool) where
-    abbrev send_check : HeadValue → List Hop → Option Row → Result Hop ReportCode
-    send_check head = send_line names (chunks_in q.spec q.topology.nodes head.candidate.c) head.candidate.s
-
     schedule_goes : (head : HeadValue) (p : Place) → At rows names joined (rounds ∷ []) p → Gives (Coded rows) (λ (x : PointValue × Place). At rows names joined (results joined) x.1) (schedule_at names q head p)
     unfolding schedule_at
     schedule_goes head p at =
         goes_on _ _
-        (line_goes rows names joined (rounds ∷ []) (codes "rounds") joined (formed (send_shape names) ∷ results joined) (or_false joined) (λ b. refl) (rounds_line head.candidate) p at refl
-        (λ row here. gives_like (λ why is. alone_code row why (or_false (rounds row)) is) (λ rs has. first_of_shape (codes "rounds") (map (λ w. small) (drop 1 (words_of row.bytes))) row has) (ruled_goes (λ words. has_shape (rounds_shape words) words) rounds_from (are_rounds head.candidate) (λ rs. rs) (λ ws. (rounds_told ws).told) row)))
+        (line_goes rows names joined (rounds ∷ []) (codes "rounds") joined (formed (send_shape names) ∷ results joined) (or-false joined) (λ b. refl) (rounds_line head.candidate) p at refl
+        (λ row here. gives_like (λ why is. alone_code row why (or-false (rounds row)) is) (λ rs has. first_of_shape (codes "rounds") (map (λ w. small) (drop 1 (words_of row.bytes))) row has) (ruled_goes (λ words. has_shape (rounds_shape words) words) rounds_from (are_rounds head.candidate) (λ rs. rs) (λ ws. (rounds_told ws).told) row)))
         (λ rs read at_rounds. goes_on _ _
-        (lines_go rows names joined (formed (send_shape names) ∷ results joined) (Coded rows) (codes "send") refl (or_false joined) (λ b. refl) (send_check head)
+        (lines_go rows names joined (formed (send_shape names) ∷ results joined) (Coded rows) (codes "send") refl (or-false joined) (λ b. refl) (send_line names (chunks_in q.spec q.topology.nodes head.candidate.c) head.candidate.s)
         (λ before p row why at is begun e. coded_at rows names joined (formed (send_shape names) ∷ results joined) p row why at is (alone_code row why (send_alone names joined row (tail_of (codes "send") row) (begins_is (codes "send") row.bytes refl begun))
         ((ruled_goes (has_shape (send_shape names)) (send_from names) (λ h. may_be_sent (chunks_in q.spec q.topology.nodes head.candidate.c) head.candidate.s h && follows (last_or None before) h) (λ h. h) (λ ws. (send_told names ws).told) row).err why e))) rs.1 at_rounds)
         (λ s sent left. gives_done _ (less rows names joined (formed (send_shape names)) (results joined) s.1 left.0 (λ row h. no_form (codes "send") (drop 2 (send_shape names)) row (left.1 row h)))))
@@ -85,8 +74,8 @@ module _ (rows : List Row) (names : List (List ℕ)) where
           → Gives (Coded rows) (λ (x : PointValue × Place). At rows names joined (results joined) x.1 × (length x.1.rows < length p.rows)) (line_part (on_words (ruled_by shape rule made)) p >>= (λ h. schedule_at names q h.0 h.1))
       point_goes p at begun =
           let g = goes_on _ (λ h. schedule_at names q h.0 h.1)
-          (line_goes rows names joined (results joined) (codes "point") joined (rounds ∷ []) (or_false joined) (λ b. refl) (on_words (ruled_by shape rule made)) p at refl
-          (λ row here. let front = there (codes "point ") (first p.rows) row begun here in
+          (line_goes rows names joined (results joined) (codes "point") joined (rounds ∷ []) (or-false joined) (λ b. refl) (on_words (ruled_by shape rule made)) p at refl
+          (λ row here. let front = ap (row_begins (codes "point ")) (sym here) ∙ begun in
           gives_like (λ why is. alone_code row why (point_alone joined row (tail_of (codes "point") row) (begins_is (codes "point") row.bytes refl front)) is) (λ h is. first_of_front (codes "point") row refl front) (ruled_goes (has_shape (point_shape joined)) shape rule made told row)))
           (λ h read at_head. schedule_goes h.0 h.1 at_head) in
           record { ok = λ x read. (g.ok x read, piece_shortens (codes "point ") (λ before. on_words (ruled_by shape rule made)) (λ h. schedule_at names q h.0 h.1) (steady_schedule names q) [] p x begun read); err = g.err }
@@ -127,7 +116,7 @@ module _ (rows : List Row) (names : List (List ℕ)) where
       ((ruled_goes (has_shape refuted_shape) refuted_from (λ y. is_within q y && comes_next (last_or None before) y) (λ y. y) (λ ws. (refuted_told ws).told) row).err why e)))
       x.1 (less rows names false (formed (point_shape false)) (refuted ∷ unknown ∷ []) x.1 left.0 (λ row h. no_form (codes "point") (small ∷ small ∷ mark_shape false) row (left.1 row h))))
       (λ r refused gone. goes_on _ _ (lines_go rows names false (unknown ∷ []) (Coded rows) (codes "unknown") refl refl (λ b. refl) (unknown_line q)
-      (λ before p row why at is begun e. coded_at rows names false (unknown ∷ []) p row why at is (alone_code row why (or_false (unknown row))
+      (λ before p row why at is begun e. coded_at rows names false (unknown ∷ []) p row why at is (alone_code row why (or-false (unknown row))
       ((ruled_goes (has_shape unknown_shape) unknown_from (λ u. is_within q u.candidate && comes_next (last_or None (map (λ y. y.candidate) before)) u.candidate && u.conflicts == q.limits.conflicts) (λ u. u) (λ ws. (unknown_told ws).told) row).err why e)))
       r.1 (less rows names false refuted (unknown ∷ []) r.1 gone.0 (λ row h. no_form (codes "refuted") (small ∷ small ∷ []) row (gone.1 row h))))
       (λ u given last. gives_done _ (less rows names false unknown [] u.1 last.0 (λ row h. no_form (codes "unknown") (small ∷ small ∷ Any is_decimal ∷ []) row (last.1 row h)))))))

@@ -1,6 +1,6 @@
 -- The line that the checks of a report blame has the code of its form.
 use Rattle.std.proofs.Common.{◌≡◌, ℕ, zero, suc, ◌+◌, Bool, true, false, ◌||◌, not, List, [], ◌∷◌, ◌++◌, map, length, drop, Option, None, Some, Result, Ok, Err, refl, sym, ap, ◌∙◌, arith, ◌==◌, codes, bytes_eq, if◌then◌else◌, slice_index_or, is_ok}
-use Rattle.std.{proofs.lemmas.{Bool.{and_parts, not-false, or_parts}, Option.same_Some, Slice.Eq.bytes_eq-Decides}, specs.List.list_any}
+use Rattle.std.{proofs.{Math.Bool.or-false, lemmas.{Bool.{and_parts, not-false, or_parts}, Option.same_Some, Slice.Eq.bytes_eq-Decides}}, specs.List.list_any}
 use Rattle.text_lines.specs.{Text.{Row, Place, words_of, rows_of, start, behind}, Check.{refuse, first, line_part}, Repeated.{begins, parts_at}}
 use Rattle.text_lines.proofs.{Checks.refuse_ok, Gives.{Gives, gives_done, gives_fail, gives_like}, Rows.{row_of, words_again}, Words.tokens_from}
 use Rattle.schedule.specs.Links.{GroupValue}
@@ -14,9 +14,8 @@ use Rattle.report_form.specs.{declared.fault.ReportCode.ReportCode, Reports.{Wor
 use Rattle.report_form.specs.{SynthLine.{AskedValue, kinds_of, asked_from, may_be_asked, asked_line, root_of, words_from}, Reading.{part_bytes, frontiers_from, joined_at, body_of, version_line, is_same, report_of}}
 use Rattle.report_form.proofs.ReportTaken.{after_root, after_names, after_same, after_asked, after_head, report_at, report_is}
 use Rattle.report_form.specs.declared.fault.ReportCode.TheVariants as code
-use Rattle.report_laws.specs.Shapes.{has_shape, asked_shape, results, forms_after, first_word, is_patterned, names_in, forms_behind, code_of}
-use Rattle.report_laws.proofs.{ShapesTold.asked_told, BlamedPoints.{joined_points_go, IsTitle, title_goes, frontier_goes}}
-use Rattle.report_laws.proofs.Blaming.{Form, is_joined, fits, last_is, goes_on, at_line_goes, part_goes, or_false, told_code, ruled_goes, first_of_shape, first_of_front, On, Coded, Unfit, code_on, unfit_on, among_goes, Stands, stands_goes, told_on, At, coded_at, onward, lines_go}
+use Rattle.report_laws.proofs.Blaming.{Form, is_joined, fits, last_is, goes_on, at_line_goes, part_goes, told_code, ruled_goes, first_of_shape, first_of_front, On, Coded, Unfit, code_on, unfit_on, among_goes, Stands, stands_goes, told_on, At, coded_at, onward, lines_go}
+use Rattle.report_laws.{specs.Shapes.{has_shape, asked_shape, results, forms_after, first_word, is_patterned, names_in, code_of}, proofs.{BlamedPoints.{joined_points_go, IsTitle, title_goes, frontier_goes}, ShapesTold.asked_told}}
 
 -- ---- the body
 
@@ -24,14 +23,6 @@ use Rattle.report_laws.proofs.Blaming.{Form, is_joined, fits, last_is, goes_on, 
 abbrev Titles : List Part → Type 0
 Titles [] = Unit {0}
 Titles (part ∷ parts) = IsTitle part × Titles parts
-
-titles_of : (k : Kind) → Titles (parts_of k)
-titles_of kind.Allreduce = (refl, (refl, tt))
-titles_of k = (refl, tt)
-
--- no line may stand there
-none_goes : (row : Row) → Gives (λ (why : ReportCode). why ≡ told_code false row) (λ (u : Unit {0}). Unit {0}) (no_line (Some row))
-none_goes row = grind (arith, gives_fail)
 
 module _ (rows : List Row) (words : WordsValue) (t : NamedTopologyValue) where
   frontiers_go : (parts : List Part) → Titles parts → (p : Place) → At rows t.names false [] p → Gives (Coded rows) (λ (x : List (Part × FrontierValue) × Place). At rows t.names false [] x.1) (frontiers_from words t parts p)
@@ -53,14 +44,14 @@ module _ (rows : List Row) (words : WordsValue) (t : NamedTopologyValue) where
     where
       by_line : (o : Option Row) → first p.rows ≡ o → Gives (λ (why : ReportCode). Coded rows (why, p.number)) (λ (u : Unit {0}). Unit {0}) (no_line o)
       by_line None here = gives_done tt tt
-      by_line (Some row) here = gives_like (λ why is. coded_at rows t.names joined [] p row why at here is) (λ u v. v) (none_goes row)
+      by_line (Some row) here = gives_like (λ why is. coded_at rows t.names joined [] p row why at here is) (λ u v. v) (grind (arith, gives_fail))
 
   body_goes : (p : Place) → At rows t.names false [] p → Gives (Coded rows) (λ (x : ReportValue). Unit {0}) (body_of words t p)
   unfolding body_of
   body_goes p at =
-      goes_on _ _ (frontiers_go (parts_of words.collective.kind) (titles_of words.collective.kind) p at)
+      goes_on _ _ (frontiers_go (parts_of words.collective.kind) (grind arith) p at)
       (λ f read here. goes_on _ _ (joined_goes words.collective.kind f.1 here)
-      (λ j more there. goes_on _ _ (title_goes rows t.names there.0 there.0 (codes "end") (codes "end") [] refl (or_false there.0) (λ b. refl) j.1 there.1)
+      (λ j more there. goes_on _ _ (title_goes rows t.names there.0 there.0 (codes "end") (codes "end") [] refl (or-false there.0) (λ b. refl) j.1 there.1)
       (λ e ended last. goes_on _ _ (nothing_goes there.0 e.1 last) (λ u none v. gives_done _ tt))))
 
 -- ---- the topology behind its names
@@ -118,49 +109,30 @@ module _ (text : List ℕ) where
   abbrev Passed : ReportValue → Type 0
   Passed r = Unit {0}
 
-  first_header : (patterned : Bool) → first_word (row_of (head_words patterned)) ≡ codes "topology"
-  first_header true = refl
-  first_header false = refl
-
   -- the forms that may stand behind these lines, by the first word of the last
   fits_after : (before : List Row) (r row : Row) (w : List ℕ) → first_word r ≡ w → (forms : List Form) → forms_after (is_patterned (before ++ r ∷ [])) (names_in (before ++ r ∷ [])) (is_joined (map first_word (before ++ r ∷ []))) w ≡ forms → fits (before ++ r ∷ []) row ≡ list_any (λ form. form row) forms
-  fits_after before r row w is forms e =
-      ap (λ o. list_any (λ form. form row) (forms_behind (before ++ r ∷ []) o)) (last_is before r None)
-      ∙ (ap (λ v. list_any (λ form. form row) (forms_after (is_patterned (before ++ r ∷ [])) (names_in (before ++ r ∷ [])) (is_joined (map first_word (before ++ r ∷ []))) v)) is ∙ ap (λ fs. list_any (λ form. form row) fs) e)
+  fits_after before r row w is forms e = grind (arith, last_is, is_joined)
 
   module _ (head : Bool × Place) (r1 : Row) (on1 : On all (r1 ∷ []) head.1) (w1 : first_word r1 ≡ codes "sccl") (v1 : is_patterned (r1 ∷ []) ≡ head.0) where
     module _ (a : AskedValue × Place) (r2 : Row) (on2 : On all (r1 ∷ r2 ∷ []) a.1) (w2 : first_word r2 ≡ codes "synth") where
       module _ (d : Bool × Place) (r3 : Row) (on3 : On all (r1 ∷ r2 ∷ r3 ∷ []) d.1) (w3 : first_word r3 ≡ codes "topology") where
         -- behind the names
         module _ (n : List (List ℕ) × Place) (r4 : Row) (on4 : On all (r1 ∷ r2 ∷ r3 ∷ r4 ∷ []) n.1) (is4 : r4 ≡ row_of (nodes_words n.0)) (named : AreNames n.0) where
-          words4 : words_of r4.bytes ≡ nodes_words n.0
-          words4 = ap (λ r. words_of r.bytes) is4 ∙ words_again (nodes_words n.0) (tokens_from (nodes_words n.0) (omega arith) (nodes_are_words n.0 named))
-
-          w4 : first_word r4 ≡ codes "nodes"
-          w4 = ap (λ ws. slice_index_or ws 0 []) words4
-
-          at_groups : At all n.0 false [] n.1
-          at_groups = grind (arith, words4, is_joined, w4, fits_after)
-
           root_goes : (root : ℕ) → Gives (Coded all) Passed (after_root all head.0 a.0 n root)
           root_goes root =
-              goes_on _ _ (among_goes all (λ (x : List GroupValue × Place). At all n.0 false [] x.1) (groups_at n.0 n.1) (groups_go all n.0 n.1 at_groups))
+              goes_on _ _ (among_goes all (λ (x : List GroupValue × Place). At all n.0 false [] x.1) (groups_at n.0 n.1) (groups_go all n.0 n.1 (grind (arith, is_joined, fits_after, words_again, tokens_from, nodes_are_words))))
               (λ g read here. goes_on _ _ (among_goes all (λ (x : Option PatternValue × Place). At all n.0 false [] x.1) (pattern_at head.0 n.0 g.1) (pattern_goes all n.0 head.0 g.1 here))
               (λ c more there. body_goes all (words_from a.0 root) (named_with n.0 g.0 c.0) c.1 there))
 
         nodes_fit : (row : Row) → fits (r1 ∷ r2 ∷ r3 ∷ []) row ≡ is_ok (nodes_line (Some row))
-        nodes_fit row = fits_after (r1 ∷ r2 ∷ []) r3 row (codes "topology") w3 ((λ r. is_ok (nodes_line (Some r))) ∷ []) refl ∙ or_false (is_ok (nodes_line (Some row)))
-
-        root_told : (names : List (List ℕ)) (root : Option (List ℕ)) (c : ReportCode) → root_of names root ≡ Err c → c ≡ code.Limits
-        root_told names None c e = absurd (cc)
-        root_told names (Some name) c e = grind arith
+        nodes_fit row = fits_after (r1 ∷ r2 ∷ []) r3 row (codes "topology") w3 ((λ r. is_ok (nodes_line (Some r))) ∷ []) refl ∙ or-false (is_ok (nodes_line (Some row)))
 
         behind_names : (n : List (List ℕ) × Place) → Stands all nodes_line (r1 ∷ r2 ∷ r3 ∷ []) d.1 n → Gives (Coded all) Passed (after_names all head.0 a.0 d.1.number n)
         behind_names n i =
             let (spelled, named) = nodes_line_take (Some i.row) n.0 i.read in
             let is : i.row ≡ row_of (nodes_words n.0) = same_Some i.row (row_of (nodes_words n.0)) spelled in
             let coded : (c : ReportCode) → root_of n.0 a.0.root ≡ Err c → Coded all (c, d.1.number) = λ c e. told_on all (r1 ∷ r2 ∷ r3 ∷ []) d.1 i.row c on3 i.here
-            (root_told n.0 a.0.root c e ∙ (ap (λ b. if b then code.Limits else code.Truncated) (sym (ap (λ r. r.whole) is)) ∙ ap (λ b. told_code b i.row) (sym (nodes_fit i.row ∙ ap is_ok i.read)))) in
+            ((grind arith) ∙ (ap (λ b. if b then code.Limits else code.Truncated) (sym (ap (λ r. r.whole) is)) ∙ ap (λ b. told_code b i.row) (sym (nodes_fit i.row ∙ ap is_ok i.read)))) in
             goes_on _ _ (at_line_goes {N = λ (root : ℕ). Unit {0}} (Coded all) d.1.number (root_of n.0 a.0.root) (record { ok = λ root e. tt; err = coded })) (λ root read u. root_goes n i.row i.on is named root)
 
         behind_header : Gives (Coded all) Passed (after_same all head.0 a.0 d.1 tt)
@@ -183,19 +155,15 @@ module _ (text : List ℕ) where
             err = λ c e. told_on all (r1 ∷ r2 ∷ []) a.1 i.row c on2 i.here
                 (refused (is_same d.0 head.0) c e ∙ (ap (λ b. if b then code.BadLine else code.Truncated) (sym (ap (λ r. r.whole) is)) ∙ ap (λ b. told_code b i.row) (sym (header_fits i.row))));
           }))
-          (λ u same v. behind_header d i.row i.on (ap first_word is ∙ first_header d.0)))
+          (λ u same v. behind_header d i.row i.on (ap first_word is ∙ (grind arith))))
         where
           refused : (b : Bool) (c : ReportCode) → refuse (not b) code.BadLine ≡ Err c → c ≡ code.BadLine
-          refused true c e = absurd (cc)
-          refused false c e = let same : code.BadLine ≡ c = cc in sym same
+          refused b c e = grind arith
 
     -- ---- the words
 
     abbrev asked_test : List (List ℕ) → Bool
     asked_test words = list_any (λ k. has_shape (asked_shape k) words) (kinds_of head.0)
-
-    asked_fits : (row : Row) → fits (r1 ∷ []) row ≡ asked_test (words_of row.bytes)
-    asked_fits row = grind (arith, fits_after)
 
     asked_first : (ks : List Kind) (row : Row) → list_any (λ k. has_shape (asked_shape k) (words_of row.bytes)) ks ≡ true → first_word row ≡ codes "synth"
     asked_first [] row e = absurd (cc)
@@ -207,7 +175,7 @@ module _ (text : List ℕ) where
 
     asked_code : (o : Option Row) (c : ReportCode) → asked_line head.0 o ≡ Err c → c ≡ code_of (r1 ∷ []) o
     asked_code None c e = let same : code.Truncated ≡ c = cc in sym same
-    asked_code (Some row) c e = (ruled_goes asked_test (asked_from head.0) (may_be_asked head.0) (λ v. v) (asked_told head.0) row).err c e ∙ ap (λ b. told_code b row) (sym (asked_fits row))
+    asked_code (Some row) c e = (ruled_goes asked_test (asked_from head.0) (may_be_asked head.0) (λ v. v) (asked_told head.0) row).err c e ∙ ap (λ b. told_code b row) (sym (grind (arith, fits_after)))
 
     head_goes : Gives (Coded all) Passed (after_head all head)
     head_goes =
@@ -227,13 +195,9 @@ module _ (text : List ℕ) where
   version_goes : (row : Row) → Gives (λ (c : ReportCode). c ≡ told_code false row) (λ (b : Bool). Said row b) (version_line (Some row))
   version_goes row = grind (arith, bytes_eq, bytes_eq-Decides, gives_done, slice_index_or, gives_fail)
 
-  version_code : (o : Option Row) (c : ReportCode) → version_line o ≡ Err c → c ≡ code_of [] o
-  version_code None c e = let same : code.Truncated ≡ c = cc in sym same
-  version_code (Some row) c e = (version_goes row).err c e
-
   report_goes : Gives (Coded all) Passed (report_at all (start text))
   report_goes =
-      goes_on _ _ (stands_goes all (Coded all) version_line [] (start text) on0 (λ x e. absurd (cc)) (λ c e. version_code (first all) c e ∙ sym (code_on all [] (start text) 1 on0 refl)))
+      goes_on _ _ (stands_goes all (Coded all) version_line [] (start text) on0 (λ x e. absurd (cc)) (λ c e. (grind (arith, version_goes)) ∙ sym (code_on all [] (start text) 1 on0 refl)))
       (λ head read i. let said = (version_goes i.row).ok head.0 i.read in head_goes head i.row i.on said.word said.version)
 
 pub code_is : (text : List ℕ) (why : ReportCode) (n : ℕ) → report_of text ≡ Err (why, n) → Coded (rows_of text) (why, n)

@@ -1,8 +1,8 @@
 -- A line that a check blames has the code of its form, where the lines before it say which forms may stand there.
-use Rattle.std.proofs.Common.{◌≡◌, ℕ, zero, suc, ◌+◌, ◌-◌, ◌<◌, ◌≤◌, Bool, true, false, ◌&&◌, ◌||◌, not, eqb, List, [], ◌∷◌, ◌++◌, map, length, take, Option, None, Some, Result, Ok, Err, refl, sym, ap, ◌∙◌, subst, append_assoc, arith, codes, bytes_eq, if◌then◌else◌, slice_get, slice_index_or, nat_eq}
-use Rattle.std.proofs.{Math.Seq.take-append_seam, lemmas.{Bool.{and_parts, Decides.Decides-eqb}, List.{length-append, Splits.join_with_byte-slice_split}, Slice.Eq.{bytes_eq-Decides, starts_is}}}
+use Rattle.std.proofs.Common.{◌≡◌, ℕ, zero, suc, ◌+◌, ◌-◌, ◌<◌, ◌≤◌, Bool, true, false, ◌||◌, not, eqb, List, [], ◌∷◌, ◌++◌, map, length, take, Option, None, Some, Result, Ok, Err, refl, sym, ap, ◌∙◌, subst, append_assoc, arith, codes, bytes_eq, if◌then◌else◌, slice_get, slice_index_or, nat_eq}
+use Rattle.std.proofs.{Math.{Bool.or-false, Seq.take-append_seam}, lemmas.{Bool.{and_parts, Decides.Decides-eqb}, List.{length-append, Splits.join_with_byte-slice_split}, Slice.Eq.{bytes_eq-Decides, starts_is}}}
 use Rattle.std.specs.List.{list_any, list_all, last_or, starts_with, join_with_byte}
-use Rattle.text_lines.specs.{Text.{Row, Place, words_of, behind}, Check.{◌>>=◌, refuse, at_line, first, line_part}, Repeated.{begins, row_begins, lines_at, parts_from}}
+use Rattle.text_lines.specs.{Text.{Row, Place, words_of, behind}, Check.{◌>>=◌, at_line, first, line_part}, Repeated.{begins, row_begins, lines_at, parts_from}}
 use Rattle.text_lines.proofs.{Checks.first_is, Gives.{Gives, gives_done, gives_fail, gives_like, gives_then}, Repeated.{line_by, lines_are_parts, one_less}, Words.begins_is}
 use Rattle.topology_text.specs.declared.fault.TopologyCode.{TopologyCode}
 use Rattle.report_form.{specs.{declared.fault.ReportCode.ReportCode, Lines.{whole_line, fixed_line, blamed, among}}, proofs.LineTaken.{on_words, ruled_by}}
@@ -27,22 +27,16 @@ pub goes_on : {A B C : Type 0} {E : C → Type 0} {N : A → Type 0} {M : B → 
 goes_on r f one later = gives_then r f one (λ e holds. holds) later
 
 pub choose_gives : {A C : Type 0} {E : C → Type 0} {N : A → Type 0} (b : Bool) (r : Result A C) (x : A) → (b ≡ true → Gives E N r) → (b ≡ false → N x) → Gives E N (if b then r else Ok x)
-choose_gives true r x goes stays = goes refl
-choose_gives false r x goes stays = gives_done x (stays refl)
+choose_gives {A} {C} {E} {N} b r x goes stays = grind (arith, gives_done)
 
 pub at_line_goes : {A C : Type 0} {N : A → Type 0} (E : C × ℕ → Type 0) (n : ℕ) (r : Result A C) → Gives (λ (c : C). E (c, n)) N r → Gives E N (at_line n r)
-at_line_goes E n (Ok x) g = gives_done x (g.ok x refl)
-at_line_goes E n (Err c) g = gives_fail (c, n) (g.err c refl)
+at_line_goes {A} {C} {N} E n r g = grind (arith, gives_done, gives_fail)
 
 -- a check of the line at a place
 pub part_goes : {A C : Type 0} (E : C × ℕ → Type 0) (N : A × Place → Type 0) (check : Option Row → Result A C) (p : Place) → Gives (λ (c : C). E (c, p.number)) (λ (x : A). N (x, behind p)) (check (first p.rows)) → Gives E N (line_part check p)
 part_goes E N check p g = goes_on _ _ (at_line_goes E p.number (check (first p.rows)) g) (λ x read holds. gives_done (x, behind p) holds)
 
 -- ---- one line
-
-pub or_false : (b : Bool) → (b || false) ≡ b
-or_false true = refl
-or_false false = refl
 
 -- the code of a line that is there, by whether it has a form
 abbrev pub told_code : Bool → Row → ReportCode
@@ -72,26 +66,15 @@ first_of_front word row free e = ap (λ ws. slice_index_or ws 0 []) (begins_is w
 pub unbegun : (word : List ℕ) (passes : List ℕ → Bool) (shape : List Token) (row : Row) → begins (word ++ 32 ∷ []) row.bytes ≡ false → has_shape (Word word ∷ Any passes ∷ shape) (words_of row.bytes) ≡ false
 unbegun word passes shape row other = by_words (words_of row.bytes) refl
   where
-    alone : (b : Bool) → (b && false) ≡ false
-    alone true = refl
-    alone false = refl
-
     clash : (w x : List ℕ) (ws : List (List ℕ)) → words_of row.bytes ≡ w ∷ x ∷ ws → w ≡ word → ⊥
     clash w x ws is same =
         let rest : List ℕ = join_with_byte 32 (x ∷ ws) in
         let text : row.bytes ≡ (word ++ 32 ∷ []) ++ rest = sym (join_with_byte-slice_split 32 row.bytes) ∙ (ap (join_with_byte 32) is ∙ (ap (λ v. v ++ 32 ∷ rest) same ∙ sym (append_assoc word (32 ∷ []) rest))) in
-        let begun : begins (word ++ 32 ∷ []) row.bytes ≡ true = (starts_is Decides-eqb row.bytes (word ++ 32 ∷ []) (starts_with nat_eq row.bytes (word ++ 32 ∷ [])) refl).1 rest text in
-        let e : false ≡ true = sym other ∙ begun in
+        let e : false ≡ true = sym other ∙ ((starts_is Decides-eqb row.bytes (word ++ 32 ∷ []) (starts_with nat_eq row.bytes (word ++ 32 ∷ [])) refl).1 rest text) in
         absurd (cc)
 
-    by_test : (w x : List ℕ) (ws : List (List ℕ)) (b : Bool) → words_of row.bytes ≡ w ∷ x ∷ ws → bytes_eq w word ≡ b → (b && (passes x && has_shape shape ws)) ≡ false
-    by_test w x ws true is e = absurd (clash w x ws is ((bytes_eq-Decides w word).0 e))
-    by_test w x ws false is e = refl
-
     by_words : (ws : List (List ℕ)) → words_of row.bytes ≡ ws → has_shape (Word word ∷ Any passes ∷ shape) ws ≡ false
-    by_words [] is = refl
-    by_words (w ∷ []) is = alone (bytes_eq w word)
-    by_words (w ∷ x ∷ ws) is = by_test w x ws (bytes_eq w word) is refl
+    by_words ws is = grind (arith, clash, bytes_eq-Decides)
 
 -- ---- what the lines before say
 
@@ -100,7 +83,7 @@ last_is [] row o = refl
 last_is (r ∷ rs) row o = last_is rs row (Some (first_word r))
 
 joined_on : (rows : List Row) (row : Row) → is_joined (map first_word (rows ++ row ∷ [])) ≡ (is_joined (map first_word rows) || bytes_eq (first_word row) (codes "joined"))
-joined_on [] row = or_false (bytes_eq (first_word row) (codes "joined"))
+joined_on [] row = or-false (bytes_eq (first_word row) (codes "joined"))
 joined_on (r ∷ rs) row = grind (arith, bytes_eq, joined_on rs row)
 
 get_behind : {A : Type 0} (xs ys : List A) → slice_get (xs ++ ys) (length xs) ≡ slice_get ys 0
@@ -130,25 +113,16 @@ module _ (rows : List Row) where
 
   pub code_on : (before : List Row) (p : Place) (n : ℕ) → On before p → n ≡ p.number → code_at n ≡ code_of before (first p.rows)
   code_on before p n on at =
-      let number = on.number in
-      let index : n - 1 ≡ length before = omega (arith, at, number) in
-      let taken : take (n - 1) rows ≡ before = ap (λ k. take k rows) index ∙ (ap (take (length before)) on.is ∙ take-append_seam before p.rows) in
-      ap (λ b. code_of b (slice_get rows (n - 1))) taken ∙ ap (code_of before) (line_on before p n on at)
+      ap (λ b. code_of b (slice_get rows (n - 1))) (ap (λ k. take k rows) (omega (arith, at, on.number)) ∙ (ap (take (length before)) on.is ∙ take-append_seam before p.rows)) ∙ ap (code_of before) (line_on before p n on at)
 
   pub unfit_on : (before : List Row) (p : Place) (e : TopologyCode × ℕ) → On before p → e.1 ≡ p.number → ((row : Row) → first p.rows ≡ Some row → fits before row ≡ false) → Unfit e
   unfit_on before p e on at none = ap (λ o. blamed (whole_line o)) (line_on before p e.1 on at) ∙ (by_line (first p.rows) none ∙ sym (code_on before p e.1 on at))
     where
-      by_end : (b : Bool) (row : Row) → fits before row ≡ false → blamed (refuse (not b) code.Truncated >>= (λ u. Ok row)) ≡ (if b then (if fits before row then code.Limits else code.BadLine) else code.Truncated)
-      by_end true row no_form = ap (λ t. if t then code.Limits else code.BadLine) (sym no_form)
-      by_end false row no_form = refl
-
       by_line : (o : Option Row) → ((row : Row) → o ≡ Some row → fits before row ≡ false) → blamed (whole_line o) ≡ code_of before o
-      by_line None each = refl
-      by_line (Some row) each = by_end row.whole row (each row refl)
+      by_line o each = grind arith
 
   pub among_goes : {A : Type 0} (N : A → Type 0) (r : Result A (TopologyCode × ℕ)) → Gives Unfit N r → Gives Coded N (among rows r)
-  among_goes N (Ok x) g = gives_done x (g.ok x refl)
-  among_goes N (Err e) g = gives_fail (blamed (whole_line (slice_get rows (e.1 - 1))), e.1) (g.err e refl)
+  among_goes {A} N r g = grind (arith, gives_done, gives_fail)
 
   next_on : (before : List Row) (p : Place) (row : Row) → On before p → first p.rows ≡ Some row → On (before ++ row ∷ []) (behind p)
   next_on before p row on here = grind (arith, first_is, append_assoc, length-append)
@@ -227,14 +201,10 @@ module _ (rows : List Row) where
           (λ begun. goes_on _ _ (each before p at begun) (λ x read gone. let shorter = gone.1 in parts_go fuel (before ++ x.0 ∷ []) x.1 (omega (arith, shorter, few)) gone.0))
           (λ other. (at, λ row h. ap (row_begins word) (sym h) ∙ other))
 
-    begun_row : (word : List ℕ) (o : Option Row) → row_begins word o ≡ true → (row : Row) × (o ≡ Some row)
-    begun_row word None e = absurd (cc)
-    begun_row word (Some row) e = (row, refl)
-
     module _ {A C : Type 0} (E : C × ℕ → Type 0) (word : List ℕ) (free : IsOneWord word) (section : (joined || bytes_eq word (codes "joined")) ≡ joined) (next : (patterned : Bool) → forms_after patterned names joined word ≡ forms) (check : List A → Option Row → Result A C)
         (blames : (before : List A) (p : Place) (row : Row) (why : C) → At names joined forms p → first p.rows ≡ Some row → begins (word ++ 32 ∷ []) row.bytes ≡ true → check before (Some row) ≡ Err why → E (why, p.number)) where
       line_goes_on : (before : List A) (p : Place) → At names joined forms p → row_begins (word ++ 32 ∷ []) (first p.rows) ≡ true → Gives E (λ x. At names joined forms x.1 × (length x.1.rows < length p.rows)) (line_part (check before) p)
-      line_goes_on before p at begun = grind (arith, begun_row, part_goes, onward, first_of_front, one_less)
+      line_goes_on before p at begun = grind (arith, part_goes, onward, first_of_front, one_less)
 
       pub lines_go : (p : Place) → At names joined forms p → Gives E (Behind (word ++ 32 ∷ [])) (lines_at (word ++ 32 ∷ []) check p)
       lines_go p at = subst (λ (r : Result (List A × Place) (C × ℕ)). Gives E (Behind (word ++ 32 ∷ [])) r) (sym (lines_are_parts (word ++ 32 ∷ []) check p))

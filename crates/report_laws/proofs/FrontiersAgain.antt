@@ -1,6 +1,5 @@
 -- The lines of a report's parts that are spelled are read.
-use Rattle.std.proofs.{Common.{◌≡◌, ℕ, ◌≤◌, List, [], ◌∷◌, ◌++◌, map, length, Ok, refl, sym, ap, ◌∙◌, subst, arith, ◌≢◌, codes, flat_map, All, IfSome}, lemmas.List.{length-append, length-map}}
-use Rattle.std.proofs.lemmas.List.Elements.{All-head, All-tail, All-map, All-weaker}
+use Rattle.std.proofs.{Common.{◌≡◌, ℕ, ◌≤◌, List, [], ◌∷◌, ◌++◌, map, length, refl, sym, ap, ◌∙◌, subst, arith, ◌≢◌, codes, flat_map, All, IfSome}, lemmas.List.{length-append, length-map, Elements.{All-head, All-tail, All-map, All-weaker}}}
 use Rattle.text_lines.{specs.{Text.Row, Repeated.parts_at}, proofs.{Gives.rows_split, ReadBack.{Reads, reads_here, reads_as, reads_then, Ends, lines_again, parts_again}, Repeated.place, Rows.row_of}}
 use Rattle.outer_ports.specs.declared.part.Part.{Part}
 use Rattle.outer_ports.specs.declared.part.Part.TheVariants as part
@@ -8,7 +7,7 @@ use Rattle.collective_spec.{specs.{declared.kind.Kind.Kind, Patterns.IsPattern},
 use Rattle.collective_spec.specs.declared.kind.Kind.TheVariants as kind
 use Rattle.candidate_order.specs.{Ranges.IsLimits, Frontiers.{QuestionValue, PointValue, FrontierValue, IsWithin, IsUnknown}}
 use Rattle.topology_text.specs.{Value.NamedTopologyValue, Names.AreNames}
-use Rattle.report_form.specs.{declared.fault.ReportCode.ReportCode, Reports.{WordsValue, IsPrintedPoint, IsFrontier, IsJoinedPoint, question_of}}
+use Rattle.report_form.specs.{Reports.{WordsValue, IsPrintedPoint, IsFrontier, IsJoinedPoint, question_of}}
 use Rattle.report_form.specs.{Spelling.{point_lines, refuted_words, unknown_words, part_words, frontier_lines, joined_lines}, Points.{frontier_point_at, joined_point_at}}
 use Rattle.report_form.{specs.Reading.{refuted_line, unknown_line, part_bytes, frontier_at, frontiers_from, joined_at}, proofs.{ListsTaken.{AreListed, AreUnknown}, PointsTaken.ArePoints, FrontiersTaken.IsFrontierOf}}
 use Rattle.report_laws.proofs.{LinesAgain.fixed_part_again, JoinedAgain.joined_reads, ListsAgain.{behind_lines, refuted_reads, unknown_reads}, PointsAgain.{base_of, point_reads}}
@@ -27,24 +26,12 @@ pub end_ends : (rows : List Row) → EndsPart (row_of (codes "end" ∷ []) ∷ r
 end_ends rows = record { group = refl; point = refl; send = refl; refuted = refl; unknown = refl }
 
 pub part_ends : (x : Part) (rows : List Row) → EndsPart (row_of (part_words x) ∷ rows)
-part_ends part.Joined rows = record { group = refl; point = refl; send = refl; refuted = refl; unknown = refl }
-part_ends x rows = record { group = refl; point = refl; send = refl; refuted = refl; unknown = refl }
-
-part_line : (x : Part) → (row_of (part_words x)).bytes ≡ part_bytes x
-part_line part.Joined = refl
-part_line x = refl
+part_ends x rows = grind arith
 
 -- there are no more parts than lines
 parts_fit : {A : Type 0} (spell : A → List (List (List ℕ))) → ((x : A) → 1 ≤ length (spell x)) → (xs : List A) (rest : List Row) → length xs ≤ length (map row_of (flat_map spell xs) ++ rest)
 parts_fit spell some [] rest = omega arith
-parts_fit spell some (x ∷ xs) rest =
-    let later = parts_fit spell some xs rest in
-    let all = length-append (map row_of (flat_map spell (x ∷ xs))) rest in
-    let more = length-append (map row_of (flat_map spell xs)) rest in
-    let both = length-append (spell x) (flat_map spell xs) in
-    let left = length-map (flat_map spell (x ∷ xs)) row_of in
-    let right = length-map (flat_map spell xs) row_of in
-    omega (arith, later, all, more, both, left, right, some x)
+parts_fit spell some (x ∷ xs) rest = grind (arith, length-map, row_of, length-append, parts_fit spell some xs rest)
 
 points_fit : (names : List (List ℕ)) (ps : List PointValue) (rest : List Row) → length ps ≤ length (map row_of (flat_map (point_lines names) ps) ++ rest)
 points_fit names ps rest = parts_fit (point_lines names) (λ p. omega arith) ps rest
@@ -66,7 +53,7 @@ module _ (names : List (List ℕ)) (q : QuestionValue) (as_many : length names �
       let rows : List Row = map row_of points ++ second in
       let split : map row_of (points ++ (refuted ++ unknown)) ++ rest ≡ rows = rows_split points (refuted ++ unknown) rest ∙ ap (λ rs. map row_of points ++ rs) (rows_split refuted unknown rest) in
       subst (λ (rs : List Row). Reads (frontier_at names q x (place n (row_of (part_words x) ∷ rs))) f rest) (sym split)
-      (reads_then _ _ (fixed_part_again (part_bytes x) (part_words x) n rows (part_line x))
+      (reads_then _ _ (fixed_part_again (part_bytes x) (part_words x) n rows (grind arith))
       (λ k. reads_then _ _ (parts_again (codes "point ") (frontier_point_at names q) (point_lines names) (ArePoints names q as_many) (Ends (codes "send ")) (point_reads names q as_many named ok base) (length rows) [] f.points k second (points_fit names f.points second) (points_are f is)
       (behind_lines (codes "point ") refuted_words f.refuted third (λ y. refl) (behind_lines (codes "point ") unknown_words f.unknown rest (λ y. refl) ends.point))
       (behind_lines (codes "send ") refuted_words f.refuted third (λ y. refl) (behind_lines (codes "send ") unknown_words f.unknown rest (λ y. refl) ends.send)))
@@ -81,8 +68,7 @@ module _ (names : List (List ℕ)) (q : QuestionValue) (as_many : length names �
 -- what follows a frontier: the next one, or what follows them all
 pub frontiers_end : (names : List (List ℕ)) (fs : List (Part × FrontierValue)) (rest : List Row) → EndsPart rest → EndsPart (map row_of (flat_map (frontier_lines names) fs) ++ rest)
 frontiers_end names [] rest ends = ends
-frontiers_end names (x ∷ fs) rest ends =
-    part_ends x.0 (map row_of ((flat_map (point_lines names) x.1.points ++ (map refuted_words x.1.refuted ++ map unknown_words x.1.unknown)) ++ flat_map (frontier_lines names) fs) ++ rest)
+frontiers_end names (x ∷ fs) rest ends = grind (arith, part_ends, row_of)
 
 module _ (words : WordsValue) (t : NamedTopologyValue) (as_many : length t.names ≡ t.topology.nodes) (named : AreNames t.names) (ok : IsLimits words.limits) (pattern : IfSome t.custom (IsPattern t.topology.nodes)) where
   pub frontiers_again : (fs : List (Part × FrontierValue)) (n : ℕ) (rest : List Row) → All (λ x. IsFrontier (question_of words t x.0) x.1) fs → EndsPart rest
@@ -96,10 +82,6 @@ module _ (words : WordsValue) (t : NamedTopologyValue) (as_many : length t.names
 
   -- ---- joined points
 
-  -- a kind that joins no points has no line of them
-  none_again : (js : List PointValue) (n : ℕ) (rest : List Row) → js ≡ [] → Reads {C = ReportCode} (Ok ([], place n rest)) js rest
-  none_again js n rest none = reads_as _ (sym none) (reads_here [] n rest)
-
   pub joined_again : (k : Kind) (js : List PointValue) (n : ℕ) (rest : List Row) → All (IsJoinedPoint (question_of words t part.Joined)) js → (k ≢ kind.Allreduce → js ≡ []) → EndsPart rest
       → Reads (joined_at k words t (place n (map row_of (joined_lines t.names k js) ++ rest))) js rest
   joined_again kind.Allreduce js n rest all only ends =
@@ -107,9 +89,8 @@ module _ (words : WordsValue) (t : NamedTopologyValue) (as_many : length t.names
       let rows : List Row = map row_of (flat_map (point_lines t.names) js) ++ rest in
       reads_then _ (λ h. parts_at (codes "point ") (joined_point_at t.names q) h.1) (fixed_part_again (part_bytes part.Joined) (part_words part.Joined) n rows refl)
       (λ k. parts_again (codes "point ") (joined_point_at t.names q) (point_lines t.names) (λ ps. All (IsJoinedPoint q) ps) (Ends (codes "send ")) (joined_reads t.names q as_many named ok (base_of words t part.Joined pattern)) (length rows) [] js k rest (points_fit t.names js rest) all ends.point ends.send)
-  joined_again k js n rest all only ends = none_again js n rest (only (λ e. cc))
+  joined_again k js n rest all only ends = reads_as _ (sym (only (λ e. cc))) (reads_here [] n rest)
 
   -- what follows the frontiers: the line of the joined points, or what follows them
   pub joined_end : (k : Kind) (js : List PointValue) (rest : List Row) → EndsPart rest → EndsPart (map row_of (joined_lines t.names k js) ++ rest)
-  joined_end kind.Allreduce js rest ends = part_ends part.Joined (map row_of (flat_map (point_lines t.names) js) ++ rest)
-  joined_end k js rest ends = ends
+  joined_end k js rest ends = grind (arith, part_ends, row_of)

@@ -27,16 +27,12 @@ next_follows R [] x more pairs = tt
 next_follows {A} R (y ∷ ys) x more pairs =
     let before : List A = y ∷ ys in
     let end : ℕ = length ys in
-    let first : get_or (before ++ x ∷ more) end x ≡ get_or before end x = get_or_append_left before (x ∷ more) x end (omega arith) in
-    let second : get_or (before ++ x ∷ more) (suc end) x ≡ x = get_or_at before x more x (suc end) refl in
     let pair : R (get_or (before ++ x ∷ more) end x) (get_or (before ++ x ∷ more) (suc end) x) = pairs end (suc end) x (omega arith) (omega (arith, length-append before (x ∷ more))) in
-    let left : R (get_or before end x) (get_or (before ++ x ∷ more) (suc end) x) = subst (λ (a : A). R a (get_or (before ++ x ∷ more) (suc end) x)) first pair in
-    let here : R (get_or before end x) x = subst (λ (a : A). R (get_or before end x) a) second left in
-    subst (λ (o : Option A). IfSome o (λ l. R l x)) (sym (last_is before None end x refl)) here
+    let left : R (get_or before end x) (get_or (before ++ x ∷ more) (suc end) x) = subst (λ (a : A). R a (get_or (before ++ x ∷ more) (suc end) x)) (get_or_append_left before (x ∷ more) x end (omega arith)) pair in
+    subst (λ (o : Option A). IfSome o (λ l. R l x)) (sym (last_is before None end x refl)) (subst (λ (a : A). R (get_or before end x) a) (get_or_at before x more x (suc end) refl) left)
 
 comes_from : (o : Option Candidate) (x : Candidate) → IfSome o (λ l. Before l x) → comes_next o x ≡ true
-comes_from None x h = refl
-comes_from (Some l) x h = (decides_before l x).1 h
+comes_from o x h = grind (arith, decides_before)
 
 pub comes_again : (before : List Candidate) (x : Candidate) (more : List Candidate) → AllPairs Before (before ++ x ∷ more) → comes_next (last_or None before) x ≡ true
 comes_again before x more pairs = comes_from (last_or None before) x (next_follows Before before x more pairs)

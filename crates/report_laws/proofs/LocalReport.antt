@@ -8,7 +8,7 @@ use Rattle.collective_spec.specs.declared.kind.Kind.TheVariants as kind
 use Rattle.topology_text.{specs.{Value.{NamedTopologyValue, named_with}, Reading.{header_line, nodes_line, groups_at, pattern_at}}, proofs.SteadyParts.{steady_groups, steady_pattern}}
 use Rattle.report_form.specs.{declared.fault.ReportCode.ReportCode, Reports.{WordsValue, ReportValue, IsReport, parts_of, question_of}, Spelling.report_text, Lines.{fixed_line, no_line, among}}
 use Rattle.report_form.specs.{SynthLine.{AskedValue, asked_line, root_of, words_from}, First.Agrees, Reading.{part_bytes, frontiers_from, joined_at, body_of, version_line, is_same, report_of}}
-use Rattle.report_form.proofs.ReportTaken.{report, after_root, after_same, after_header, after_asked, after_head, report_at, report_is}
+use Rattle.report_form.proofs.ReportTaken.{report, after_root, after_same, after_header, after_asked, after_head, report_is}
 use Rattle.report_form.specs.declared.fault.ReportCode.TheVariants as code
 use Rattle.report_laws.proofs.{Judged.{judged, steady_judged, judged_passed}, SteadyLists.steady_among, ReportAgain.report_again, LocalParts.{steady_joined_points, steady_frontier}}
 
@@ -59,15 +59,10 @@ settles_report rows others =
 -- ---- as the reader is written
 
 header_is : (rows : List Row) (b : Bool) (a : AskedValue) (p : Place) → (among rows (line_part header_line p) >>= after_header rows b a p.number) ≡ behind_asked rows b a p
-header_is rows b a p =
-    judged_passed (same_version b) p.number (among rows (line_part header_line p)) (λ h u q. after_same rows b a q tt)
-    ∙ same_then (judged header_line (same_version b) rows p) (λ z. after_same rows b a z.1 tt) (λ z. behind_names rows b a z.1) (λ z read. judged_passed (root_among a) z.1.number (among rows (line_part nodes_line z.1)) (λ names root q. after_root rows b a (names, q) root))
-
-parts_is : (rows : List Row) (p : Place) → report_at rows p ≡ in_parts rows p
-parts_is rows p = same_then (line_part version_line p) (after_head rows) _ (λ h read. same_then (line_part (asked_line h.0) h.1) (after_asked rows h.0) _ (λ a read. header_is rows h.0 a.0 a.1))
+header_is rows b a p = grind (arith, judged_passed, after_same, same_then, judged, after_root)
 
 in_parts_is : (text : List ℕ) → report_of text ≡ in_parts (rows_of text) (start text)
-in_parts_is text = report_is text ∙ parts_is (rows_of text) (start text)
+in_parts_is text = grind (arith, report_is, same_then, after_head, after_asked, header_is)
 
 -- no valid report has the lines of a text up to the one that is blamed
 pub none_agrees : (text : List ℕ) (why : ReportCode) (n : ℕ) → report_of text ≡ Err (why, n) → (r : ReportValue) → IsReport r → Agrees n text r → ⊥
@@ -78,5 +73,4 @@ none_agrees text why n failed r valid agrees =
     clash (report_of (report_text r)) (report_again r valid) (in_parts_is (report_text r) ∙ f.is)
   where
     clash : {c : ReportCode × ℕ} (z : Result ReportValue (ReportCode × ℕ)) → z ≡ Ok r → z ≡ Err c → ⊥
-    clash (Ok x) a b = absurd (cc)
-    clash (Err e) a b = absurd (cc)
+    clash {c} z a b = grind arith

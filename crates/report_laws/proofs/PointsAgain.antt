@@ -1,15 +1,13 @@
 -- The lines of points that are spelled are read.
-use Rattle.std.{proofs.{Common.{◌≡◌, ℕ, ◌≤◌, Bool, ◌&&◌, List, [], ◌∷◌, ◌++◌, map, length, Option, None, Some, Result, Ok, refl, arith, codes, IfSome}, lemmas.Bool.and_from}, specs.List.{last_or, AllByRecursion}}
+use Rattle.std.{proofs.{Common.{◌≡◌, ℕ, ◌≤◌, Bool, ◌&&◌, List, [], ◌∷◌, ◌++◌, map, length, Option, None, Some, Result, Ok, arith, codes, IfSome}, lemmas.Bool.and_from}, specs.List.{last_or, AllByRecursion}}
 use Rattle.text_lines.{specs.{Text.Row, Check.{◌>>=◌, line_part}}, proofs.{Distinct.next_has, ReadBack.{Reads, reads_here, reads_then, line_again, Ends, lines_again, ReadsPart}, Repeated.place, Rows.{AreTokens, row_of}, Words.tokens_from}}
 use Rattle.collective_spec.{specs.{Collectives.{chunks_in, spec_of}, Patterns.IsPattern}, proofs.Chunks.{FewBase, chunks_few}}
 use Rattle.outer_ports.specs.declared.part.Part.{Part}
 use Rattle.candidate_order.specs.{declared.candidate.Candidate.Candidate, Ranges.IsLimits, Frontiers.{QuestionValue, PointValue, IsWithin}}
-use Rattle.candidate_order.specs.declared.mark.Mark.TheVariants as mark
 use Rattle.topology_text.specs.{Value.NamedTopologyValue, Names.AreNames}
 use Rattle.report_form.specs.{declared.fault.ReportCode.ReportCode, Reports.{WordsValue, HasSchedule, IsPrintedPoint, kind_of}, Tests.{is_within, comes_next}, Spelling.{rounds_words, send_words, point_words, point_lines}}
 use Rattle.report_form.{specs.Points.{HeadValue, head_from, head_line, rounds_from, are_rounds, schedule_at, frontier_point_at}, proofs.{Tested.decides_within, PointsTaken.{schedule_lines, AreSends, ArePoints}}}
-use Rattle.report_laws.proofs.{ShapesAgain.{MarkIsSmall, head_again, head_are_words, rounds_again}, ListsAgain.{ruled_line, ruled_part, part_comes_again, within_small}}
-use Rattle.report_laws.proofs.SendsAgain.{rounds_small, rounds_kept, rounds_tokens, send_reads, sends_are_tokens}
+use Rattle.report_laws.proofs.{ShapesAgain.{head_again, head_are_words, rounds_again}, ListsAgain.{ruled_line, ruled_part, part_comes_again, within_small}, SendsAgain.{rounds_small, rounds_kept, rounds_tokens, send_reads, sends_are_tokens}}
 
 -- ---- a schedule behind the head of its point
 
@@ -50,24 +48,15 @@ module _ (names : List (List ℕ)) (q : QuestionValue) (as_many : length names �
   pub headed_reads : (check : List PointValue → Option Row → Result HeadValue ReportCode) (Q : List PointValue → Type 0)
       → ((before : List PointValue) (p : PointValue) (more : List PointValue) → Q (before ++ p ∷ more) → (check before (Some (row_of (point_words p))) ≡ Ok (head_of p)) × HasSchedule q p × (p.candidate.c ≤ 16))
       → ReadsPart (codes "point ") (λ before p. line_part (check before) p >>= (λ h. schedule_at names q h.0 h.1)) (point_lines names) Q (Ends (codes "send "))
-  headed_reads check Q heads = record {
-    part = λ before p more n rest are ends.
-        let (read, has, few) = heads before p more are in
-        reads_then _ _ (line_again (check before) (row_of (point_words p)) (head_of p) n (map row_of (schedule_lines names p) ++ rest) read) (λ k. schedule_again p k rest has few ends);
-    starts = λ p rest. refl;
-    stops = λ p rest. refl;
-  }
+  headed_reads check Q heads = grind (arith, reads_then, line_again, row_of, schedule_lines, schedule_again)
 
   -- ---- points of a frontier
 
   few_chunks : (x : Candidate) → IsWithin q x → x.c ≤ 16
   few_chunks x w = grind arith
 
-  mark_small : (p : PointValue) → IsPrintedPoint q p → MarkIsSmall p.mark
-  mark_small p is = grind arith
-
   head_tokens : (p : PointValue) → IsPrintedPoint q p → AreTokens (point_words p)
-  head_tokens p is = tokens_from (point_words p) (omega arith) (head_are_words p.candidate p.mark (within_small q ok p.candidate is.within) (mark_small p is))
+  head_tokens p is = tokens_from (point_words p) (omega arith) (head_are_words p.candidate p.mark (within_small q ok p.candidate is.within) (grind arith))
 
   pub point_reads : ReadsPart (codes "point ") (frontier_point_at names q) (point_lines names) (ArePoints names q as_many) (Ends (codes "send "))
   unfolding frontier_point_at

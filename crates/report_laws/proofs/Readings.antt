@@ -24,8 +24,7 @@ one_reading text (Ok r) (Err (why, n)) x y = absurd (spelled_fails text r n x.0 
 one_reading text (Err (why, n)) (Ok r) x y = absurd (spelled_fails text r n y.0 y.1 x.0)
 one_reading text (Err (why, n)) (Err (other, m)) x y =
     let line : n ≡ m = one_line text n m x.0 y.0 in
-    let code : why ≡ other = x.1 ∙ (ap (λ k. code_of (take (k - 1) (rows_of text)) (slice_get (rows_of text) (k - 1))) line ∙ sym y.1) in
-    ap (λ c. Err (c, n)) code ∙ ap (λ k. Err (other, k)) line
+    ap (λ c. Err (c, n)) (x.1 ∙ (ap (λ k. code_of (take (k - 1) (rows_of text)) (slice_get (rows_of text) (k - 1))) line ∙ sym y.1)) ∙ ap (λ k. Err (other, k)) line
 
 pub only_read_as : (text : List ℕ) (result : Result ReportValue (ReportCode × ℕ)) → ReadsAs text result → report_of text ≡ result
 only_read_as text result is = one_reading text (report_of text) result (read_by_spelling text) is

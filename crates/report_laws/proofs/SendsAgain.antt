@@ -1,5 +1,5 @@
 -- The lines of rounds and of sends that are spelled are read.
-use Rattle.std.proofs.{Common.{◌≡◌, ℕ, ◌≤◌, Bool, true, ◌&&◌, ltb, List, [], ◌∷◌, map, length, sum, Option, None, Some, IfSome, refl, arith, ◌==◌, codes, nat_le, nat_lt, All}, lemmas.Bool.{and_parts, and_from, eq-eqb, le-leb, ltb-true}}
+use Rattle.std.proofs.{Common.{◌≡◌, ℕ, ◌≤◌, Bool, true, ◌&&◌, ltb, List, [], ◌∷◌, map, length, sum, Option, None, IfSome, refl, arith, ◌==◌, codes, nat_le, nat_lt, All}, lemmas.Bool.{and_parts, and_from, eq-eqb, le-leb, ltb-true}}
 use Rattle.std.{proofs.lemmas.List.Elements.{All-head, All-tail, All-weaker}, specs.List.{last_or, list_all, AllByRecursion}}
 use Rattle.text_lines.proofs.{Distinct.next_has, ReadBack.ReadsLine, Rows.AreTokens, Words.tokens_from}
 use Rattle.schedule.specs.{declared.hop.Hop.Hop, Sends.{IsRound, IsStep, is_hop_below}}
@@ -30,8 +30,7 @@ rounds_tokens rounds each = tokens_from (rounds_words rounds) (omega arith) (rou
 -- ---- sends
 
 follows_from : (o : Option Hop) (h : Hop) → IfSome o (λ l. HopBefore l h) → follows o h ≡ true
-follows_from None h e = refl
-follows_from (Some l) h e = e
+follows_from o h e = grind arith
 
 module _ (names : List (List ℕ)) (named : AreNames names) (chunks steps : ℕ) (few_chunks : chunks ≤ 65535) (few_steps : steps ≤ 65535) where
   send_spelled : (h : Hop) → IsStep steps h.step → is_hop_below chunks (length names) h ≡ true → IsSpelled names h

@@ -52,8 +52,7 @@ head_again x (mark.Joined n) small (inl e) = absurd (cc)
 head_again x (mark.Joined n) small (inr e) = absurd (cc)
 
 pub joined_head_again : (x : Candidate) (adding : ℕ) → IsSmall x → adding ≤ 65535 → joined_head_from (head_words x (mark.Joined adding)) ≡ Ok (x, adding)
-joined_head_again x adding small few =
-    ok_then _ _ (candidate_again x (codes "joined" ∷ decimal adding ∷ []) small) (ok_then _ _ (number_again adding [] few) refl)
+joined_head_again x adding small few = grind (arith, ok_then, candidate_again, number_again)
 
 -- a mark's number may stand in a text
 abbrev pub MarkIsSmall : Mark → Type 0
@@ -61,10 +60,7 @@ MarkIsSmall (mark.Joined adding) = adding ≤ 65535
 MarkIsSmall m = Unit {0}
 
 pub head_are_words : (x : Candidate) (m : Mark) → IsSmall x → MarkIsSmall m → AreWords (head_words x m)
-head_are_words x mark.Optimal small few = (literal (codes "point") refl, candidate_are_words x (codes "optimal" ∷ []) small (literal (codes "optimal") refl, tt))
-head_are_words x mark.Open small few = (literal (codes "point") refl, candidate_are_words x (codes "open" ∷ []) small (literal (codes "open") refl, tt))
-head_are_words x (mark.Joined adding) small few =
-    (literal (codes "point") refl, candidate_are_words x (codes "joined" ∷ decimal adding ∷ []) small (literal (codes "joined") refl, (decimal_word adding (omega (arith, few)), tt)))
+head_are_words x m small few = grind (arith, literal, candidate_are_words, decimal_word)
 
 -- ---- rounds and sends
 

@@ -1,15 +1,14 @@
 -- The checks of a line's shape pass exactly where the line has the shape.
-use Rattle.std.proofs.Common.{◌≡◌, ℕ, Bool, true, false, ◌&&◌, ◌||◌, not, List, [], ◌∷◌, ◌++◌, map, length, drop, Option, None, Some, Result, Ok, Err, refl, sym, ap, ◌∙◌, subst, codes, bytes_eq, find, if◌then◌else◌, is_some, nat_eq, nat_lt, nat_le, arith}
+use Rattle.std.proofs.Common.{◌≡◌, ℕ, Bool, true, false, ◌&&◌, ◌||◌, not, List, [], ◌∷◌, ◌++◌, map, length, drop, Option, None, Some, Result, Ok, Err, refl, sym, ap, ◌∙◌, subst, codes, bytes_eq, find, if◌then◌else◌, is_some, nat_eq, arith}
 use Rattle.std.proofs.{lemmas.{Bool.{and_parts, ltb-true, lt-ltb, leb-true, le-leb, eqb-true, eqb-false, Decides.Decides-eqb}, Option.same_Some, Slice.Eq.{bytes_eq-Decides, starts_is}}, Math.Bool.and-true}
-use Rattle.std.specs.{Str.Parse.digits_value, List.{list_any, starts_with}}
+use Rattle.std.specs.{List.{list_any, starts_with}}
 use Rattle.text_lines.{specs.{Check.{◌>>=◌, refuse, need}, Repeated.begins}, proofs.Gives.{Gives, gives_done, gives_fail, gives_then}}
 use Rattle.collective_spec.specs.{declared.kind.Kind.Kind, Kinds.{word_of, takes_root}}
-use Rattle.candidate_order.specs.{declared.{candidate.Candidate.Candidate, pruning.Pruning.Pruning}, Ranges.LimitsValue}
+use Rattle.candidate_order.specs.{declared.{candidate.Candidate.Candidate}, Ranges.LimitsValue}
 use Rattle.topology_text.specs.{Names.{is_name, name_of}, Reading.node_of}
-use Rattle.report_form.specs.{declared.fault.ReportCode.{ReportCode, TheVariants.BadLine}, Reading.{refuted_from, unknown_from}}
-use Rattle.report_form.specs.Fields.{is_number, any_number, small_number, next_word, next_keyed, fixed_word, next_number, next_node, no_more}
-use Rattle.report_form.specs.{Points.{candidate_from, mark_named, head_from, joined_head_from, numbers_from, rounds_from, send_from}, SynthLine.{AskedValue, kind_named, kinds_of, limits_from, root_from, said_from, pruning_from, asked_from}}
-use Rattle.report_form.proofs.{Shapes.candidate, SynthLineTaken.{found_is, limits, pruned, asked}}
+use Rattle.report_form.specs.{Points.{candidate_from, mark_named, head_from, joined_head_from, numbers_from, rounds_from, send_from}, Fields.{any_number, small_number, next_word, next_keyed, fixed_word, next_number, next_node, no_more}}
+use Rattle.report_form.specs.{SynthLine.{AskedValue, kind_named, kinds_of, limits_from, root_from, pruning_from, asked_from}, declared.fault.ReportCode.{ReportCode, TheVariants.BadLine}, Reading.{refuted_from, unknown_from}}
+use Rattle.report_form.proofs.{SynthLineTaken.{found_is, limits, pruned, asked}, Shapes.candidate}
 use Rattle.report_laws.{specs.Shapes.{Token, Word, Any, May, has_shape, small, is_decimal, key_with, asked_shape, candidate_shape, send_shape}, proofs.SynthLineAgain.{kind_back, rooted}}
 
 -- the check passes where the test holds, and else says that the line is bad
@@ -26,8 +25,7 @@ pub record Shaped {A : Type 0} (shape : List Token) (words : List (List ℕ)) (r
 -- ---- one place
 
 assoc_told : {A B C : Type 0} {shape : List Token} {words : List (List ℕ)} (r : Result A ReportCode) (g : A → Result B ReportCode) (f : B → Result C ReportCode) → Shaped shape words (r >>= (λ x. g x >>= f)) → Shaped shape words ((r >>= g) >>= f)
-assoc_told (Ok x) g f told = told
-assoc_told (Err code) g f told = told
+assoc_told {A} {B} {C} {shape} {words} r g f told = grind arith
 
 -- a value that is made of what is read
 made_told : {A B : Type 0} {shape : List Token} {words : List (List ℕ)} (r : Result A ReportCode) (g : A → B) → Shaped shape words r → Shaped shape words (r >>= (λ x. Ok (g x)))
@@ -35,16 +33,13 @@ made_told r g s = record { told = gives_then r _ s.told (λ code bad. bad) (λ x
 
 word_told : {A B : Type 0} (read : List ℕ → Option A) (passes : List ℕ → Bool) (shape : List Token) (f : A × List (List ℕ) → Result B ReportCode) → ((w : List ℕ) → passes w ≡ is_some (read w)) → ((x : A) (ws : List (List ℕ)) → Shaped shape ws (f (x, ws)))
     → (words : List (List ℕ)) → Shaped (Any passes ∷ shape) words (next_word read words >>= f)
-word_told read passes shape f same next [] = record { told = told_bad refl }
-word_told {A} read passes shape f same next (w ∷ ws) = grind (arith, is_some, told_bad)
+word_told {A} {B} read passes shape f same next words = grind (arith, told_bad)
 
 fixed_told : {B : Type 0} (word : List ℕ) (shape : List Token) (f : List (List ℕ) → Result B ReportCode) → ((ws : List (List ℕ)) → Shaped shape ws (f ws)) → (words : List (List ℕ)) → Shaped (Word word ∷ shape) words (fixed_word word words >>= f)
-fixed_told word shape f next [] = record { told = told_bad refl }
-fixed_told word shape f next (w ∷ ws) = grind (arith, bytes_eq, told_bad)
+fixed_told {B} word shape f next words = grind (arith, told_bad)
 
 end_told : {B : Type 0} (y : B) (words : List (List ℕ)) → Shaped [] words (no_more words >>= (λ u. Ok y))
-end_told y [] = record { told = gives_done y refl }
-end_told y (w ∷ ws) = record { told = told_bad refl }
+end_told {B} y words = grind (arith, gives_done, told_bad)
 
 number_told : {B : Type 0} (shape : List Token) (f : ℕ × List (List ℕ) → Result B ReportCode) → ((n : ℕ) (ws : List (List ℕ)) → Shaped shape ws (f (n, ws))) → (words : List (List ℕ)) → Shaped (small ∷ shape) words (next_number words >>= f)
 number_told shape f next words = word_told small_number (λ w. is_some (small_number w)) shape f (λ w. refl) next words
@@ -55,24 +50,14 @@ node_told names shape f next words = word_told (node_of names) (λ w. is_some (n
 
 -- what a test lets through
 some_if : {A : Type 0} (b : Bool) (x : A) → b ≡ is_some (if b then Some x else None)
-some_if true x = refl
-some_if false x = refl
-
--- digits have no leading zero where they are 0 or the first of them is more
-is_decimal_is : (w : List ℕ) → is_decimal w ≡ is_number w
-is_decimal_is [] = refl
-is_decimal_is (b ∷ bs) = grind (arith, nat_lt, nat_le, ltb-true, le-leb, leb-true, eqb-false, lt-ltb, bytes_eq, eqb-true, and-true)
+some_if {A} b x = grind arith
 
 any_passes : (w : List ℕ) → is_decimal w ≡ is_some (any_number w)
-any_passes w = is_decimal_is w ∙ some_if (is_number w) (digits_value 10 w)
+any_passes w = grind (arith, some_if, ltb-true, le-leb, leb-true, eqb-false, lt-ltb, eqb-true, and-true)
 
 keyed_told : {A B : Type 0} (key : List ℕ) (read : List ℕ → Option A) (passes : List ℕ → Bool) (shape : List Token) (f : A × List (List ℕ) → Result B ReportCode) → ((w : List ℕ) → passes w ≡ is_some (read w)) → ((x : A) (ws : List (List ℕ)) → Shaped shape ws (f (x, ws)))
     → (words : List (List ℕ)) → Shaped (key_with key passes ∷ shape) words (next_keyed key read words >>= f)
 keyed_told {A} key read passes shape f same next words = grind (arith, word_told, is_some)
-
-may_told : {B : Type 0} (word : List ℕ) (shape : List Token) (f : Bool × List (List ℕ) → Result B ReportCode) → ((said : Bool) (ws : List (List ℕ)) → Shaped shape ws (f (said, ws))) → (words : List (List ℕ)) → Shaped (May word ∷ shape) words (f (said_from word words))
-may_told word shape f next [] = record { told = (next false []).told }
-may_told word shape f next (w ∷ ws) = grind (arith, bytes_eq)
 
 -- ---- candidates
 
@@ -114,8 +99,7 @@ numbers_told [] = record { told = gives_done [] refl }
 numbers_told (w ∷ ws) = grind (arith, is_some, told_bad, made_told, numbers_told ws)
 
 pub rounds_told : (words : List (List ℕ)) → Shaped (rounds_shape words) words (rounds_from words)
-rounds_told [] = record { told = told_bad refl }
-rounds_told (w ∷ ws) = grind (arith, bytes_eq, numbers_told, told_bad)
+rounds_told words = grind (arith, told_bad, numbers_told)
 
 pub send_told : (names words : List (List ℕ)) → Shaped (send_shape names) words (send_from names words)
 send_told names words = fixed_told _ _ _ (λ ws. number_told _ _ (λ c vs. node_told names _ _ (λ u us. node_told names _ _ (λ v ts. number_told _ _ (λ s rs. end_told _ rs) ts) us) vs) ws) words
@@ -152,16 +136,13 @@ root_shape b more = (if b then key_with (codes "root=") is_name ∷ [] else []) 
 
 root_told : {B : Type 0} (b : Bool) (more : List Token) (f : Option (List ℕ) × List (List ℕ) → Result B ReportCode) → ((root : Option (List ℕ)) (ws : List (List ℕ)) → Shaped more ws (f (root, ws)))
     → (words : List (List ℕ)) → Shaped (root_shape b more) words ((if b then (next_keyed (codes "root=") name_of words >>= rooted) else Ok (None, words)) >>= f)
-root_told true more f next words = assoc_told (next_keyed (codes "root=") name_of words) rooted f (keyed_told (codes "root=") name_of is_name _ _ (λ w. some_if (is_name w) w) (λ name ws. next (Some name) ws) words)
-root_told false more f next words = next None words
+root_told {B} b more f next words = grind (arith, assoc_told, rooted, keyed_told, some_if)
 
 abbrev said_shape : List Token
 said_shape = May (codes "cuts=yes") ∷ May (codes "ordered=yes") ∷ []
 
 pruning_told : (words : List (List ℕ)) → Shaped said_shape words (pruning_from words)
-pruning_told words =
-    let made : Bool → Bool × List (List ℕ) → Result Pruning ReportCode = λ cuts o. no_more o.1 >>= (λ u. Ok (record { cuts = cuts; ordered = o.0 })) in
-    may_told (codes "cuts=yes") _ (λ c. made c.0 (said_from (codes "ordered=yes") c.1)) (λ cuts ws. may_told (codes "ordered=yes") _ (made cuts) (λ ordered vs. end_told _ vs) ws) words
+pruning_told words = grind (arith, end_told)
 
 abbrev after_kind : Kind × List (List ℕ) → Result AskedValue ReportCode
 after_kind kind = limits_from kind.1 >>= (λ l. root_from kind.0 l.1 >>= (λ root. pruning_from root.1 >>= (λ p. Ok (asked kind.0 (pruned l.0 p) root.0))))
@@ -203,10 +184,7 @@ module _ (patterned : Bool) where
       front_is h = (starts_is Decides-eqb c (codes "collective=") (starts_with nat_eq c (codes "collective=")) refl).0 h
 
       by_found : (o : Option Kind) → ((k : Kind) → o ≡ Some k → named k ≡ true) → begins (codes "collective=") c ≡ true → Told (of_found K o) ((need o BadLine >>= (λ x. Ok (x, ws))) >>= after_kind)
-      by_found None is front = told_bad refl
-      by_found (Some k) is front =
-          let same : bytes_eq c (codes "collective=" ++ word_of k) ≡ true = (bytes_eq-Decides c (codes "collective=" ++ word_of k)).1 (front_is front ∙ ap (λ v. codes "collective=" ++ v) (sym (named_is k (is k refl)))) in
-          subst (λ b. Told (b && has_shape (tail_shape k) ws) (after_kind (k, ws))) (sym same) (tail_told k ws).told
+      by_found o is front = grind (arith, told_bad, bytes_eq-Decides, front_is, named_is, tail_told)
 
       by_front : (b : Bool) → begins (codes "collective=") c ≡ b → Told (list_any K kinds) ((need (if b then find named kinds else None) BadLine >>= (λ x. Ok (x, ws))) >>= after_kind)
       by_front true front = subst (λ b. Told b ((need (find named kinds) BadLine >>= (λ x. Ok (x, ws))) >>= after_kind)) (sym (found_any named K kinds only (λ a b x y. one_kind a b (named_is a x ∙ sym (named_is b y))))) (by_found (find named kinds) (λ k e. found_is named kinds k e) front)

@@ -1,13 +1,13 @@
 -- The lines of a valid report are made of tokens, so that its text falls into them.
-use Rattle.std.{proofs.{Common.{◌≡◌, ℕ, List, [], ◌∷◌, ◌++◌, map, length, Option, None, Some, refl, arith, codes, flat_map, All}, lemmas.List.Elements.{All-head, All-tail}}, specs.List.AllByRecursion}
+use Rattle.std.{proofs.{Common.{◌≡◌, ℕ, List, [], ◌∷◌, ◌++◌, map, length, refl, arith, codes, flat_map, All}, lemmas.List.Elements.{All-head, All-tail}}, specs.List.AllByRecursion}
 use Rattle.text_lines.{specs.Text.rows_of, proofs.{Rows.{AreTokens, row_of, rows_again}, Words.{literal, tokens_from}}}
 use Rattle.outer_ports.specs.declared.part.Part.{Part}
 use Rattle.outer_ports.specs.declared.part.Part.TheVariants as part
 use Rattle.schedule.proofs.First.{each_append}
-use Rattle.collective_spec.{specs.{declared.kind.Kind.Kind, Patterns.PatternValue}, proofs.Chunks.FewBase}
+use Rattle.collective_spec.{specs.{declared.kind.Kind.Kind}, proofs.Chunks.FewBase}
 use Rattle.collective_spec.specs.declared.kind.Kind.TheVariants as kind
 use Rattle.candidate_order.specs.{Ranges.IsLimits, Frontiers.{QuestionValue, PointValue, FrontierValue, IsWithin, IsUnknown}}
-use Rattle.topology_text.{specs.{Names.AreNames, Value.NamedTopologyValue, Spelling.{lines_of, version_word}}, proofs.Laws.lines_are_words}
+use Rattle.topology_text.{specs.{Names.AreNames, Value.NamedTopologyValue, Spelling.{lines_of}}, proofs.Laws.lines_are_words}
 use Rattle.report_form.specs.Reports.{WordsValue, ReportValue, IsPrintedPoint, IsFrontier, IsJoinedPoint, IsReport, question_of}
 use Rattle.report_form.specs.Spelling.{point_lines, refuted_words, unknown_words, part_words, frontier_lines, joined_lines, body_lines, report_lines, report_text}
 use Rattle.report_laws.proofs.{ListsAgain.{lines_are_tokens, refuted_tokens, unknown_tokens}, PointsAgain.{base_of, point_are_tokens}, JoinedAgain.joined_are_tokens, SynthLineAgain.synth_tokens}
@@ -18,10 +18,7 @@ parts_are_tokens P spell each [] valid = tt
 parts_are_tokens P spell each (x ∷ xs) valid = each_append AreTokens (spell x) (flat_map spell xs) (each x (All-head P x xs valid)) (parts_are_tokens P spell each xs (All-tail P x xs valid))
 
 part_tokens : (x : Part) → AreTokens (part_words x)
-part_tokens part.Whole = tokens_from (codes "frontier" ∷ codes "whole" ∷ []) (omega arith) (literal (codes "frontier") refl, (literal (codes "whole") refl, tt))
-part_tokens part.Reduce = tokens_from (codes "frontier" ∷ codes "reduce" ∷ []) (omega arith) (literal (codes "frontier") refl, (literal (codes "reduce") refl, tt))
-part_tokens part.Gather = tokens_from (codes "frontier" ∷ codes "gather" ∷ []) (omega arith) (literal (codes "frontier") refl, (literal (codes "gather") refl, tt))
-part_tokens part.Joined = tokens_from (codes "joined" ∷ []) (omega arith) (literal (codes "joined") refl, tt)
+part_tokens x = grind (arith, tokens_from, literal)
 
 module _ (names : List (List ℕ)) (q : QuestionValue) (as_many : length names ≡ q.topology.nodes) (named : AreNames names) (ok : IsLimits q.limits) (base : FewBase q.spec) where
   pub frontier_are_tokens : (x : Part) (f : FrontierValue) → IsFrontier q f → AllByRecursion AreTokens (frontier_lines names (x, f))
@@ -39,10 +36,6 @@ module _ (names : List (List ℕ)) (q : QuestionValue) (as_many : length names �
       (part_tokens part.Joined, parts_are_tokens (IsJoinedPoint q) (point_lines names) (joined_are_tokens names q as_many named ok base) js all)
   joined_lines_are_tokens k js all = tt
 
-version_tokens : (c : Option PatternValue) → AreTokens (codes "sccl" ∷ version_word c ∷ [])
-version_tokens None = tokens_from (codes "sccl" ∷ codes "1" ∷ []) (omega arith) (literal (codes "sccl") refl, (literal (codes "1") refl, tt))
-version_tokens (Some p) = tokens_from (codes "sccl" ∷ codes "2" ∷ []) (omega arith) (literal (codes "sccl") refl, (literal (codes "2") refl, tt))
-
 pub report_are_tokens : (r : ReportValue) → IsReport r → AllByRecursion AreTokens (report_lines r)
 report_are_tokens r is =
     let names = r.topology.names in
@@ -51,14 +44,13 @@ report_are_tokens r is =
     let ok = is.words.limits in
     let w : WordsValue = r.words in
     let t : NamedTopologyValue = r.topology in
-    let frontiers = flat_map (frontier_lines names) r.frontiers in
     let joined = joined_lines names w.collective.kind r.joined in (
-      version_tokens t.custom,
+      (grind (arith, tokens_from, literal)),
       (
         synth_tokens names w named is.words,
         each_append AreTokens (lines_of t) (body_lines r ++ (codes "end" ∷ []) ∷ []) (lines_are_words t is.topology)
             (each_append AreTokens (body_lines r) ((codes "end" ∷ []) ∷ [])
-            (each_append AreTokens frontiers joined
+            (each_append AreTokens (flat_map (frontier_lines names) r.frontiers) joined
             (parts_are_tokens (λ x. IsFrontier (question_of w t x.0) x.1) (frontier_lines names) (λ x. frontier_are_tokens names (question_of w t x.0) as_many named ok (base_of w t x.0 is.topology.custom) x.0 x.1) r.frontiers is.frontiers)
             (joined_lines_are_tokens names (question_of w t part.Joined) as_many named ok (base_of w t part.Joined is.topology.custom) w.collective.kind r.joined is.joined))
             (tokens_from (codes "end" ∷ []) (omega arith) (literal (codes "end") refl, tt), tt)),

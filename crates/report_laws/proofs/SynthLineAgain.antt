@@ -2,10 +2,10 @@
 use Rattle.std.proofs.{Common.{◌≡◌, ℕ, ◌<◌, ◌^◌, Bool, true, false, ◌||◌, not, List, [], ◌∷◌, ◌++◌, length, Option, None, Some, Result, Ok, refl, sym, ap, arith, codes, decimal, if◌then◌else◌}, lemmas.{Bool.and_from, List.length-append}}
 use Rattle.std.proofs.lemmas.List.Elements.{All-get_or}
 use Rattle.text_lines.{specs.{Text.Row, Check.{◌>>=◌, need, line_part}}, proofs.{ReadBack.Reads, Repeated.place, Rows.{AreTokens, row_of}, Words.{IsWord, AreWords, literal, decimal_word, token-append, tokens_from}}}
-use Rattle.collective_spec.specs.{declared.kind.Kind.{Kind, TheVariants.Custom}, Kinds.{word_of, takes_root, is_custom}}
+use Rattle.collective_spec.specs.{declared.kind.Kind.{Kind}, Kinds.{word_of, takes_root, is_custom}}
 use Rattle.candidate_order.specs.{declared.pruning.Pruning.Pruning, Ranges.{LimitsValue, IsLimits, unpruned}}
 use Rattle.topology_text.{specs.{Names.{is_name, name_of, AreNames}, Spelling.name_at}, proofs.{Front.{name_word, name_of_name}, Links.node_again}}
-use Rattle.report_form.specs.{declared.fault.ReportCode.ReportCode, Reports.{WordsValue, IsWords}, Spelling.{root_words, word_if, pruning_words, synth_words}, Tests.are_limits, Fields.{any_number, next_keyed}}
+use Rattle.report_form.specs.{declared.fault.ReportCode.ReportCode, Reports.{WordsValue, IsWords}, Spelling.{root_words, pruning_words, synth_words}, Tests.are_limits, Fields.{any_number, next_keyed}}
 use Rattle.report_form.{specs.SynthLine.{AskedValue, kind_named, limits_from, pruning_from, asked_from, may_be_asked, asked_line, root_of}, proofs.{Tested.decides_limits, SynthLineTaken.{limits_words, pruned}}}
 use Rattle.report_form.specs.declared.fault.ReportCode.TheVariants as code
 use Rattle.report_laws.proofs.{TokensAgain.{ok_then, keyed_again, any_number_again}, ListsAgain.ruled_part}
@@ -13,26 +13,15 @@ use Rattle.report_laws.proofs.{TokensAgain.{ok_then, keyed_again, any_number_aga
 -- ---- the kind and the limits
 
 pub kind_back : (k : Kind) → kind_named true (word_of k) ≡ Some k
-kind_back Custom = refl
-kind_back k = refl
-
--- in version 1 only where no pairs are given
-kind_again : (patterned : Bool) (k : Kind) → is_custom k ≡ patterned → kind_named patterned (word_of k) ≡ Some k
-kind_again true k e = kind_back k
-kind_again false Custom e = absurd (cc)
-kind_again false k e = refl
+kind_back k = grind arith
 
 number_with : (key : List ℕ) (n : ℕ) (rest : List (List ℕ)) → n < 2 ^ 64 → next_keyed key any_number ((key ++ decimal n) ∷ rest) ≡ Ok (n, rest)
 number_with key n rest small = keyed_again key any_number (decimal n) rest n (any_number_again n small)
 
 pub limits_again : (l : LimitsValue) (rest : List (List ℕ)) → IsLimits l → limits_from (limits_words l rest) ≡ Ok (pruned l unpruned, rest)
 limits_again l rest ok =
-    let k = ok.k in
-    let s = ok.steps in
-    let c = ok.chunks in
-    let n = ok.conflicts in
-    ok_then _ _ (number_with (codes "k=") l.k _ (omega (arith, k))) (ok_then _ _ (number_with (codes "steps=") l.max_s _ (omega (arith, s)))
-    (ok_then _ _ (number_with (codes "chunks=") l.max_c _ (omega (arith, c))) (ok_then _ _ (number_with (codes "conflicts=") l.conflicts rest (omega (arith, n))) refl)))
+    ok_then _ _ (number_with (codes "ok.k=") l.k _ (omega (arith, ok.k))) (ok_then _ _ (number_with (codes "steps=") l.max_s _ (omega (arith, ok.steps)))
+    (ok_then _ _ (number_with (codes "chunks=") l.max_c _ (omega (arith, ok.chunks))) (ok_then _ _ (number_with (codes "conflicts=") l.conflicts rest (omega (arith, ok.conflicts))) refl)))
 
 -- ---- the root
 
@@ -49,13 +38,9 @@ root_is_name names root named below = All-get_or (λ n. is_name n ≡ true) name
 abbrev pub rooted : List ℕ × List (List ℕ) → Result (Option (List ℕ) × List (List ℕ)) ReportCode
 rooted name = Ok (Some name.0, name.1)
 
-abbrev unrooted : List (List ℕ) → Result (Option (List ℕ) × List (List ℕ)) ReportCode
-unrooted words = Ok (None, words)
-
 root_again : (b : Bool) (names : List (List ℕ)) (root : ℕ) (rest : List (List ℕ)) → AreNames names → root < length names
-    → (if b then (next_keyed (codes "root=") name_of (root_tokens b names root ++ rest) >>= rooted) else unrooted (root_tokens b names root ++ rest)) ≡ Ok (root_asked b names root, rest)
-root_again true names root rest named below = ok_then _ _ (keyed_again (codes "root=") name_of (name_at names root) rest (name_at names root) (name_of_name (name_at names root) (root_is_name names root named below))) refl
-root_again false names root rest named below = refl
+    → (if b then (next_keyed (codes "root=") name_of (root_tokens b names root ++ rest) >>= rooted) else Ok (None, root_tokens b names root ++ rest)) ≡ Ok (root_asked b names root, rest)
+root_again b names root rest named below = grind (arith, ok_then, keyed_again, name_of_name, root_is_name)
 
 -- the number of the root is found by its name
 pub root_of_again : (b : Bool) (names : List (List ℕ)) (root : ℕ) → AreNames names → root < length names → (b ≡ false → root ≡ 0) → root_of names (root_asked b names root) ≡ Ok root
@@ -74,7 +59,7 @@ asked_of names w = record { kind = w.collective.kind; limits = w.limits; root = 
 
 pub asked_again : (patterned : Bool) (names : List (List ℕ)) (w : WordsValue) → is_custom w.collective.kind ≡ patterned → AreNames names → IsWords (length names) w → asked_from patterned (synth_words names w) ≡ Ok (asked_of names w)
 asked_again patterned names w version named ok =
-    ok_then _ _ (keyed_again (codes "collective=") (kind_named patterned) (word_of w.collective.kind) _ w.collective.kind (kind_again patterned w.collective.kind version))
+    ok_then _ _ (keyed_again (codes "collective=") (kind_named patterned) (word_of w.collective.kind) _ w.collective.kind (grind (arith, kind_back)))
     (ok_then _ _ (limits_again w.limits (root_words names w ++ pruning_words w.limits.pruning) ok.limits) (ok_then _ _ (root_again (takes_root w.collective.kind) names w.collective.root (pruning_words w.limits.pruning) named ok.root)
     (ok_then _ _ (pruning_again w.limits.pruning) refl)))
 
@@ -84,26 +69,9 @@ asked_again patterned names w version named ok =
 keyed_word : (key word : List ℕ) → IsWord key → IsWord word → IsWord (key ++ word)
 keyed_word key word first second = (omega (arith, length-append key word, first.0), token-append key word first.1 second.1)
 
-kind_word : (kind : Kind) → IsWord (word_of kind)
-kind_word Custom = literal (word_of Custom) refl
-kind_word k = literal (word_of k) refl
-
-root_is_word : (b : Bool) (names : List (List ℕ)) (root : ℕ) → AreNames names → root < length names → AreWords (root_tokens b names root)
-root_is_word true names root named below = (keyed_word (codes "root=") (name_at names root) (literal (codes "root=") refl) (name_word (name_at names root) (root_is_name names root named below)), tt)
-root_is_word false names root named below = tt
-
 words_both : (a b : List (List ℕ)) → AreWords a → AreWords b → AreWords (a ++ b)
 words_both [] b first second = second
 words_both (w ∷ ws) b first second = (first.0, words_both ws b first.1 second)
-
-said_word : (word : List ℕ) (said : Bool) → IsWord word → AreWords (word_if word said)
-said_word word true is = (is, tt)
-said_word word false is = tt
-
-pruning_is_words : (p : Pruning) → AreWords (pruning_words p)
-pruning_is_words p =
-    words_both (word_if (codes "cuts=yes") p.cuts) (word_if (codes "ordered=yes") p.ordered) (said_word (codes "cuts=yes") p.cuts (literal (codes "cuts=yes") refl))
-    (said_word (codes "ordered=yes") p.ordered (literal (codes "ordered=yes") refl))
 
 number_word : (key : List ℕ) (n : ℕ) → IsWord key → n < 2 ^ 64 → IsWord (key ++ decimal n)
 number_word key n first small = keyed_word key (decimal n) first (decimal_word n small)
@@ -112,24 +80,17 @@ pub synth_tokens : (names : List (List ℕ)) (w : WordsValue) → AreNames names
 synth_tokens names w named ok =
     let l = ok.limits in
     let k = l.k in
-    let s = l.steps in
-    let c = l.chunks in
     let n = l.conflicts in
-    let kind = keyed_word (codes "collective=") (word_of w.collective.kind) (literal (codes "collective=") refl) (kind_word w.collective.kind) in
+    let kind = keyed_word (codes "collective=") (word_of w.collective.kind) (literal (codes "collective=") refl) (grind (arith, literal)) in
     let k_word = number_word (codes "k=") w.limits.k (literal (codes "k=") refl) (omega (arith, k)) in
-    let s_word = number_word (codes "steps=") w.limits.max_s (literal (codes "steps=") refl) (omega (arith, s)) in
-    let c_word = number_word (codes "chunks=") w.limits.max_c (literal (codes "chunks=") refl) (omega (arith, c)) in
+    let s_word = number_word (codes "steps=") w.limits.max_s (literal (codes "steps=") refl) (omega (arith, l.steps)) in
+    let c_word = number_word (codes "chunks=") w.limits.max_c (literal (codes "chunks=") refl) (omega (arith, l.chunks)) in
     let n_word = number_word (codes "conflicts=") w.limits.conflicts (literal (codes "conflicts=") refl) (omega (arith, n)) in
-    let rest = words_both (root_words names w) (pruning_words w.limits.pruning) (root_is_word (takes_root w.collective.kind) names w.collective.root named ok.root) (pruning_is_words w.limits.pruning) in
+    let rest = words_both (root_words names w) (pruning_words w.limits.pruning) (grind (arith, keyed_word, literal, name_word, root_is_name)) (grind (arith, words_both, literal)) in
     tokens_from (synth_words names w) (omega arith) (literal (codes "synth") refl, (kind, (k_word, (s_word, (c_word, (n_word, rest))))))
-
--- in version 2 the kind is the one whose pairs are given
-may_be : (patterned : Bool) (k : Kind) → is_custom k ≡ patterned → (not patterned || is_custom k) ≡ true
-may_be true k e = e
-may_be false k e = refl
 
 pub asked_part_again : (patterned : Bool) (names : List (List ℕ)) (w : WordsValue) (n : ℕ) (rows : List Row) → is_custom w.collective.kind ≡ patterned → AreNames names → IsWords (length names) w
     → Reads (line_part (asked_line patterned) (place n (row_of (synth_words names w) ∷ rows))) (asked_of names w) rows
 asked_part_again patterned names w n rows version named ok =
     ruled_part (asked_from patterned) (may_be_asked patterned) (λ a. a) (synth_words names w) (asked_of names w) (synth_tokens names w named ok) (asked_again patterned names w version named ok)
-    (and_from (are_limits w.limits) (not patterned || is_custom w.collective.kind) ((decides_limits w.limits).1 ok.limits) (may_be patterned w.collective.kind version)) n rows
+    (and_from (are_limits w.limits) (not patterned || is_custom w.collective.kind) ((decides_limits w.limits).1 ok.limits) (grind arith)) n rows

@@ -1,5 +1,5 @@
 -- Tokens that are spelled are taken, and give back what they spell.
-use Rattle.std.proofs.{Common.{◌≡◌, ◌≢◌, ℕ, suc, ◌<◌, ◌≤◌, ◌^◌, true, not, List, [], ◌∷◌, ◌++◌, length, get_or, Option, Some, Result, Ok, refl, ap, ◌∙◌, arith, ◌==◌, decimal, nat_eq, nat_le}, Math.Seq.drop-append_seam}
+use Rattle.std.proofs.{Common.{◌≡◌, ◌≢◌, ℕ, suc, ◌<◌, ◌≤◌, ◌^◌, true, List, [], ◌∷◌, ◌++◌, length, get_or, Option, Some, Result, Ok, refl, ap, ◌∙◌, arith, decimal, nat_eq, nat_le}, Math.Seq.drop-append_seam}
 use Rattle.std.{proofs.lemmas.{Bool.{Decides.Decides-eqb, and_from, cond-true, le-leb, ne_eqb}, Fmt.{decimal_is_IsNumeral, decimal_nonempty}, Slice.Eq.starts_is, Str.Parse.digit_at}, specs.List.list_all}
 use Rattle.text_lines.{specs.Check.{◌>>=◌, need}, proofs.{Distinct.AreDistinct, Numbers.{up_to_some, zero_not}}}
 use Rattle.topology_text.{specs.{Spelling.name_at, Reading.node_of}, proofs.Links.node_again}
@@ -39,9 +39,7 @@ digits_pass (b ∷ bs) digit =
 
 -- digits, of which the first is no 0 unless it is alone
 number_pass : (bs : List ℕ) → 0 < length bs → list_all is_digit bs ≡ true → (1 < length bs → get_or bs 0 0 ≢ 48) → is_number bs ≡ true
-number_pass [] some digits lead = absurd (omega arith)
-number_pass (b ∷ []) some digits lead = grind arith
-number_pass (b ∷ c ∷ bs) some digits lead = and_from (not (b == 48)) (list_all is_digit (b ∷ c ∷ bs)) (ap not (ne_eqb b 48 (lead (omega arith)))) digits
+number_pass bs some digits lead = grind (arith, and_from, ne_eqb)
 
 pub any_number_again : (n : ℕ) → n < 2 ^ 64 → any_number (decimal n) ≡ Some n
 any_number_again n small = grind (arith, decimal_is_IsNumeral, digits_pass, digit_at, number_pass, decimal_nonempty, zero_not, cond-true)

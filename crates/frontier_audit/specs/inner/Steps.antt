@@ -2,7 +2,7 @@
 use Rattle.std.specs.{Prelude.{◌≡◌, ◌==◌, ◌&&◌, ◌||◌, ◌+◌, ◌++◌, not, if◌then◌else◌, ℕ, Bool, List, Option, None, Some, drop, filter, map, Ok, Err}, List.{list_any, flat_map, range_with_len}}
 use Rattle.text_lines.specs.Check.{◌>>=◌, refuse}
 use Rattle.outer_ports.specs.{declared.part.Part.Part, Files.Files}
-use Rattle.schedule.specs.{declared.hop.Hop.Hop, Links.TopologyValue}
+use Rattle.schedule.specs.{Links.TopologyValue}
 use Rattle.inversion.specs.Saying.{says_sums}
 use Rattle.collective_spec.specs.{declared.kind.Kind.{Kind, TheVariants.Allreduce}, Collectives.chunks_of}
 use Rattle.candidate_order.specs.{declared.{candidate.Candidate.Candidate, mark.Mark.Mark}, Listed.candidate_at, Frontiers.{QuestionValue, PointValue, UnknownValue, FrontierValue, given_up}}
@@ -98,9 +98,6 @@ report_checked r files = do
   joined_checked r r.frontiers
 
 -- ---- joined points
-
-abbrev pub same_hop : Hop → Hop → Bool
-same_hop a b = a.chunk == b.chunk && a.from == b.from && a.to == b.to && a.step == b.step
 
 -- the join of the two sums every chunk at every node
 abbrev pub is_join : TopologyValue → PointValue × PointValue → Bool

@@ -10,14 +10,13 @@ returns-in-Some-2 g c = grind (arith, nat_tests, common_steps, judged_by_joins)
 
 pub returns : goal.returns
 returns g c =
-    let r = c.args.report.now in
-    let judged = judged_by_joins r c.in_ok-part.ensures.beside c.in_default.is c.parts_denied.ensures.valid None (sym c.in_default-2.is ∙ c.in_ok-denial.ensures) Verified refl in
+    let judged = judged_by_joins c.args.report.now c.in_ok-part.ensures.beside c.in_default.is c.parts_denied.ensures.valid None (sym c.in_default-2.is ∙ c.in_ok-denial.ensures) Verified refl in
     record {
       told = search rules;
       stay = search rules;
       exact = judged.exact;
       some = judged.some;
-      right = λ e. report_right r judged.some.files c.parts_denied.ensures.valid judged.some.is;
-      logs = λ e. report_logs r judged.some.files c.parts_denied.ensures.valid judged.some.is;
+      right = λ e. report_right c.args.report.now judged.some.files c.parts_denied.ensures.valid judged.some.is;
+      logs = λ e. report_logs c.args.report.now judged.some.files c.parts_denied.ensures.valid judged.some.is;
       cause = search rules;
     }

@@ -14,18 +14,15 @@ refutation_denied-requires g c = c.requires.within c.loop-candidate.candidate-in
 
 pub returns-in-Some-clause-beside : goal.returns-in-Some-clause-beside
 returns-in-Some-clause-beside g c =
-    let l = c.loop-candidate in
-    let x = get_or c.args.refuted.now l.candidate-index none in
+    let x = get_or c.args.refuted.now c.loop-candidate.candidate-index none in
     let done = c.in_ok-denial.ensures in
-    walk_stops l.invariant x c.loop-candidate-test.true (get_or_default c.args.refuted.now l.candidate-index none x c.loop-candidate-test.true) done.told done.beside c.in-Some.denial c.in-Some.is
+    walk_stops c.loop-candidate.invariant x c.loop-candidate-test.true (get_or_default c.args.refuted.now c.loop-candidate.candidate-index none x c.loop-candidate-test.true) done.told done.beside c.in-Some.denial c.in-Some.is
 
 pub loop-candidate-preserved : goal.loop-candidate-preserved
 loop-candidate-preserved g c =
-    let l = c.loop-candidate in
-    let x = get_or c.args.refuted.now l.candidate-index none in
-    let done = c.in_ok-denial.ensures in
-    walk_on l.invariant x c.loop-candidate-test.true (get_or_default c.args.refuted.now l.candidate-index none x c.loop-candidate-test.true) done.told done.beside
-    (separate_refuted c.args.part c.args.asked.now c.args.refuted.now c.requires.ascending) done.stay (done.cause.stays (λ failed. absurd cc)) c.in_default.is
+    let x = get_or c.args.refuted.now c.loop-candidate.candidate-index none in
+    walk_on c.loop-candidate.invariant x c.loop-candidate-test.true (get_or_default c.args.refuted.now c.loop-candidate.candidate-index none x c.loop-candidate-test.true) c.in_ok-denial.ensures.told c.in_ok-denial.ensures.beside
+    (separate_refuted c.args.part c.args.asked.now c.args.refuted.now c.requires.ascending) c.in_ok-denial.ensures.stay (c.in_ok-denial.ensures.cause.stays (λ failed. absurd cc)) c.in_default.is
 
 pub returns-clause-beside : goal.returns-clause-beside
 returns-clause-beside g c = walk_ends c.loop-candidate.invariant c.loop-candidate-test.false

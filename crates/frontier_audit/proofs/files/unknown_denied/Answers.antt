@@ -11,14 +11,12 @@ log_denied-requires g c = subst (IsUnknown c.args.asked.now) (sym c.given_up-ite
 
 pub returns-in-Some-clause-beside : goal.returns-in-Some-clause-beside
 returns-in-Some-clause-beside g c =
-    let done = c.in_ok-denial.ensures in
-    walk_stops c.loop-given_up.invariant c.given_up-item.result c.loop-given_up-test.true c.given_up-item.is done.told done.beside c.in-Some.denial c.in-Some.is
+    walk_stops c.loop-given_up.invariant c.given_up-item.result c.loop-given_up-test.true c.given_up-item.is c.in_ok-denial.ensures.told c.in_ok-denial.ensures.beside c.in-Some.denial c.in-Some.is
 
 pub loop-given_up-preserved : goal.loop-given_up-preserved
 loop-given_up-preserved g c =
-    let done = c.in_ok-denial.ensures in
-    walk_on c.loop-given_up.invariant c.given_up-item.result c.loop-given_up-test.true c.given_up-item.is done.told done.beside
-    (separate_unknown c.args.part c.args.asked.now c.args.unknown.now c.requires.ascending) done.stay (done.cause.stays (λ failed. absurd cc)) c.in_default.is
+    walk_on c.loop-given_up.invariant c.given_up-item.result c.loop-given_up-test.true c.given_up-item.is c.in_ok-denial.ensures.told c.in_ok-denial.ensures.beside
+    (separate_unknown c.args.part c.args.asked.now c.args.unknown.now c.requires.ascending) c.in_ok-denial.ensures.stay (c.in_ok-denial.ensures.cause.stays (λ failed. absurd cc)) c.in_default.is
 
 pub returns-clause-beside : goal.returns-clause-beside
 returns-clause-beside g c = walk_ends c.loop-given_up.invariant c.loop-given_up-test.false

@@ -13,12 +13,11 @@ pub returns-in-Some : goal.returns-in-Some
 returns-in-Some c =
     let l = c.loop-first in
     let t = c.args.topology.now in
-    let joined = c.args.joined.now in
     let gather = c.args.gather.now in
-    let said = subst (λ ps. JoinsSay t ps joined l.place c.gathered_denied.new.place c.in_ok-denial.field-0) (sym (pairs_one c.first-item.result gather)) c.in_ok-denial.ensures in
-    stopped t (pairs_of c.args.reduce.now gather) joined c.gathered_denied.new.place c.in-Some.denial
-    (walk_stops t joined (λ xs. pairs_of xs gather) (pairs_add gather) c.args.reduce.now l.first-index c.first-item.result c.loop-first-test.true c.first-item.is 0 l.place c.gathered_denied.new.place l.invariant c.in-Some.denial
-    (subst (JoinsSay t (pairs_of (c.first-item.result ∷ []) gather) joined l.place c.gathered_denied.new.place) c.in-Some.is said))
+    let said = subst (λ ps. JoinsSay t ps c.args.joined.now l.place c.gathered_denied.new.place c.in_ok-denial.field-0) (sym (pairs_one c.first-item.result gather)) c.in_ok-denial.ensures in
+    stopped t (pairs_of c.args.reduce.now gather) c.args.joined.now c.gathered_denied.new.place c.in-Some.denial
+    (walk_stops t c.args.joined.now (λ xs. pairs_of xs gather) (pairs_add gather) c.args.reduce.now l.first-index c.first-item.result c.loop-first-test.true c.first-item.is 0 l.place c.gathered_denied.new.place l.invariant c.in-Some.denial
+    (subst (JoinsSay t (pairs_of (c.first-item.result ∷ []) gather) c.args.joined.now l.place c.gathered_denied.new.place) c.in-Some.is said))
 
 pub loop-first-preserved : goal.loop-first-preserved
 loop-first-preserved c = grind (arith, nat_tests, common_steps, pairs_one, walk_goes, pairs_add)

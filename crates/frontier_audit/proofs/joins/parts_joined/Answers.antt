@@ -1,4 +1,4 @@
-use Rattle.std.proofs.Common.{◌<◌, length, sym, subst, ap, ◌∙◌, arith, All}
+use Rattle.std.proofs.Common.{sym, subst, ap, ◌∙◌, arith, All}
 use Rattle.outer_ports.specs.declared.part.Part.{Part}
 use Rattle.candidate_order.specs.Frontiers.{FrontierValue}
 use Rattle.allreduce_join.specs.Joins.{IsJoinable}
@@ -7,19 +7,13 @@ use Rattle.frontier_audit.proofs.joins.parts_joined.Goals as goal
 
 pub pairs_denied-requires-clause-reduce : goal.pairs_denied-requires-clause-reduce
 pairs_denied-requires-clause-reduce c =
-    let xs = c.frontiers.result.now in
-    let x = c.index-reduce-0.result in
-    let some : 0 < length xs = omega (arith, c.in-len2.len_at_least) in
     subst (All IsJoinable) (sym (c.points.ensures ∙ ap (λ (z : Part × FrontierValue). z.1.points) (sym c.index-reduce-0.is)))
-    (part_joinable c.args.report.now c.frontiers.ensures.limits xs 0 x c.frontiers.ensures.frontiers some c.index-reduce-0.is)
+    (part_joinable c.args.report.now c.frontiers.ensures.limits c.frontiers.result.now 0 c.index-reduce-0.result c.frontiers.ensures.frontiers (omega (arith, c.in-len2.len_at_least)) c.index-reduce-0.is)
 
 pub pairs_denied-requires-clause-gather : goal.pairs_denied-requires-clause-gather
 pairs_denied-requires-clause-gather c =
-    let xs = c.frontiers.result.now in
-    let x = c.index-gather-1.result in
-    let some : 1 < length xs = omega (arith, c.in-len2.len_at_least) in
     subst (All IsJoinable) (sym (c.points-in-len2.ensures ∙ ap (λ (z : Part × FrontierValue). z.1.points) (sym c.index-gather-1.is)))
-    (part_joinable c.args.report.now c.frontiers.ensures.limits xs 1 x c.frontiers.ensures.frontiers some c.index-gather-1.is)
+    (part_joinable c.args.report.now c.frontiers.ensures.limits c.frontiers.result.now 1 c.index-gather-1.result c.frontiers.ensures.frontiers (omega (arith, c.in-len2.len_at_least)) c.index-gather-1.is)
 
 pub pairs_denied-requires-clause-joined : goal.pairs_denied-requires-clause-joined
 pairs_denied-requires-clause-joined c = grind (arith, joinable)

@@ -9,8 +9,7 @@ unknown_denied-requires-clause-ascending g c =
 
 pub returns-in-Some-clause-beside : goal.returns-in-Some-clause-beside
 returns-in-Some-clause-beside g c =
-    let points = c.in_ok-denial.ensures ∙ ap (λ ps. denial_of (each (point_checked c.args.asked.now) ps)) c.points.ensures in
-    points_decide c.args.part c.args.asked.now c.args.frontier.now c.in-Some.denial (sym c.in-Some.is ∙ points)
+    points_decide c.args.part c.args.asked.now c.args.frontier.now c.in-Some.denial (sym c.in-Some.is ∙ (c.in_ok-denial.ensures ∙ ap (λ ps. denial_of (each (point_checked c.args.asked.now) ps)) c.points.ensures))
 
 pub returns-in-Some-2-clause-beside : goal.returns-in-Some-2-clause-beside
 returns-in-Some-2-clause-beside g c = grind (arith, refuted_decide)
@@ -19,14 +18,12 @@ pub returns-in-Some-3-clause-beside : goal.returns-in-Some-3-clause-beside
 returns-in-Some-3-clause-beside g c =
     let points = c.in_ok-denial.ensures ∙ ap (λ ps. denial_of (each (point_checked c.args.asked.now) ps)) c.points.ensures in
     let first = c.in_ok-denial-2.ensures in
-    let second = c.in_ok-denial-3.ensures in
-    unknown_decide c.args.part c.args.asked.now c.args.frontier.now (sym c.in_default.is ∙ points) (rw (c.refuted.ensures, c.in_default-2.is) at first.beside) second.told (λ t. first.stay (second.told t))
-    c.in-Some-3.denial (rw (c.unknown.ensures, c.in-Some-3.is) at second.beside)
+    unknown_decide c.args.part c.args.asked.now c.args.frontier.now (sym c.in_default.is ∙ points) (rw (c.refuted.ensures, c.in_default-2.is) at first.beside) c.in_ok-denial-3.ensures.told (λ t. first.stay (c.in_ok-denial-3.ensures.told t))
+    c.in-Some-3.denial (rw (c.unknown.ensures, c.in-Some-3.is) at c.in_ok-denial-3.ensures.beside)
 
 pub returns-clause-beside : goal.returns-clause-beside
 returns-clause-beside g c =
     let points = c.in_ok-denial.ensures ∙ ap (λ ps. denial_of (each (point_checked c.args.asked.now) ps)) c.points.ensures in
     let first = c.in_ok-denial-2.ensures in
-    let second = c.in_ok-denial-3.ensures in
-    answers_decide c.args.part c.args.asked.now c.args.frontier.now (sym c.in_default.is ∙ points) (rw (c.refuted.ensures, c.in_default-2.is) at first.beside) second.told (λ t. first.stay (second.told t))
-    c.in_ok-answers_denied.field-0 (rw (c.unknown.ensures, c.in_default-3.is) at second.beside) c.in_ok-answers_denied.ensures
+    answers_decide c.args.part c.args.asked.now c.args.frontier.now (sym c.in_default.is ∙ points) (rw (c.refuted.ensures, c.in_default-2.is) at first.beside) c.in_ok-denial-3.ensures.told (λ t. first.stay (c.in_ok-denial-3.ensures.told t))
+    c.in_ok-answers_denied.field-0 (rw (c.unknown.ensures, c.in_default-3.is) at c.in_ok-denial-3.ensures.beside) c.in_ok-answers_denied.ensures

@@ -9,8 +9,7 @@ encode_candidate-requires c = grind (arith, is_sought)
 
 pub returns : goal.returns
 returns c =
-    let a = c.self.inside in
     c.into_formula.ensures
-    ∙ (c.in_ok-encoded.ensures.formula a.limits (sym c.pruning-pruning.ensures)
-    ∙ (ap (λ (t : TopologyValue). formula_for (copying_question t a.spec a.limits) c.args.candidate) c.deref.ensures
-    ∙ formula_is a.topology.now _ a.spec a.limits a.cuts c.args.self.now c.self.view_is c.self.invariant c.args.candidate))
+    ∙ (c.in_ok-encoded.ensures.formula c.self.inside.limits (sym c.pruning-pruning.ensures)
+    ∙ (ap (λ (t : TopologyValue). formula_for (copying_question t c.self.inside.spec c.self.inside.limits) c.args.candidate) c.deref.ensures
+    ∙ formula_is c.self.inside.topology.now _ c.self.inside.spec c.self.inside.limits c.self.inside.cuts c.args.self.now c.self.view_is c.self.invariant c.args.candidate))
