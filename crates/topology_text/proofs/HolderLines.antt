@@ -1,5 +1,5 @@
 -- The lines of the chunks of a pattern: what is read stands there, and what stands there is read.
-use Rattle.std.proofs.{Common.{◌≡◌, ℕ, zero, suc, ◌+◌, ◌-◌, ◌<◌, ◌≤◌, List, [], ◌∷◌, ◌++◌, map, length, replicate, Result, refl, sym, ap, ◌∙◌, append_assoc, arith, codes}, lemmas.List.{append-nil, length-replicate}}
+use Rattle.std.proofs.{Common.{◌≡◌, ℕ, zero, suc, ◌+◌, ◌-◌, ◌<◌, ◌≤◌, List, [], ◌∷◌, ◌++◌, map, length, replicate, Result, refl, sym, ap, ◌∙◌, append_assoc, arith, rules, codes}, lemmas.List.{append-nil, length-replicate}}
 use Rattle.std.specs.List.{AllByRecursion}
 use Rattle.text_lines.specs.{Text.{Row, Place}, Check.{◌>>=◌, line_part}}
 use Rattle.text_lines.proofs.{Gives.{Gives, gives_done, gives_like, gives_then, Between, here, then_on, Cut, cut_here, cut_on}, ReadBack.{Reads, reads_here, reads_as, reads_then, line_again}, Repeated.place, Rows.{AreTokens, row_of}}
@@ -146,6 +146,4 @@ module _ (names : List (List ℕ)) where
 
 -- what the loop over the chunks needs
 pub next_chunk : (names : List (List ℕ)) (base g : ℕ) (found : Pairs) (p : Place) → g < base → holders_at names (base - g) g found p ≡ (line_part (holders_line names (codes "before") g) p >>= behind_before names (base - (g + 1)) g found)
-next_chunk names base g found p more =
-    let one : base - g ≡ suc (base - (g + 1)) = omega (arith, more) in
-    ap (λ n. holders_at names n g found p) one
+next_chunk names base g found p more = search rules

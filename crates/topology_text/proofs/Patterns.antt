@@ -1,5 +1,5 @@
 -- Patterns: what is read stands there, and what stands there is read.
-use Rattle.std.proofs.{Common.{◌≡◌, ℕ, zero, suc, ◌+◌, ◌≤◌, Bool, true, false, List, [], ◌∷◌, ◌++◌, map, length, get_or, drop, Option, None, Some, Ok, refl, sym, ap, ◌∙◌, subst, arith, codes, IfSome}, lemmas.List.length-map}
+use Rattle.std.proofs.{Common.{◌≡◌, ℕ, zero, suc, ◌+◌, ◌≤◌, Bool, true, false, List, [], ◌∷◌, ◌++◌, map, length, drop, Option, None, Some, Ok, refl, sym, ap, ◌∙◌, subst, arith, codes, IfSome}, lemmas.List.length-map}
 use Rattle.std.specs.{Option.is_some, List.{AllByRecursion, flat_map, range_with_len}}
 use Rattle.text_lines.specs.{Text.{Row, Place}, Check.line_part}
 use Rattle.text_lines.proofs.{Gives.{gives_done, gives_then, Between, here, then_on, Cut, cut_here, cut_on, Took, Stops, GivesPart}, ReadBack.{Reads, reads_here, reads_as, reads_then, line_again, Ends}, Repeated.place}
@@ -69,11 +69,7 @@ pattern_held nodes p ok =
 lines_spelled : (names : List (List ℕ)) (p q : PlacementValue) (g : ℕ) (hs : List Holders) → held_by (holds p) p.nodes g (length hs) ≡ befores hs → held_by (holds q) q.nodes g (length hs) ≡ afters hs
     → flat_map (λ k. holder_words names (codes "before") p k ∷ holder_words names (codes "after") q k ∷ []) (range_with_len g (length hs)) ≡ holder_lines names g hs
 lines_spelled names p q g [] one two = refl
-lines_spelled names p q g (h ∷ hs) one two =
-    let here : nodes_with (holds p) p.nodes g ≡ h.0 = ap (λ l. get_or l 0 []) one in
-    let there : nodes_with (holds q) q.nodes g ≡ h.1 = ap (λ l. get_or l 0 []) two in
-    let rest = lines_spelled names p q (g + 1) hs (ap (drop 1) one) (ap (drop 1) two) in
-    λ i. named_words names (codes "before") g (here i) ∷ named_words names (codes "after") g (there i) ∷ rest i
+lines_spelled names p q g (h ∷ hs) one two = grind (arith, nodes_with, named_words, lines_spelled names p q (g + 1) hs (ap (drop 1) one) (ap (drop 1) two))
 
 pub pattern_spelled : (names : List (List ℕ)) (base nodes : ℕ) (hs : List Holders) → length hs ≡ base → AreHeld nodes hs → custom_lines names (Some (pattern_from base nodes hs)) ≡ base_words base ∷ holder_lines names 0 hs
 pattern_spelled names base nodes hs many held =

@@ -4,7 +4,7 @@ ghost use Rattle.std.specs.{Prelude.{◌≡◌, ◌<◌, ◌≤◌, map, IsTrue,
 ghost use Rattle.topology_text.specs.Family.{is_allowed, family_links, family_groups, family_of, numbered_name};
 
 use crate::family_kind::{FamilyKind, has_family_link};
-use crate::grouping::{box_groups, mesh_groups, port_groups, single_groups};
+use crate::grouping::{box_groups, own_groups, port_groups};
 use crate::name::Name;
 use crate::named_topology::NamedTopology;
 use schedule::{Group, Topology};
@@ -52,6 +52,7 @@ fn family_links(alloc: Global, kind: FamilyKind, size: u8) -> Result<Vec<(u8, u8
     Ok(links)
 }
 
+#[tactic(auto, using(crate::proofs::FamilyGroups::each_made, crate::proofs::FamilyGroups::shared_made, crate::proofs::FamilyGroups::ports_made, crate::proofs::FamilyGroups::cables_made))]
 fn family_groups(alloc: Global, kind: FamilyKind, size: u8) -> Result<Vec<Group>, AllocError>
     requires { IsTrue (is_allowed kind size) }
     ensures { IfOk result (λ v. v.items ≡ family_groups kind size) }
@@ -63,17 +64,17 @@ fn family_groups(alloc: Global, kind: FamilyKind, size: u8) -> Result<Vec<Group>
             groups.push(Group::new(links, 1))?;
             Ok(groups)
         }
-        FamilyKind::Mesh => mesh_groups(alloc, &links),
         FamilyKind::Switch => port_groups(alloc, &links, size),
         FamilyKind::Boxes => {
             let cables = family_links(alloc, FamilyKind::Complete, size / 4)?;
             box_groups(alloc, &links, &cables)
         }
+        FamilyKind::Mesh => own_groups(alloc, true, &links),
         FamilyKind::Line
         | FamilyKind::Ring
         | FamilyKind::Complete
         | FamilyKind::Cube
-        | FamilyKind::Torus => single_groups(alloc, &links),
+        | FamilyKind::Torus => own_groups(alloc, false, &links),
     }
 }
 
