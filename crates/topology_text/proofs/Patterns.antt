@@ -28,13 +28,9 @@ length-held_in : (p q : PlacementValue) (g len : ℕ) → length (held_in p q g 
 length-held_in p q g zero = refl
 length-held_in p q g (suc len) = ap suc (length-held_in p q (g + 1) len)
 
-befores_in : (p q : PlacementValue) (g len : ℕ) → befores (held_in p q g len) ≡ held_by (holds p) p.nodes g len
-befores_in p q g zero = refl
-befores_in p q g (suc len) = ap (λ x. nodes_with (holds p) p.nodes g ∷ x) (befores_in p q (g + 1) len)
-
-afters_in : (p q : PlacementValue) (g len : ℕ) → afters (held_in p q g len) ≡ held_by (holds q) q.nodes g len
-afters_in p q g zero = refl
-afters_in p q g (suc len) = ap (λ x. nodes_with (holds q) q.nodes g ∷ x) (afters_in p q (g + 1) len)
+both_in : (p q : PlacementValue) (g len : ℕ) → (befores (held_in p q g len) ≡ held_by (holds p) p.nodes g len) × (afters (held_in p q g len) ≡ held_by (holds q) q.nodes g len)
+both_in p q g zero = (refl, refl)
+both_in p q g (suc len) = let rest = both_in p q (g + 1) len in (ap (λ x. nodes_with (holds p) p.nodes g ∷ x) rest.0, ap (λ x. nodes_with (holds q) q.nodes g ∷ x) rest.1)
 
 both_held : (nodes : ℕ) (hs : List Holders) → EachAscends nodes (befores hs) → EachAscends nodes (afters hs) → AreHeld nodes hs
 both_held nodes [] one two = tt
@@ -50,10 +46,11 @@ pub record PatternHeld (nodes : ℕ) (p : PatternValue) : Type 0 where
 pub pattern_held : (nodes : ℕ) (p : PatternValue) → IsPattern nodes p → PatternHeld nodes p
 pattern_held nodes p ok =
     let hs = held_in p.before p.after 0 p.base in
-    let one = subst (λ (n : ℕ). EachAscends n (befores hs)) ok.before_nodes (subst (EachAscends p.before.nodes) (sym (befores_in p.before p.after 0 p.base)) (held_ascends (holds p.before) p.before.nodes 0 p.base)) in
-    let two = subst (λ (n : ℕ). EachAscends n (afters hs)) ok.after_nodes (subst (EachAscends p.after.nodes) (sym (afters_in p.before p.after 0 p.base)) (held_ascends (holds p.after) p.after.nodes 0 p.base)) in
-    let before : p.before.pairs ≡ pairs_from 0 (befores hs) = placement_rows p.before ok.before ∙ ap (λ c. pairs_from 0 (held_by (holds p.before) p.before.nodes 0 c)) ok.before_chunks ∙ ap (pairs_from 0) (sym (befores_in p.before p.after 0 p.base)) in
-    let after : p.after.pairs ≡ pairs_from 0 (afters hs) = placement_rows p.after ok.after ∙ ap (λ c. pairs_from 0 (held_by (holds p.after) p.after.nodes 0 c)) ok.after_chunks ∙ ap (pairs_from 0) (sym (afters_in p.before p.after 0 p.base)) in
+    let here = both_in p.before p.after 0 p.base in
+    let one = subst (λ (n : ℕ). EachAscends n (befores hs)) ok.before_nodes (subst (EachAscends p.before.nodes) (sym here.0) (held_ascends (holds p.before) p.before.nodes 0 p.base)) in
+    let two = subst (λ (n : ℕ). EachAscends n (afters hs)) ok.after_nodes (subst (EachAscends p.after.nodes) (sym here.1) (held_ascends (holds p.after) p.after.nodes 0 p.base)) in
+    let before : p.before.pairs ≡ pairs_from 0 (befores hs) = placement_rows p.before ok.before ∙ ap (λ c. pairs_from 0 (held_by (holds p.before) p.before.nodes 0 c)) ok.before_chunks ∙ ap (pairs_from 0) (sym here.0) in
+    let after : p.after.pairs ≡ pairs_from 0 (afters hs) = placement_rows p.after ok.after ∙ ap (λ c. pairs_from 0 (held_by (holds p.after) p.after.nodes 0 c)) ok.after_chunks ∙ ap (pairs_from 0) (sym here.1) in
     record {
       held = hs;
       many = length-held_in p.before p.after 0 p.base;
