@@ -1,5 +1,5 @@
 -- The machine as it is kept: what an event makes of it, and that it stays right.
-use Rattle.std.proofs.Common.{◌≡◌, ℕ, zero, suc, ◌+◌, ◌*◌, ◌<◌, ◌≤◌, false, cond, eqb, List, [], ◌∷◌, length, map, get_or, set, drop, Some, refl, sym, ap, subst, ◌∙◌, arith, get_or-set_same, get_or-set_other, option_and_then, slice_get}
+use Rattle.std.proofs.Common.{◌≡◌, ℕ, zero, suc, ◌+◌, ◌*◌, ◌<◌, ◌≤◌, false, cond, eqb, List, [], ◌∷◌, length, map, get_or, set, drop, Some, refl, ap, subst, ◌∙◌, arith, get_or-set_same, get_or-set_other, option_and_then, slice_get}
 use Rattle.std.{proofs.lemmas.{Bool.{and_from, eq-eqb}, List.{get_or-map, length-set, map-append, map-set}, Nat.mul-add-lt}, specs.{Prelude.unwrap_or, List.AllByRecursion}}
 use Rattle.node_programs.specs.{declared.{op.Op.{Op, TheVariants.{Send, Take}}, message.Message.Message as Parcel}, Below.IsOpBelow, Machines.{Message, State, event, ops_left}}
 use Rattle.node_programs.{specs.Queues.{IsMachine, QueueValue, message_in, messages_in, no_queue, queue_of, sends_to, with_message, without_first}, proofs.Events.{after_take, taken}}
@@ -140,8 +140,7 @@ module _ (programs : List (List Op)) (store : StoreValue) (queues : List QueueVa
         → slice_get (get_or queues place no_queue).messages 0 ≡ Some (record { chunk = chunk; step = step; bag = bag })
         → left ≡ set programs node (drop 1 (get_or programs node [])) → kept ≡ with_bag store chunk node (received how (bag_in store chunk node) (counted store.nodes bag))
         → new ≡ set queues place (without_first (get_or queues place no_queue)) → state_of left kept new ≡ unwrap_or (event s node) s
-    state_taken left kept new next head is_left is_kept is_new =
-        state_got left kept new is_left is_kept is_new ∙ sym (ap (λ e. unwrap_or e s) (event_got next head))
+    state_taken left kept new next head is_left is_kept is_new = grind (arith, state_got, event_got)
 
 -- ---- the machine as it is seen, at a place of its queues
 
