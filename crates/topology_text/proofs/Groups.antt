@@ -3,7 +3,7 @@ use Rattle.std.proofs.lemmas.{Bool.Decides.nat_tests, Grind.common_steps}
 use Rattle.std.proofs.Common.{◌≡◌, ℕ, ◌<◌, ◌≤◌, true, false, ◌||◌, not, leb, ltb, List, [], ◌∷◌, ◌++◌, map, length, drop, Option, None, Some, Result, Ok, refl, sym, ap, ◌∙◌, subst, arith, rules, codes, decimal, slice_index_or}
 use Rattle.std.{proofs.lemmas.{Bool.{or_parts, not-false, leb-false, lt-leb, le-ltb, ltb-false}, List.{length-append, length-map, Elements.{All-nil, All-push, All-get_or, All-map, All-weaker, recursion_from_All}}}, specs.List.All}
 use Rattle.text_lines.specs.{Text.{Row, Place, words_of}, Repeated.begins}
-use Rattle.text_lines.proofs.{Checks.{bind_ok, refuse_ok, ok_is}, Distinct.next_has, Gives.{GivesPart, Takes, lines_give}, ReadBack.{Reads, Ends, ReadsLine, lines_again}, Repeated.{place, line_refused, line_accepted, lines_ended}, Rows.{row_of, row_back, words_again}}
+use Rattle.text_lines.proofs.{Checks.{bind_ok, refuse_ok, ok_is}, Distinct.next_has, Gives.{GivesPart, Takes, lines_give}, ReadBack.{Reads, Ends, ReadsLine, lines_again}, Repeated.place, Rows.{row_of, row_back, words_again}}
 use Rattle.text_lines.proofs.Words.{IsWord, AreWords, literal, tokens_from, none_empty, begins_is, decimal_word, token-append}
 use Rattle.schedule.specs.Links.{GroupValue, IsBelow, IsGroup}
 use Rattle.topology_text.specs.{declared.fault.TopologyCode.{TopologyCode, TheVariants.{BadLine, TooManyGroups, WidthRange}}, Spelling.{link_word, group_words}, Reading.{has_empty, one_to_16, links_from, group_line, groups_at}}
@@ -106,5 +106,3 @@ module _ (names : List (List ℕ)) where
 
   pub groups_read : (groups : List GroupValue) (n : ℕ) (rest : List Row) → Names names → Groups (length names) groups → Ends (codes "group ") rest → Reads (groups_at names (place n (map row_of (map (group_words names) groups) ++ rest))) groups rest
   groups_read groups n rest ok valid ends = lines_again (codes "group ") next_group (group_words names) (Groups (length names)) (group_reads ok) [] groups n rest valid ends
-
-pub ruleset group_rules = (length-append, line_refused, line_accepted, lines_ended, next_group)

@@ -86,9 +86,6 @@ lines_valid names p base q found rest count e1 e2 same =
     subst (λ (n : ℕ). IsPattern n (pattern_of base n found)) same
     (subst (λ (f : Pairs). IsPattern (length names) (pattern_of base (length names) f)) (sym taken.pairs) (pattern_valid base (length names) taken.held taken.many head.some head.few taken.valid))
 
-pub pattern_made : (base count : ℕ) (found : Pairs) (b a : PlacementValue) → IsPattern count (pattern_of base count found) → b ≡ record { chunks = base; nodes = count; pairs = found.before } → a ≡ record { chunks = base; nodes = count; pairs = found.after } → IsPattern b.nodes (record { base = base; before = b; after = a })
-pattern_made base count found b a ok one two = grind arith
-
 -- a valid pattern, where one is due, and else none
 pub record IsCustom (names : List (List ℕ)) (patterned : Bool) (custom : Option PatternValue) : Type 0 where
   pub shown : is_some custom ≡ patterned

@@ -52,7 +52,6 @@ fn family_links(alloc: Global, kind: FamilyKind, size: u8) -> Result<Vec<(u8, u8
     Ok(links)
 }
 
-#[tactic(auto, using(crate::proofs::FamilyGroups::each_made, crate::proofs::FamilyGroups::shared_made, crate::proofs::FamilyGroups::ports_made, crate::proofs::FamilyGroups::cables_made))]
 fn family_groups(alloc: Global, kind: FamilyKind, size: u8) -> Result<Vec<Group>, AllocError>
     requires { IsTrue (is_allowed kind size) }
     ensures { IfOk result (λ v. v.items ≡ family_groups kind size) }

@@ -69,7 +69,6 @@ pub fn nodes_part(
 }
 
 /// Takes the lines that begin `group `, up to the first that doesn't.
-#[tactic(auto, using(crate::proofs::Groups::group_rules))]
 pub fn groups_part(
     alloc: Global,
     names: &IndexSet<Name>,
