@@ -1,5 +1,5 @@
 -- How many operations send to each node, counted one after the other.
-use Rattle.std.proofs.{Common.{◌≡◌, ℕ, ◌+◌, ◌<◌, ◌≤◌, List, [], ◌∷◌, ◌++◌, length, map, get_or, take, replicate, sym, ap, ◌∙◌, arith}, lemmas.{Bool.{cases_lt, eq-eqb}, Simd.map-map}}
+use Rattle.std.proofs.{Common.{◌≡◌, ℕ, ◌+◌, ◌<◌, ◌≤◌, List, [], ◌∷◌, ◌++◌, length, map, get_or, take, replicate, arith}, lemmas.{Bool.{cases_lt, eq-eqb}, Simd.map-map}}
 use Rattle.std.{proofs.lemmas.List.{length-replicate, length-take, get_or-replicate, get_or_past, take_more, FromFn.{fill_by_all, get_or-map-range_with_len, length-map-range_with_len}}, specs.List.range_with_len}
 use Rattle.node_programs.{specs.{declared.op.Op.{Op, TheVariants.{Send, Take}}, Queues.{empty_queue, queues_from, sends_to, with_send}}, proofs.Each.{flipped, set_each}}
 use Rattle.bag_runs.proofs.Counting.{map_alike}
@@ -29,14 +29,12 @@ pub counts_few : (nodes i : ℕ) (ops : List Op) (node : ℕ) → get_or (send_c
 counts_few nodes i ops node = grind (arith, cases_lt, count_at, sends_few, length-take, get_or_past, length-map-range_with_len)
 
 counts_pushed : (nodes : ℕ) (ops : List Op) (op : Op) → with_send (send_counts nodes ops) op ≡ send_counts nodes (ops ++ op ∷ [])
-counts_pushed nodes ops (Take chunk from step how) =
-    map_alike (λ node. sends_to node ops) (λ node. sends_to node (ops ++ Take chunk from step how ∷ [])) (λ node. omega (arith, sends_more node ops (Take chunk from step how))) (range_with_len 0 nodes)
+counts_pushed nodes ops (Take chunk from step how) = grind (arith, map_alike, sends_more)
 counts_pushed nodes ops (Send chunk to step) = grind (arith, set_each, flipped, sends_more, eq-eqb, count_at)
 
 -- one operation more is counted
 pub counts_more : (nodes i : ℕ) (ops : List Op) (d : Op) (old new : List ℕ) → i < length ops → old ≡ send_counts nodes (take i ops) → new ≡ with_send old (get_or ops i d) → new ≡ send_counts nodes (take (i + 1) ops)
-counts_more nodes i ops d old new inside so_far more =
-    more ∙ ap (λ counts. with_send counts (get_or ops i d)) so_far ∙ counts_pushed nodes (take i ops) (get_or ops i d) ∙ ap (send_counts nodes) (sym (take_more ops i d inside))
+counts_more nodes i ops d old new inside so_far more = grind (arith, counts_pushed, take_more)
 
 pub queues_counted : (nodes : ℕ) (ops : List Op) → map empty_queue (send_counts nodes ops) ≡ queues_from nodes ops
 queues_counted nodes ops = map-map empty_queue (λ node. sends_to node ops) (range_with_len 0 nodes)

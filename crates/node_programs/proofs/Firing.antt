@@ -1,7 +1,7 @@
 -- The machine as it is kept: what an event makes of it, and that it stays right.
-use Rattle.std.proofs.Common.{◌≡◌, ℕ, zero, suc, ◌+◌, ◌*◌, ◌<◌, ◌≤◌, false, cond, eqb, List, [], ◌∷◌, length, map, get_or, set, drop, Some, inl, inr, refl, sym, ap, subst, ◌∙◌, arith, get_or-set_same, get_or-set_other, option_and_then, slice_get}
+use Rattle.std.proofs.Common.{◌≡◌, ℕ, zero, suc, ◌+◌, ◌*◌, ◌<◌, ◌≤◌, false, cond, eqb, List, [], ◌∷◌, length, map, get_or, set, drop, Some, refl, ap, subst, ◌∙◌, arith, get_or-set_same, get_or-set_other, option_and_then, slice_get}
 use Rattle.std.{proofs.lemmas.{Bool.{and_from, eq-eqb}, List.{get_or-map, length-set, map-append, map-set}, Nat.mul-add-lt}, specs.{Prelude.unwrap_or, List.AllByRecursion}}
-use Rattle.node_programs.specs.{declared.{op.Op.{Op, TheVariants.{Send, Take}}, message.Message.Message as Parcel}, Below.IsOpBelow, Machines.{Message, State, event}}
+use Rattle.node_programs.specs.{declared.{op.Op.{Op, TheVariants.{Send, Take}}, message.Message.Message as Parcel}, Below.IsOpBelow, Machines.{Message, State, event, ops_left}}
 use Rattle.node_programs.{specs.Queues.{IsMachine, QueueValue, message_in, messages_in, no_queue, queue_of, sends_to, with_message, without_first}, proofs.Events.{after_take, taken}}
 use Rattle.bag_runs.{specs.{declared.mode.Mode.Mode, Stores.{StoreValue, bag_in, received, with_bag}, Kept.counted}, proofs.Cells.{cell_below, cell_beside, cell_here, differ, same_or_not}}
 
@@ -79,15 +79,7 @@ module _ (chunks nodes : ℕ) (programs : List (List Op)) (queues : List QueueVa
         unchanged u v low high same = omega (arith, fewer less u v, kept.room u v low high, ap (λ x. x.room) same)
 
         room : (u v : ℕ) → u < nodes → v < nodes → sends_to v (get_or moved u []) ≤ (queue_of (set queues (from * nodes + to) q) nodes u v).room
-        room u v low_u low_v =
-            elim (same_or_not u from) [
-              | inl same ↦ elim (same_or_not v to) [
-                | inl same_too ↦ (let own : queue_of (set queues (from * nodes + to) q) nodes u v ≡ q = ap (λ i. get_or (set queues (from * nodes + to) q) (i * nodes + v) no_queue) same ∙ ap (λ i. get_or (set queues (from * nodes + to) q) (from * nodes + i) no_queue) same_too ∙ cell_here queues nodes nodes no_queue from to q kept.pairs low high in
-                    omega (arith, enough, ap (λ i. sends_to v (get_or moved i [])) same ∙ ap (λ i. sends_to i (get_or moved from [])) same_too, ap (λ x. x.room) own))
-                | inr apart ↦ unchanged u v low_u low_v (cell_beside queues nodes nodes no_queue from to u v q high low_v (differ v to apart))
-              ]
-              | inr apart ↦ unchanged u v low_u low_v (cell_below queues nodes nodes no_queue from to u v q high low_v (differ u from apart))
-            ]
+        room u v low_u low_v = grind (arith, same_or_not, cell_here, unchanged, cell_beside, differ, cell_below)
 
     pub kept_send : (chunk to step : ℕ) (m : Parcel) → slice_get ops 0 ≡ Some (Send chunk to step) → IsMachine chunks nodes moved (set queues (node * nodes + to) (with_message (queue_of queues nodes node to) m))
     kept_send chunk to step m is =
@@ -148,5 +140,40 @@ module _ (programs : List (List Op)) (store : StoreValue) (queues : List QueueVa
         → slice_get (get_or queues place no_queue).messages 0 ≡ Some (record { chunk = chunk; step = step; bag = bag })
         → left ≡ set programs node (drop 1 (get_or programs node [])) → kept ≡ with_bag store chunk node (received how (bag_in store chunk node) (counted store.nodes bag))
         → new ≡ set queues place (without_first (get_or queues place no_queue)) → state_of left kept new ≡ unwrap_or (event s node) s
-    state_taken left kept new next head is_left is_kept is_new =
-        state_got left kept new is_left is_kept is_new ∙ sym (ap (λ e. unwrap_or e s) (event_got next head))
+    state_taken left kept new next head is_left is_kept is_new = grind (arith, state_got, event_got)
+
+-- ---- the machine as it is seen, at a place of its queues
+
+module _ (programs : List (List Op)) (store : StoreValue) (queues : List QueueValue) (s : State) (seen : state_of programs store queues ≡ s) (kept : IsMachine store.chunks store.nodes programs queues) (node place : ℕ) (inside : node < s.store.nodes) where
+  module _ (chunk to step : ℕ) (next : slice_get (ops_left s node) 0 ≡ Some (Send chunk to step)) (at : place ≡ node * s.store.nodes + to) where
+    pub seen_room : 0 < (get_or queues place no_queue).room
+    seen_room = rw (at, ← seen) (room_for store.chunks store.nodes programs queues kept node chunk to step (rw (← seen) at inside) (rw (← seen) at next))
+
+    module _ (left : List (List Op)) (new : List QueueValue) (bag : List ℕ) (is_left : left ≡ set programs node (drop 1 (get_or programs node []))) (is_new : new ≡ set queues place (with_message (get_or queues place no_queue) (record { chunk = chunk; step = step; bag = bag }))) where
+      pub seen_send : IsMachine store.chunks store.nodes left new
+      seen_send = rw (is_left, is_new, at, ← seen) (kept_send store.chunks store.nodes programs queues kept node (rw (← seen) at inside) chunk to step (record { chunk = chunk; step = step; bag = bag }) (rw (← seen) at next))
+
+      pub sent_event : counted store.nodes bag ≡ bag_in store chunk node → event s node ≡ Some (state_of left store new)
+      sent_event is_bag =
+          let first : slice_get (get_or programs node []) 0 ≡ Some (Send chunk to step) = rw (← seen) at next in
+          let below = next_below store.chunks store.nodes programs queues kept node (Send chunk to step) first in
+          rw (← seen) (state_sent programs store queues node chunk to step bag left new (place_inside store.chunks store.nodes programs queues kept node to (rw (← seen) at inside) below.1) is_left (rw (at, ← seen) at is_new) is_bag first)
+
+  module _ (chunk from step : ℕ) (how : Mode) (next : slice_get (ops_left s node) 0 ≡ Some (Take chunk from step how)) (at : place ≡ from * s.store.nodes + node) where
+    below_take : IsOpBelow store.chunks store.nodes (Take chunk from step how)
+    below_take = next_below store.chunks store.nodes programs queues kept node (Take chunk from step how) (rw (← seen) at next)
+
+    pub seen_chunk : chunk < store.chunks
+    seen_chunk = below_take.0
+
+    pub seen_place : place < length queues
+    seen_place = rw (at, ← seen) (place_inside store.chunks store.nodes programs queues kept from node below_take.1 (rw (← seen) at inside))
+
+    module _ (left : List (List Op)) (new : List QueueValue) (is_left : left ≡ set programs node (drop 1 (get_or programs node []))) (is_new : new ≡ set queues place (without_first (get_or queues place no_queue))) where
+      pub seen_take : IsMachine store.chunks store.nodes left new
+      seen_take = rw (is_left, is_new, at, ← seen) (kept_take store.chunks store.nodes programs queues kept node (rw (← seen) at inside) chunk from step how (rw (← seen) at next))
+
+      pub taken_event : (bag : List ℕ) (after : StoreValue) → slice_get (get_or queues place no_queue).messages 0 ≡ Some (record { chunk = chunk; step = step; bag = bag }) → after ≡ with_bag store chunk node (received how (bag_in store chunk node) (counted store.nodes bag))
+          → state_of left after new ≡ unwrap_or (event s node) s
+      taken_event bag after head is_after =
+          rw (← seen) (state_taken programs store queues node chunk from step how bag (rw (at, ← seen) at seen_place) left after new (rw (← seen) at next) (rw (at, ← seen) at head) is_left is_after (rw (at, ← seen) at is_new))

@@ -26,10 +26,8 @@ nodes_more names programs n name ops same inside is_name is_ops =
     both {a} {b} {c} {d} p q = let P : List ℕ → List ℕ × List Op = λ x. (x, c) in let Q : List Op → List ℕ × List Op = λ y. (b, y) in ap P p ∙ ap Q q
 
 pub nodes_all : (names : List (List ℕ)) (programs : List (List Op)) (n : ℕ) → length names ≡ length programs → length programs ≤ n → first_nodes names programs n ≡ text_of (flat_map (node_lines names) (zip names programs))
-nodes_all names programs n same past =
-    ap (λ nodes. text_of (flat_map (node_lines names) nodes)) (take_all n (zip names programs) (omega (arith, length-zip names programs)))
+nodes_all names programs n same past = grind (arith, take_all, length-zip)
 
 pub text_is : (point : ℕ) (names : List (List ℕ)) (programs : List (List Op)) → (codes "programs " ++ (decimal point ++ codes "\n")) ++ (text_of (flat_map (node_lines names) (zip names programs)) ++ codes "end\n") ≡ programs_text point names programs
 unfolding programs_text
-text_is point names programs =
-    ap (λ t. (codes "programs " ++ (decimal point ++ codes "\n")) ++ t) (sym (flat_map-append line (flat_map (node_lines names) (zip names programs)) ((codes "end" ∷ []) ∷ [])))
+text_is point names programs = grind (arith, flat_map-append)

@@ -1,5 +1,5 @@
 -- Operations pushed behind those of a node, and how the programs of a schedule come about step by step.
-use Rattle.std.proofs.{Common.{◌≡◌, ℕ, ◌+◌, ◌<◌, ◌≤◌, Bool, true, false, cond, eqb, List, [], ◌∷◌, ◌++◌, length, map, get_or, set, take, refl, sym, ap, ◌∙◌, subst, append_assoc, arith, filter}, lemmas.Bool.eq-eqb}
+use Rattle.std.proofs.{Common.{◌≡◌, ℕ, ◌+◌, ◌<◌, ◌≤◌, Bool, true, false, cond, eqb, List, [], ◌∷◌, ◌++◌, length, map, get_or, set, take, refl, sym, ◌∙◌, subst, append_assoc, arith, filter}, lemmas.{Bool.{eq-eqb, Decides.nat_tests}, Grind.common_steps}}
 use Rattle.std.{proofs.lemmas.List.{append-nil, map-append, take_all, Elements.filter_more, FromFn.get_or-map-range_with_len}, specs.List.{flat_map, range_with_len}}
 use Rattle.list_laws.proofs.Ranges.{flat_map-range_more}
 use Rattle.schedule.specs.{declared.hop.Hop.Hop, Sends.ScheduleValue}
@@ -30,12 +30,7 @@ module _ (op_of : Hop → Op) (node_of : Hop → ℕ) where
   one_or_none false h = refl
 
   among_more : (hops : List Hop) (i node : ℕ) (d : Hop) → i < length hops → among (take (i + 1) hops) node ≡ among (take i hops) node ++ for_node (node_of (get_or hops i d)) node (op_of (get_or hops i d))
-  among_more hops i node d inside =
-      let p : Hop → Bool = λ o. eqb (node_of o) node in
-      let h : Hop = get_or hops i d in
-      ap (map op_of) (filter_more p hops i d inside)
-      ∙ map-append op_of (filter p (take i hops)) (cond (p h) (h ∷ []) [])
-      ∙ ap (λ ops. among (take i hops) node ++ ops) (one_or_none (p h) h)
+  among_more hops i node d inside = grind (arith, nat_tests, common_steps, filter_more, map-append, one_or_none)
 
   -- what has been pushed of the first so many
   abbrev pub Pushed : List (List Op) → List (List Op) → List Hop → Type 0

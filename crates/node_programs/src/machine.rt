@@ -139,6 +139,7 @@ impl Machine {
     }
 
     /// The node's next operation, a send, is done.
+    #[tactic(auto, using(crate::proofs::Firing::seen_room))]
     fn send(&mut self, node: u8, chunk: u16, to: u8, step: u8)
         requires node { node < self.old.store.nodes }
         requires next { slice_get (ops_left self.old node) 0 ≡ Some (op.Send chunk to step) }
@@ -151,6 +152,7 @@ impl Machine {
     }
 
     /// The node's next operation, a take, is done where its message heads the queue.
+    #[tactic(auto, using(crate::proofs::Firing::seen_place, crate::proofs::Firing::seen_chunk))]
     fn take(&mut self, node: u8, chunk: u16, from: u8, step: u8, mode: Mode) -> Fired
         requires node { node < self.old.store.nodes }
         requires next { slice_get (ops_left self.old node) 0 ≡ Some (op.Take chunk from step mode) }

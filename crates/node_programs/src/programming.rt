@@ -1,6 +1,6 @@
 //! The programs that carry a schedule out.
 
-ghost use Rattle.std.specs.{Prelude.{◌≡◌, ◌==◌, ℕ, ◌++◌, ◌∷◌, [], List, length, map, filter, slice_index_or, slice_set, IfOk, OnOk}, List.range_with_len};
+ghost use Rattle.std.specs.{Prelude.{◌≡◌, ◌==◌, ℕ, ◌++◌, ◌∷◌, [], List, length, map, filter, slice_index_or, slice_set, IfOk, OnOk, if◌then◌else◌}, List.range_with_len};
 ghost use Rattle.schedule.specs.Sends.{IsInRange};
 ghost use Rattle.node_programs.specs.{declared.op.Op.Op, Programs.programs_of, Below.AreBelow, inner.Pushed.{send_of, take_of}};
 
@@ -63,39 +63,46 @@ fn push_step(programs: &mut Vec<Program>, sends: &[Hop], adding: u8) -> Result<(
     ensures { OnOk result ((nodes : ℕ) (begun : ℕ → List Op) → programs.old.items ≡ map begun (range_with_len 0 nodes)
         → programs.new.items ≡ map (λ node. (begun node ++ map send_of (filter (λ h. h.from == node) sends.now)) ++ map (take_of adding) (filter (λ h. h.to == node) sends.now)) (range_with_len 0 nodes)) }
 {
-    push_sends(programs, sends)?;
-    push_takes(programs, sends, adding)
+    push_ops(programs, sends, false, adding)?;
+    push_ops(programs, sends, true, adding)
 }
 
-/// Puts the sends of a step behind the operations of their senders.
-fn push_sends(programs: &mut Vec<Program>, sends: &[Hop]) -> Result<(), OutOfMemory>
-    ensures { OnOk result ((nodes : ℕ) (begun : ℕ → List Op) → programs.old.items ≡ map begun (range_with_len 0 nodes)
-        → programs.new.items ≡ map (λ node. begun node ++ map send_of (filter (λ h. h.from == node) sends.now)) (range_with_len 0 nodes)) }
+/// What a hop is to its receiver, the take, or else to its sender, the send; and which node that is.
+fn op_of(hop: &Hop, take: bool, adding: u8) -> (u8, Op)
+    ensures node { result.0 ≡ (if take then hop.now.to else hop.now.from) }
+    ensures op { result.1 ≡ (if take then take_of adding else send_of) hop.now }
 {
-    for hop in sends {
-        let op = Op::Send {
-            chunk: hop.chunk,
-            to: hop.to,
-            step: hop.step,
-        };
-        push_op(programs, hop.from, op)?;
-    }
-    Ok(())
-}
-
-/// Puts the takes of a step behind the operations of their receivers.
-fn push_takes(programs: &mut Vec<Program>, sends: &[Hop], adding: u8) -> Result<(), OutOfMemory>
-    ensures { OnOk result ((nodes : ℕ) (begun : ℕ → List Op) → programs.old.items ≡ map begun (range_with_len 0 nodes)
-        → programs.new.items ≡ map (λ node. begun node ++ map (take_of adding) (filter (λ h. h.to == node) sends.now)) (range_with_len 0 nodes)) }
-{
-    for hop in sends {
+    if take {
         let op = Op::Take {
             chunk: hop.chunk,
             from: hop.from,
             step: hop.step,
             mode: Mode::at(adding, hop.step),
         };
-        push_op(programs, hop.to, op)?;
+        return (hop.to, op);
+    }
+    let op = Op::Send {
+        chunk: hop.chunk,
+        to: hop.to,
+        step: hop.step,
+    };
+    (hop.from, op)
+}
+
+/// Puts the takes of a step behind the operations of their receivers, or else its sends behind
+/// those of their senders.
+fn push_ops(
+    programs: &mut Vec<Program>,
+    sends: &[Hop],
+    take: bool,
+    adding: u8,
+) -> Result<(), OutOfMemory>
+    ensures { OnOk result ((nodes : ℕ) (begun : ℕ → List Op) → programs.old.items ≡ map begun (range_with_len 0 nodes)
+        → programs.new.items ≡ map (λ node. begun node ++ map (if take then take_of adding else send_of) (filter (λ h. (if take then h.to else h.from) == node) sends.now)) (range_with_len 0 nodes)) }
+{
+    for hop in sends {
+        let (node, op) = op_of(hop, take, adding);
+        push_op(programs, node, op)?;
     }
     Ok(())
 }

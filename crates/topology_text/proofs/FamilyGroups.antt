@@ -1,11 +1,11 @@
 -- The groups of families.
-use Rattle.std.proofs.Common.{◌≡◌, ◌≢◌, ℕ, zero, suc, ◌+◌, ◌*◌, ◌/◌, ◌%◌, ◌<◌, ◌≤◌, Bool, true, false, ◌&&◌, ◌||◌, cond, eqb, not, List, [], ◌∷◌, ◌++◌, map, length, get_or, refl, sym, ap, ◌∙◌, subst, append_assoc, arith}
+use Rattle.std.proofs.Common.{◌≡◌, ◌≢◌, ℕ, zero, suc, ◌+◌, ◌*◌, ◌/◌, ◌%◌, ◌<◌, ◌≤◌, Bool, true, false, ◌&&◌, if◌then◌else◌, eqb, not, List, [], ◌∷◌, ◌++◌, map, length, get_or, refl, sym, ap, ◌∙◌, subst, append_assoc, arith, rules}
 use Rattle.std.proofs.lemmas.{Bool.{eq-eqb, ne_eqb}, Nat.{div-mul-add, mod-mul-add, mul-le}, List.{length-append, length-map, Elements.{All-nil, All-cons, All-append, All-map, All-filter, All-weaker, All-from_get_or}}}
-use Rattle.std.{proofs.lemmas.List.{FromFn.{get_or-range_with_len, map-range_with_len_more, length-map-range_with_len, length-range_with_len}, Kept.AllPairs-filter}, specs.List.{All, filter, list_any, range_with_len}}
+use Rattle.std.{proofs.lemmas.List.{FromFn.{get_or-range_with_len, map-range_with_len_more, length-map-range_with_len, length-range_with_len}, Kept.AllPairs-filter}, specs.List.{All, filter, range_with_len}}
 use Rattle.list_laws.proofs.Tests.{few_kept}
-use Rattle.schedule.specs.{Links.{GroupValue, IsLink, IsBelow, IsGroup, turned}, Placed.same_pair}
+use Rattle.schedule.specs.{Links.{GroupValue, IsLink, IsBelow, IsGroup}}
 use Rattle.topology_text.specs.declared.family_kind.FamilyKind.{FamilyKind, TheVariants.{Complete, Shared, Mesh, Switch, Boxes}}
-use Rattle.topology_text.specs.Family.{is_allowed, is_family_link, pairs, family_links, one_wide, single, double_ring, mesh_group, is_inside, port, cable, family_groups}
+use Rattle.topology_text.specs.Family.{is_allowed, is_family_link, pairs, family_links, one_wide, single, mesh_group, is_inside, port, cable, family_groups}
 use Rattle.topology_text.proofs.{Groups.Groups, FamilyLinks.{at_three, within, length-pairs, pair_at, FamilyLinks, family_links_are}}
 
 -- ---- links that share a group
@@ -13,12 +13,7 @@ use Rattle.topology_text.proofs.{Groups.Groups, FamilyLinks.{at_three, within, l
 kept_both : (p q : ℕ × ℕ → Bool) (links : List (ℕ × ℕ)) (i : ℕ) (d : ℕ × ℕ) → i < length links → p (get_or links i d) ≡ true → q (get_or links i d) ≡ true → 0 < length (filter q (filter p links))
 kept_both p q [] i d within passes too = absurd (omega arith)
 kept_both p q (l ∷ links) zero d within passes too = rw passes (rw too (omega arith))
-kept_both p q (l ∷ links) (suc i) d within passes too =
-    let rest = kept_both p q links i d (omega arith) passes too in
-    elim (p l) as (λ b. 0 < length (filter q (cond b (l ∷ filter p links) (filter p links)))) [
-      | true ↦ elim (q l) as (λ b. 0 < length (cond b (l ∷ filter q (filter p links)) (filter q (filter p links)))) [ true ↦ omega arith | false ↦ rest ]
-      | false ↦ rest
-    ]
+kept_both p q (l ∷ links) (suc i) d within passes too = grind (arith, kept_both p q links i d)
 
 -- a link of the family that passes a test
 some_pass : (kind : FamilyKind) (size a b : ℕ) (q : ℕ × ℕ → Bool) → a < size → b < size → is_family_link kind size (a, b) ≡ true → q (a, b) ≡ true → 0 < length (filter q (family_links kind size))
@@ -59,15 +54,9 @@ shared_is_group size ok =
 alone_is_group : (link : ℕ × ℕ) (width : ℕ) → 0 < width → width ≤ 16 → IsLink link → IsGroup (record { links = link ∷ []; width = width })
 alone_is_group link width some few apart = grind (arith, All-cons, All-nil)
 
-pub single_is_group : (link : ℕ × ℕ) → IsLink link → IsGroup (single link)
-single_is_group link apart = alone_is_group link 1 (omega arith) (omega arith) apart
-
-pub mesh_is_group : (link : ℕ × ℕ) → IsLink link → IsGroup (mesh_group link)
-mesh_is_group link apart =
-    elim (list_any (same_pair link) double_ring || list_any (same_pair (turned link)) double_ring) as (λ b. IsGroup (record { links = link ∷ []; width = cond b 2 1 })) [
-      | true ↦ alone_is_group link 2 (omega arith) (omega arith) apart
-      | false ↦ alone_is_group link 1 (omega arith) (omega arith) apart
-    ]
+-- of width 1, and in a mesh of its own width
+pub own_is_group : (mesh : Bool) (link : ℕ × ℕ) → IsLink link → IsGroup ((if mesh then mesh_group else single) link)
+own_is_group mesh link apart = search (rules, alone_is_group)
 
 -- ---- ports
 
@@ -79,15 +68,9 @@ in_some : (size node : ℕ) → 2 ≤ size → node < size → 0 < length (filte
 in_some size zero large low = some_pass Switch size 1 0 (λ link. eqb link.1 0) (omega arith) (omega arith) refl refl
 in_some size (suc node) large low = some_pass Switch size 0 (suc node) (λ link. eqb link.1 (suc node)) (omega arith) low (ap not (ne_eqb 0 (suc node) (λ e. omega arith))) (eq-eqb (suc node) (suc node) refl)
 
-pub ports_out : (size : ℕ) → is_allowed Switch size ≡ true → (node : ℕ) → node < size → IsGroup (port (λ link. link.0) (family_links Switch size) node)
-ports_out size ok node low =
-    let (large, few) = within 2 16 size ok in
-    part_is_group size (family_links Switch size) (λ link. eqb link.0 node) (family_links_are Switch size ok) (out_some size node large low)
-
-pub ports_in : (size : ℕ) → is_allowed Switch size ≡ true → (node : ℕ) → node < size → IsGroup (port (λ link. link.1) (family_links Switch size) node)
-ports_in size ok node low =
-    let (large, few) = within 2 16 size ok in
-    part_is_group size (family_links Switch size) (λ link. eqb link.1 node) (family_links_are Switch size ok) (in_some size node large low)
+pub ports_are_groups : (size : ℕ) → is_allowed Switch size ≡ true → (out : Bool) (node : ℕ) → node < size → IsGroup (port (λ link. if out then link.0 else link.1) (family_links Switch size) node)
+ports_are_groups size ok true node low = part_is_group size (family_links Switch size) (λ link. eqb link.0 node) (family_links_are Switch size ok) (out_some size node (within 2 16 size ok).0 low)
+ports_are_groups size ok false node low = part_is_group size (family_links Switch size) (λ link. eqb link.1 node) (family_links_are Switch size ok) (in_some size node (within 2 16 size ok).0 low)
 
 -- a loop over the nodes, in which each adds one group
 pub nodes_more : (group : ℕ → GroupValue) (initial before after : List GroupValue) (node : ℕ) (its : GroupValue) → before ≡ initial ++ map group (range_with_len 0 node) → its ≡ group node → after ≡ before ++ its ∷ [] → after ≡ initial ++ map group (range_with_len 0 (node + 1))
@@ -129,7 +112,7 @@ alones size links alone ok own is_group = record {
 }
 
 singles : (size : ℕ) (links : List (ℕ × ℕ)) → FamilyLinks size links → Groups size (map single links)
-singles size links ok = alones size links single ok (λ l. refl) single_is_group
+singles size links ok = alones size links single ok (λ l. refl) (own_is_group false)
 
 -- groups, and others behind them
 both_are : (size : ℕ) (a b : List GroupValue) → length (a ++ b) ≤ 256 → Groups size a → Groups size b → Groups size (a ++ b)
@@ -153,8 +136,8 @@ ports_are size ok =
     let ins = map (port (λ link. link.1) links) nodes in
     let few : length nodes ≤ 256 = omega (arith, length-range_with_len 0 size, small) in
     both_are size outs ins (omega (arith, length-append outs ins, length-map-range_with_len (port (λ link. link.0) links) 0 size, length-map-range_with_len (port (λ link. link.1) links) 0 size, small))
-    (parts_are size links (λ node link. eqb link.0 node) nodes few are (at_nodes (λ node. IsGroup (port (λ link. link.0) links node)) size (ports_out size ok)))
-    (parts_are size links (λ node link. eqb link.1 node) nodes few are (at_nodes (λ node. IsGroup (port (λ link. link.1) links node)) size (ports_in size ok)))
+    (parts_are size links (λ node link. eqb link.0 node) nodes few are (at_nodes (λ node. IsGroup (port (λ link. link.0) links node)) size (ports_are_groups size ok true)))
+    (parts_are size links (λ node link. eqb link.1 node) nodes few are (at_nodes (λ node. IsGroup (port (λ link. link.1) links node)) size (ports_are_groups size ok false)))
 
 few_boxes : (size : ℕ) → is_allowed Boxes size ≡ true → length (family_groups Boxes size) ≤ 256
 few_boxes size ok = at_three (λ s. length (family_groups Boxes s) ≤ 256) 8 12 16 size (omega arith) (omega arith) (omega arith) ok
@@ -168,8 +151,27 @@ boxes_are size ok =
     (parts_are size links (λ ends link. eqb (link.0 / 4) ends.0 && eqb (link.1 / 4) ends.1) boxes (family_links_are Complete (size / 4) (cables_allowed size ok)).few are (cables_are size ok))
 
 pub family_groups_are : (kind : FamilyKind) (size : ℕ) → is_allowed kind size ≡ true → Groups size (family_groups kind size)
-family_groups_are Mesh size ok = alones size (family_links Mesh size) mesh_group (family_links_are Mesh size ok) (λ l. refl) mesh_is_group
+family_groups_are Mesh size ok = alones size (family_links Mesh size) mesh_group (family_links_are Mesh size ok) (λ l. refl) (own_is_group true)
 family_groups_are Switch size ok = ports_are size ok
 family_groups_are Boxes size ok = boxes_are size ok
 family_groups_are Shared size ok = grind (arith, family_links_are, All-cons, shared_is_group, All-nil)
 family_groups_are kind size ok = singles size (family_links kind size) (family_links_are kind size ok)
+
+-- ---- what the groups are made of
+
+module _ (kind : FamilyKind) (size : ℕ) (links : List (ℕ × ℕ)) (made : links ≡ family_links kind size) (ok : is_allowed kind size ≡ true) where
+  pub each_made : All IsLink links
+  each_made = rw made (family_links_are kind size ok).each
+
+  -- what holds of the links of the one kind that this is
+  at_links : (P : List (ℕ × ℕ) → Type 0) (its : FamilyKind) → kind ≡ its → (is_allowed its size ≡ true → P (family_links its size)) → P links
+  at_links P its is holds = subst P (sym (made ∙ ap (λ k. family_links k size) is)) (holds (ap (λ k. is_allowed k size) (sym is) ∙ ok))
+
+  pub shared_made : kind ≡ Shared → IsGroup (one_wide links)
+  shared_made is = at_links (λ its. IsGroup (one_wide its)) Shared is (shared_is_group size)
+
+  pub ports_made : kind ≡ Switch → (out : Bool) (node : ℕ) → node < size → IsGroup (port (λ link. if out then link.0 else link.1) links node)
+  ports_made is = at_links (λ its. (out : Bool) (node : ℕ) → node < size → IsGroup (port (λ link. if out then link.0 else link.1) its node)) Switch is (ports_are_groups size)
+
+  pub cables_made : kind ≡ Boxes → (cables : List (ℕ × ℕ)) → cables ≡ family_links Complete (size / 4) → All (λ boxes. IsGroup (cable links boxes)) cables
+  cables_made is cables so = rw so (at_links (λ its. All (λ boxes. IsGroup (cable its boxes)) (family_links Complete (size / 4))) Boxes is (cables_are size))

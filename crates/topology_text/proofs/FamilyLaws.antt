@@ -1,5 +1,5 @@
 -- Families are topologies.
-use Rattle.std.proofs.{Common.{◌≡◌, ℕ, ◌+◌, ◌<◌, true, List, [], ◌∷◌, ◌++◌, map, drop, None, Some, refl, ap, ◌∙◌, subst, arith}, lemmas.List.{length-map, Elements.{All-get_or, All-from_get_or}}}
+use Rattle.std.proofs.{Common.{◌≡◌, ℕ, ◌+◌, ◌<◌, true, List, [], ◌∷◌, ◌++◌, map, None, Some, refl, ap, ◌∙◌, subst, arith}, lemmas.List.{length-map, Elements.{All-get_or, All-from_get_or}}}
 use Rattle.std.proofs.lemmas.{List.{FromFn.{get_or-range_with_len, get_or-map-range_with_len, map-range_with_len_more, length-range_with_len}, Sums.AllPass-from_list_all}, Fmt.decimal_injective}
 use Rattle.std.specs.{Fmt.digits, List.{list_all, range_with_len}}
 use Rattle.schedule.specs.Links.{IsTopology}
@@ -22,8 +22,7 @@ pub numbered_is_some : (node : ℕ) (bytes : List ℕ) → node < 16 → bytes �
 numbered_is_some node bytes small e = ap name_of e ∙ name_of_name (numbered_name node) (numbered_is_name node small)
 
 pub numbered_apart : (a b : ℕ) → a < 16 → b < 16 → numbered_name a ≡ numbered_name b → a ≡ b
-numbered_apart a b low high e =
-    decimal_injective a b (omega arith) (omega arith) (ap (drop 1) e)
+numbered_apart a b low high e = grind (arith, decimal_injective)
 
 names_named : (size : ℕ) → IsSize size → AreNames (map numbered_name (range_with_len 0 size))
 names_named size ok = grind (arith, length-map, length-range_with_len, get_or-map-range_with_len, All-from_get_or, numbered_is_name, numbered_apart)

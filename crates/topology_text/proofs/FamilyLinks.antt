@@ -69,11 +69,7 @@ place_is : (size i j : ℕ) → i / size ≡ j / size → i % size ≡ j % size 
 place_is size i j row column = grind (arith, mod-eq-sub-div-mul, div-mul-le_self)
 
 pairs_distinct : (size : ℕ) → 0 < size → AreDistinct (pairs size)
-pairs_distinct size some i j d before h e =
-    let within : j < size * size = omega (arith, length-pairs size) in
-    let early : i < size * size = omega arith in
-    let same : (i / size, i % size) ≡ (j / size, j % size) = sym (pair_at size i d early) ∙ e ∙ pair_at size j d within in
-    absurd (omega (arith, place_is size i j (ap (λ l. l.0) same) (ap (λ l. l.1) same)))
+pairs_distinct size some i j d before h e = grind (arith, within, length-pairs, pair_at, place_is)
 
 -- each of these links joins two different nodes
 

@@ -1,14 +1,14 @@
 -- The lines of the header and of the nodes: what is read stands there, and what stands there is read.
 use Rattle.std.proofs.lemmas.{Bool.Decides.nat_tests, Grind.common_steps}
-use Rattle.std.proofs.Common.{◌≡◌, ℕ, ◌<◌, ◌≤◌, Bool, true, false, ◌||◌, not, cond, eqb, leb, List, [], ◌∷◌, ◌++◌, length, drop, Option, None, Some, Ok, refl, sym, ap, ◌∙◌, subst, append_assoc, arith, bytes_eq, codes, nat_le, if◌then◌else◌}
+use Rattle.std.proofs.Common.{◌≡◌, ℕ, ◌<◌, ◌≤◌, Bool, true, false, ◌||◌, not, cond, eqb, leb, List, [], ◌∷◌, ◌++◌, length, drop, Option, None, Some, Ok, refl, sym, ap, ◌∙◌, subst, append_assoc, arith, rules, bytes_eq, codes, nat_le, if◌then◌else◌}
 use Rattle.std.proofs.lemmas.{List.{append-nil, length-append, Splits.length-slice_split}, Bool.{and_parts, or_parts, not-false, leb-true, leb-false, ltb-true, lt-leb, cond-true, or_cases, eqb-true, ne_eqb, false_from_ne_true}}
 use Rattle.std.{proofs.lemmas.{List.{Elements.{All-nil, All-push, All-weaker, recursion_from_All}, Sums.AllPass-from_list_all}, Slice.Eq.bytes_eq-Decides}, specs.{Option.is_some, List.{All, list_any}}}
 use Rattle.text_lines.specs.{Text.{Row, Place, words_of}, Check.{first, line_part}, Repeated.begins}
 use Rattle.text_lines.proofs.{Checks.{if_some, refuse_ok, need_ok, need_is, ok_is}, Distinct.{AreDistinct, distinct_nil, distinct_push, none_before, next_has}, Gives.{Gives, Between, line_gives}, ReadBack.{Reads, line_again}}
 use Rattle.text_lines.proofs.{Repeated.place, Rows.{row_of, row_back, words_again}, Words.{IsWord, AreWords, literal, tokens_from, none_empty, begins_is}}
 use Rattle.collective_spec.specs.Patterns.{PatternValue}
-use Rattle.topology_text.specs.{declared.fault.TopologyCode.{TopologyCode, TheVariants.{BadHeader, BadLine, BadName, NameTwice, TooManyNodes, NoNodes}}, Names.{is_name_byte, is_name, name_of, AreNames}}
-use Rattle.topology_text.specs.{Spelling.{header_words, nodes_words, head_words}, Reading.{has_empty, version_of, header_line, names_from, nodes_line}}
+use Rattle.topology_text.specs.{declared.fault.TopologyCode.{TopologyCode, TheVariants.{BadLine, BadName, NameTwice, TooManyNodes, NoNodes}}, Names.{is_name_byte, is_name, name_of, AreNames}}
+use Rattle.topology_text.specs.{Spelling.{header_words, nodes_words, head_words}, Reading.{has_empty, header_line, names_from, nodes_line}}
 
 -- what a test chose is the one, or the other
 pub chosen : {X G : Type 0} {z : X} (b : Bool) (x y : X) → cond b x y ≡ z → (b ≡ true → x ≡ z → G) → (b ≡ false → y ≡ z → G) → G
@@ -24,10 +24,7 @@ version_words one two head first second bytes b e = grind (arith, chosen, bytes_
 
 pub header_takes : (o : Option Row) (patterned : Bool) → header_line o ≡ Ok patterned → o ≡ Some (row_of (head_words patterned))
 header_takes None patterned e = absurd (cc)
-header_takes (Some r) patterned e =
-    let (whole, e1) = refuse_ok (not r.whole) BadHeader _ patterned e in
-    let words = version_words (codes "topology 1") (codes "topology 2") head_words refl refl r.bytes patterned (need_is (version_of r.bytes) BadHeader patterned e1) in
-    ap (λ row. Some row) (row_back r (head_words patterned) (not-false r.whole whole) words)
+header_takes (Some r) patterned e = search (rules, refuse_ok, version_words, need_is, row_back, not-false)
 
 pub header_gives : (p : Place) → Gives (λ (e : TopologyCode × ℕ). e.1 ≡ p.number) (λ (x : Bool × Place). Unit {0} × Between (head_words x.0 ∷ []) p x.1) (line_part header_line p)
 header_gives p = line_gives header_line head_words p (λ b e. (header_takes (first p.rows) b e, tt))

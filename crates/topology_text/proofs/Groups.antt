@@ -1,6 +1,6 @@
 -- The lines of groups: what is read stands there, and what stands there is read.
 use Rattle.std.proofs.lemmas.{Bool.Decides.nat_tests, Grind.common_steps}
-use Rattle.std.proofs.Common.{◌≡◌, ℕ, ◌<◌, ◌≤◌, true, false, ◌||◌, not, leb, ltb, List, [], ◌∷◌, ◌++◌, map, length, drop, Option, None, Some, Result, Ok, refl, sym, ap, ◌∙◌, subst, arith, codes, decimal, slice_index_or}
+use Rattle.std.proofs.Common.{◌≡◌, ℕ, ◌<◌, ◌≤◌, true, false, ◌||◌, not, leb, ltb, List, [], ◌∷◌, ◌++◌, map, length, drop, Option, None, Some, Result, Ok, refl, sym, ap, ◌∙◌, subst, arith, rules, codes, decimal, slice_index_or}
 use Rattle.std.{proofs.lemmas.{Bool.{or_parts, not-false, leb-false, lt-leb, le-ltb, ltb-false}, List.{length-append, length-map, Elements.{All-nil, All-push, All-get_or, All-map, All-weaker, recursion_from_All}}}, specs.List.All}
 use Rattle.text_lines.specs.{Text.{Row, Place, words_of}, Repeated.begins}
 use Rattle.text_lines.proofs.{Checks.{bind_ok, refuse_ok, ok_is}, Distinct.next_has, Gives.{GivesPart, Takes, lines_give}, ReadBack.{Reads, Ends, ReadsLine, lines_again}, Repeated.place, Rows.{row_of, row_back, words_again}}
@@ -15,12 +15,10 @@ link_is_word : (names : List (List ℕ)) (link : ℕ × ℕ) → Names names →
 link_is_word names link ok below = grind (arith, name_word, All-get_or, literal, length-append, token-append)
 
 links_are_words : (names : List (List ℕ)) (links : List (ℕ × ℕ)) → Names names → All (IsBelow (length names)) links → AreWords (map (link_word names) links)
-links_are_words names links ok below =
-    recursion_from_All IsWord (map (link_word names) links) (All-map IsWord (link_word names) links (All-weaker (IsBelow (length names)) (λ l. IsWord (link_word names l)) (λ l. link_is_word names l ok) links below))
+links_are_words names links ok below = search (rules, recursion_from_All, All-map, All-weaker, link_is_word)
 
 pub group_is_words : (names : List (List ℕ)) (g : GroupValue) → Names names → IsGroup g → All (IsBelow (length names)) g.links → AreWords (group_words names g)
-group_is_words names g ok valid below =
-    (literal (codes "group") refl, (decimal_word g.width (omega (arith, valid.narrow)), links_are_words names g.links ok below))
+group_is_words names g ok valid below = grind (arith, literal, decimal_word, links_are_words)
 
 -- ---- one line
 

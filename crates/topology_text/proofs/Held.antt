@@ -1,5 +1,5 @@
 -- Who holds each chunk, node by node ascending, and the placement of these pairs.
-use Rattle.std.proofs.Common.{◌≡◌, ℕ, zero, suc, ◌+◌, ◌-◌, ◌<◌, ◌≤◌, Bool, true, false, ◌||◌, cond, eqb, ltb, List, [], ◌∷◌, ◌++◌, map, length, get_or, ⊎_elim, refl, sym, ap, ◌∙◌, subst, arith, nat_lt}
+use Rattle.std.proofs.Common.{◌≡◌, ℕ, zero, suc, ◌+◌, ◌-◌, ◌<◌, ◌≤◌, Bool, true, false, cond, eqb, List, [], ◌∷◌, ◌++◌, map, length, get_or, refl, ap, ◌∙◌, subst, arith, nat_lt}
 use Rattle.std.{specs.List.{AllByRecursion, filter, flat_map, list_all, list_any, range_with_len}, proofs.lemmas.List.Elements.{filter-append, filter_agree}}
 use Rattle.std.proofs.lemmas.{Bool.{and_parts, and_from, cases_eq, ltb-true, lt-ltb, ne_eqb, eq-eqb, or_from, or_left}, List.Folds.list_any-append}
 use Rattle.list_laws.proofs.{Each.each_always, Tests.filter_none}
@@ -15,17 +15,12 @@ Ascends lo hi (n ∷ ns) = ((lo ≤ n) × (n < hi)) × Ascends (n + 1) hi ns
 
 pub ascends_push : (lo hi : ℕ) (before : List ℕ) (n : ℕ) → Ascends lo hi before → lo ≤ n → n < hi → list_all (λ other. nat_lt other n) before ≡ true → Ascends lo hi (before ++ n ∷ [])
 ascends_push lo hi [] n ok low high above = ((low, high), tt)
-ascends_push lo hi (x ∷ before) n ok low high above =
-    let (first, rest) = and_parts (ltb x n) (list_all (λ other. nat_lt other n) before) above in
-    (ok.0, ascends_push (x + 1) hi before n ok.1 (omega (arith, ltb-true x n first)) high rest)
+ascends_push lo hi (x ∷ before) n ok low high above = grind (arith, and_parts, ltb-true, ascends_push (x + 1) hi before n ok.1)
 
 -- what holds of one among numbers that ascend
 pub ascends_next : (lo hi : ℕ) (before : List ℕ) (n : ℕ) (more : List ℕ) → Ascends lo hi (before ++ n ∷ more) → (lo ≤ n) × (n < hi)
 ascends_next lo hi [] n more ok = ok.0
-ascends_next lo hi (x ∷ before) n more ok =
-    let (low, high) = ok.0 in
-    let (later, below) = ascends_next (x + 1) hi before n more ok.1 in
-    (omega (arith, low, later), below)
+ascends_next lo hi (x ∷ before) n more ok = grind (arith, ascends_next (x + 1) hi before n more ok.1)
 
 pub ascends_above : (lo hi : ℕ) (before : List ℕ) (n : ℕ) (more : List ℕ) → Ascends lo hi (before ++ n ∷ more) → list_all (λ other. nat_lt other n) before ≡ true
 ascends_above lo hi [] n more ok = refl
@@ -37,17 +32,13 @@ ascends_lower lo more hi (n ∷ ns) h ok = let (low, high) = ok.0 in ((omega (ar
 
 none_below : (lo hi n : ℕ) (ns : List ℕ) → Ascends lo hi ns → n < lo → list_any (eqb n) ns ≡ false
 none_below lo hi n [] ok h = refl
-none_below lo hi n (x ∷ ns) ok h =
-    let (low, high) = ok.0 in
-    or_from (eqb n x) (list_any (eqb n) ns) (ne_eqb n x (λ e. omega (arith, low, h, e))) (none_below (x + 1) hi n ns ok.1 (omega (arith, low, h)))
+none_below lo hi n (x ∷ ns) ok h = grind (arith, or_from, ne_eqb, none_below (x + 1) hi n ns ok.1)
 
 -- ---- numbers of a range that pass a test
 
 range_alike : (f g : ℕ → Bool) (lo len : ℕ) → ((n : ℕ) → lo ≤ n → n < lo + len → f n ≡ g n) → filter f (range_with_len lo len) ≡ filter g (range_with_len lo len)
 range_alike f g lo zero same = refl
-range_alike f g lo (suc len) same =
-    let rest = range_alike f g (lo + 1) len (λ n low high. same n (omega arith) (omega arith)) in
-    rw (same lo (omega arith) (omega arith), rest) refl
+range_alike f g lo (suc len) same = grind (arith, range_alike f g (lo + 1) len)
 
 pub range_ascends : (f : ℕ → Bool) (lo len : ℕ) → Ascends lo (lo + len) (filter f (range_with_len lo len))
 range_ascends f lo zero = tt
@@ -62,20 +53,7 @@ range_ascends f lo (suc len) =
 range_kept : (ns : List ℕ) (lo len : ℕ) → Ascends lo (lo + len) ns → filter (λ n. list_any (eqb n) ns) (range_with_len lo len) ≡ ns
 range_kept [] lo len ok = filter_none (λ (n : ℕ). false) (range_with_len lo len) (each_always (λ (n : ℕ). false ≡ false) (λ n. refl) (range_with_len lo len))
 range_kept (x ∷ ns) lo zero ok = let (low, high) = ok.0 in absurd (omega (arith, low, high))
-range_kept (x ∷ ns) lo (suc len) ok =
-    let (low, high) = ok.0 in
-    let rest : List ℕ → List ℕ = λ all. filter (λ n. list_any (eqb n) all) (range_with_len (lo + 1) len) in
-    ⊎_elim
-    (λ (same : lo ≡ x).
-    let here : list_any (eqb lo) (x ∷ ns) ≡ true = or_left (eqb lo x) (list_any (eqb lo) ns) (eq-eqb lo x same) in
-    let later : rest (x ∷ ns) ≡ rest ns = range_alike (λ n. list_any (eqb n) (x ∷ ns)) (λ n. list_any (eqb n) ns) (lo + 1) len (λ n above within. ap (λ b. b || list_any (eqb n) ns) (ne_eqb n x (λ e. omega (arith, same, above, e)))) in
-    let known = range_kept ns (lo + 1) len (subst (λ (hi : ℕ). Ascends (lo + 1) hi ns) (omega arith) (ascends_lower (lo + 1) (x + 1) (lo + suc len) ns (omega (arith, same)) ok.1)) in
-    ap (λ b. cond b (lo ∷ rest (x ∷ ns)) (rest (x ∷ ns))) here ∙ ap (λ r. lo ∷ r) (later ∙ known) ∙ ap (λ n. n ∷ ns) same)
-    (λ (other : lo ≡ x → ⊥).
-    let here : list_any (eqb lo) (x ∷ ns) ≡ false = or_from (eqb lo x) (list_any (eqb lo) ns) (ne_eqb lo x other) (none_below (x + 1) (lo + suc len) lo ns ok.1 (omega (arith, low))) in
-    let known = range_kept (x ∷ ns) (lo + 1) len (subst (λ (hi : ℕ). Ascends (lo + 1) hi (x ∷ ns)) (omega arith) ((omega (arith, low, other), high), ok.1)) in
-    ap (λ b. cond b (lo ∷ rest (x ∷ ns)) (rest (x ∷ ns))) here ∙ known)
-    (cases_eq lo x)
+range_kept (x ∷ ns) lo (suc len) ok = grind (arith, or_left, eq-eqb, range_alike, ne_eqb, ascends_lower, or_from, none_below, cases_eq, range_kept ns (lo + 1) len, range_kept (x ∷ ns) (lo + 1) len)
 
 -- ---- chunk by chunk
 
@@ -102,12 +80,7 @@ held_ascends h nodes g (suc len) =
 
 filter_row : (h : ℕ × ℕ → Bool) (g : ℕ) (ns : List ℕ) → filter h (map (λ n. (g, n)) ns) ≡ map (λ n. (g, n)) (filter (λ n. h (g, n)) ns)
 filter_row h g [] = refl
-filter_row h g (n ∷ ns) =
-    let rest = filter_row h g ns in
-    elim (h (g, n)) as (λ b. cond b ((g, n) ∷ filter h (map (λ m. (g, m)) ns)) (filter h (map (λ m. (g, m)) ns)) ≡ map (λ m. (g, m)) (cond b (n ∷ filter (λ m. h (g, m)) ns) (filter (λ m. h (g, m)) ns))) [
-      | true ↦ ap (λ r. (g, n) ∷ r) rest
-      | false ↦ rest
-    ]
+filter_row h g (n ∷ ns) = grind (arith, filter_row h g ns)
 
 -- the pairs that pass a test, chunk by chunk
 pub pairs_held : (h : ℕ × ℕ → Bool) (nodes g len : ℕ) → filter h (flat_map (λ c. map (λ n. (c, n)) (range_with_len 0 nodes)) (range_with_len g len)) ≡ pairs_from g (held_by h nodes g len)
@@ -142,21 +115,7 @@ any_after k g n (ns ∷ more) h = grind (arith, list_any-append, or_from, other_
 
 any_from : (k g n : ℕ) (rows : List (List ℕ)) → g ≤ k → list_any (same_pair (k, n)) (pairs_from g rows) ≡ list_any (eqb n) (get_or rows (k - g) [])
 any_from k g n [] low = refl
-any_from k g n (ns ∷ more) low =
-    let rest = pairs_from (g + 1) more in
-    list_any-append (same_pair (k, n)) (row_of_pairs g ns) rest
-    ∙ ⊎_elim
-    (λ (same : k ≡ g).
-    let none : k - g ≡ 0 = omega (arith, same) in
-    ap (λ c. among (row_of_pairs g ns) (c, n) || among rest (k, n)) same
-    ∙ ap (λ b. b || among rest (k, n)) (any_row g n ns)
-    ∙ ap (λ b. list_any (eqb n) ns || b) (any_after k (g + 1) n more (omega (arith, same)))
-    ∙ (elim (list_any (eqb n) ns) as (λ b. (b || false) ≡ b) [ true ↦ refl | false ↦ refl ])
-    ∙ ap (λ i. list_any (eqb n) (get_or (ns ∷ more) i [])) (sym none))
-    (λ (other : k ≡ g → ⊥).
-    let one : k - g ≡ suc (k - (g + 1)) = omega (arith, low, other) in
-    ap (λ b. b || among rest (k, n)) (other_row k g n ns other) ∙ any_from k (g + 1) n more (omega (arith, low, other)) ∙ ap (λ i. list_any (eqb n) (get_or (ns ∷ more) i [])) (sym one))
-    (cases_eq k g)
+any_from k g n (ns ∷ more) low = grind (arith, list_any-append, among, any_row, any_after, other_row, cases_eq, any_from k (g + 1) n more)
 
 -- the placement of these pairs
 abbrev pub placement_from : ℕ → ℕ → List (List ℕ) → PlacementValue

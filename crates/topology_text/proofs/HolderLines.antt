@@ -1,5 +1,6 @@
 -- The lines of the chunks of a pattern: what is read stands there, and what stands there is read.
-use Rattle.std.proofs.{Common.{◌≡◌, ℕ, zero, suc, ◌+◌, ◌-◌, ◌<◌, ◌≤◌, List, [], ◌∷◌, ◌++◌, map, length, replicate, Result, refl, sym, ap, ◌∙◌, append_assoc, arith, codes}, lemmas.List.{append-nil, length-replicate}}
+use Rattle.std.proofs.{Common.{◌≡◌, ℕ, zero, suc, ◌+◌, ◌-◌, ◌<◌, ◌≤◌, List, [], ◌∷◌, ◌++◌, map, length, replicate, Result, Ok, refl, sym, ap, ◌∙◌, append_assoc, arith, rules, codes}, lemmas.List.{append-nil, length-replicate}}
+use Rattle.list_laws.proofs.Each.{each_map}
 use Rattle.std.specs.List.{AllByRecursion}
 use Rattle.text_lines.specs.{Text.{Row, Place}, Check.{◌>>=◌, line_part}}
 use Rattle.text_lines.proofs.{Gives.{Gives, gives_done, gives_like, gives_then, Between, here, then_on, Cut, cut_here, cut_on}, ReadBack.{Reads, reads_here, reads_as, reads_then, line_again}, Repeated.place, Rows.{AreTokens, row_of}}
@@ -22,12 +23,10 @@ abbrev pub AreHeld : ℕ → List Holders → Type 0
 AreHeld nodes hs = AllByRecursion (λ h. Ascends 0 nodes h.0 × Ascends 0 nodes h.1) hs
 
 pub befores_ascend : (nodes : ℕ) (hs : List Holders) → AreHeld nodes hs → EachAscends nodes (befores hs)
-befores_ascend nodes [] ok = tt
-befores_ascend nodes (h ∷ hs) ok = (ok.0.0, befores_ascend nodes hs ok.1)
+befores_ascend nodes hs ok = each_map (λ h. Ascends 0 nodes h.0 × Ascends 0 nodes h.1) (Ascends 0 nodes) (λ h. h.0) (λ h both. both.0) hs ok
 
 pub afters_ascend : (nodes : ℕ) (hs : List Holders) → AreHeld nodes hs → EachAscends nodes (afters hs)
-afters_ascend nodes [] ok = tt
-afters_ascend nodes (h ∷ hs) ok = (ok.0.1, afters_ascend nodes hs ok.1)
+afters_ascend nodes hs ok = each_map (λ h. Ascends 0 nodes h.0 × Ascends 0 nodes h.1) (Ascends 0 nodes) (λ h. h.1) (λ h both. both.1) hs ok
 
 -- the lines of chunks numbered from g on
 abbrev pub holder_lines : List (List ℕ) → ℕ → List Holders → List (List (List ℕ))
@@ -101,6 +100,10 @@ pub record HoldersCut (names : List (List ℕ)) (left g : ℕ) (p : Place) (n : 
   pub cut : Cut (holder_lines names g held) p n
 
 module _ (names : List (List ℕ)) where
+  -- cut in the lines of these chunks, of which this is the first
+  cut_with : (left g : ℕ) (p : Place) (n : ℕ) (b a : List ℕ) (more : List Holders) → length more ≡ left → Ascends 0 (length names) b → Ascends 0 (length names) a → AreHeld (length names) more → Cut (holder_lines names g ((b, a) ∷ more)) p n → HoldersCut names (suc left) g p n
+  cut_with left g p n b a more many one two valid cut = record { held = (b, a) ∷ more; many = ap suc many; valid = ((one, two), valid); cut = cut }
+
   pub holders_give : (left g : ℕ) (found : Pairs) (p : Place) → Gives (λ (e : TopologyCode × ℕ). HoldersCut names left g p e.1) (λ (x : Pairs × Place). HoldersTaken names left g found p x) (holders_at names left g found p)
   holders_give zero g found p = gives_done (found, p) (record { held = []; many = refl; valid = tt; pairs = none_more found g; lines = here p })
   holders_give (suc left) g found p =
@@ -109,21 +112,11 @@ module _ (names : List (List ℕ)) where
       let two : List ℕ → List (List (List ℕ)) = λ a. named_words names (codes "after") g a ∷ [] in
       let rest : List Holders → List (List (List ℕ)) = holder_lines names (g + 1) in
       gives_then _ _ (holders_line_gives names (codes "before") g p)
-      (λ e line. record { held = ([], []) ∷ nothing; many = ap suc (nothing_many left); valid = ((tt, tt), nothing_valid (length names) left); cut = cut_here (one [] ++ (two [] ++ rest nothing)) p e.1 line })
+      (λ e line. cut_with left g p e.1 [] [] nothing (nothing_many left) tt tt (nothing_valid (length names) left) (cut_here (one [] ++ (two [] ++ rest nothing)) p e.1 line))
       (λ b rb tb. gives_then _ _ (holders_line_gives names (codes "after") g b.1)
-      (λ e line. record {
-        held = (b.0, []) ∷ nothing;
-        many = ap suc (nothing_many left);
-        valid = ((tb.0, tt), nothing_valid (length names) left);
-        cut = cut_on (one b.0) (two [] ++ rest nothing) p b.1 e.1 tb.1 (cut_here (two [] ++ rest nothing) b.1 e.1 line);
-      })
+      (λ e line. cut_with left g p e.1 b.0 [] nothing (nothing_many left) tb.0 tt (nothing_valid (length names) left) (cut_on (one b.0) (two [] ++ rest nothing) p b.1 e.1 tb.1 (cut_here (two [] ++ rest nothing) b.1 e.1 line)))
       (λ a ra ta. gives_like
-      (λ e f. record {
-        held = (b.0, a.0) ∷ f.held;
-        many = ap suc f.many;
-        valid = ((tb.0, ta.0), f.valid);
-        cut = cut_on (one b.0) (two a.0 ++ rest f.held) p b.1 e.1 tb.1 (cut_on (two a.0) (rest f.held) b.1 a.1 e.1 ta.1 f.cut);
-      })
+      (λ e f. cut_with left g p e.1 b.0 a.0 f.held f.many tb.0 ta.0 f.valid (cut_on (one b.0) (two a.0 ++ rest f.held) p b.1 e.1 tb.1 (cut_on (two a.0) (rest f.held) b.1 a.1 e.1 ta.1 f.cut)))
       (λ x t. record {
         held = (b.0, a.0) ∷ t.held;
         many = ap suc t.many;
@@ -146,6 +139,8 @@ module _ (names : List (List ℕ)) where
 
 -- what the loop over the chunks needs
 pub next_chunk : (names : List (List ℕ)) (base g : ℕ) (found : Pairs) (p : Place) → g < base → holders_at names (base - g) g found p ≡ (line_part (holders_line names (codes "before") g) p >>= behind_before names (base - (g + 1)) g found)
-next_chunk names base g found p more =
-    let one : base - g ≡ suc (base - (g + 1)) = omega (arith, more) in
-    ap (λ n. holders_at names n g found p) one
+next_chunk names base g found p more = search rules
+
+pub chunk_read : (names : List (List ℕ)) (base g : ℕ) (found later : Pairs) (p q r : Place) (b a : List ℕ) → g < base → line_part (holders_line names (codes "before") g) p ≡ Ok (b, q) → line_part (holders_line names (codes "after") g) q ≡ Ok (a, r)
+    → later.before ≡ found.before ++ row_of_pairs g b → later.after ≡ found.after ++ row_of_pairs g a → holders_at names (base - (g + 1)) (g + 1) later r ≡ holders_at names (base - g) g found p
+chunk_read names base g found later p q r b a more one two so so_too = rw (next_chunk names base g found p more, one, two) (λ i. holders_at names (base - (g + 1)) (g + 1) (record { before = so i; after = so_too i }) r)

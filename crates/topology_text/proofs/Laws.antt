@@ -152,3 +152,6 @@ all_again t ok = grind (arith, topology_reads 1 t [] ok refl, place, rows_of_spe
 pub is_found : (text : List ℕ) (r : Result NamedTopologyValue TopologyFault) → Answers r (topology_of text) → IfOk r (λ t. IsNamed t × (text ≡ spelling t))
 is_found text (Ok t) e = all_take text t e
 is_found text (Err fault) e = tt
+
+pub only_found : (text : List ℕ) (r : Result NamedTopologyValue TopologyFault) (t : NamedTopologyValue) → Answers r (topology_of text) → IsNamed t → text ≡ spelling t → Answers r (Ok t)
+only_found text r t e ok same = rw (← all_again t ok, ← same) e

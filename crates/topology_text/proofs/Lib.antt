@@ -14,4 +14,3 @@ pub mod FamilyGroups
 pub mod FamilyLaws
 pub mod SteadyParts
 pub mod FirstFault
-mod Words

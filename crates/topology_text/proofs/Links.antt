@@ -101,8 +101,7 @@ pub small_take : (code : TopologyCode) (word : List ℕ) (n : ℕ) → one_to_16
 small_take code word n e = grind (arith, need_ok, refuse_ok, ok_is, up_to_found, eqb-false)
 
 pub small_again : (code : TopologyCode) (n : ℕ) → 0 < n → n ≤ 16 → one_to_16 code (decimal n) ≡ Ok n
-small_again code n some small =
-    rw (up_to_some 16 n (decimal n) (omega arith) refl small, ne_eqb n 0 (λ e. omega arith)) refl
+small_again code n some small = grind (arith, up_to_some, ne_eqb)
 
 -- ---- what was read is a group
 

@@ -1,5 +1,5 @@
 -- Patterns: what is read stands there, and what stands there is read.
-use Rattle.std.proofs.{Common.{◌≡◌, ℕ, zero, suc, ◌+◌, ◌≤◌, Bool, true, false, List, [], ◌∷◌, ◌++◌, map, length, get_or, drop, Option, None, Some, Ok, refl, sym, ap, ◌∙◌, subst, arith, codes, IfSome}, lemmas.List.length-map}
+use Rattle.std.proofs.{Common.{◌≡◌, ℕ, zero, suc, ◌+◌, ◌≤◌, Bool, true, false, List, [], ◌∷◌, ◌++◌, map, length, drop, Option, None, Some, Ok, refl, sym, ap, ◌∙◌, subst, arith, codes, IfSome}, lemmas.List.length-map}
 use Rattle.std.specs.{Option.is_some, List.{AllByRecursion, flat_map, range_with_len}}
 use Rattle.text_lines.specs.{Text.{Row, Place}, Check.line_part}
 use Rattle.text_lines.proofs.{Gives.{gives_done, gives_then, Between, here, then_on, Cut, cut_here, cut_on, Took, Stops, GivesPart}, ReadBack.{Reads, reads_here, reads_as, reads_then, line_again, Ends}, Repeated.place}
@@ -28,13 +28,9 @@ length-held_in : (p q : PlacementValue) (g len : ℕ) → length (held_in p q g 
 length-held_in p q g zero = refl
 length-held_in p q g (suc len) = ap suc (length-held_in p q (g + 1) len)
 
-befores_in : (p q : PlacementValue) (g len : ℕ) → befores (held_in p q g len) ≡ held_by (holds p) p.nodes g len
-befores_in p q g zero = refl
-befores_in p q g (suc len) = ap (λ x. nodes_with (holds p) p.nodes g ∷ x) (befores_in p q (g + 1) len)
-
-afters_in : (p q : PlacementValue) (g len : ℕ) → afters (held_in p q g len) ≡ held_by (holds q) q.nodes g len
-afters_in p q g zero = refl
-afters_in p q g (suc len) = ap (λ x. nodes_with (holds q) q.nodes g ∷ x) (afters_in p q (g + 1) len)
+both_in : (p q : PlacementValue) (g len : ℕ) → (befores (held_in p q g len) ≡ held_by (holds p) p.nodes g len) × (afters (held_in p q g len) ≡ held_by (holds q) q.nodes g len)
+both_in p q g zero = (refl, refl)
+both_in p q g (suc len) = let rest = both_in p q (g + 1) len in (ap (λ x. nodes_with (holds p) p.nodes g ∷ x) rest.0, ap (λ x. nodes_with (holds q) q.nodes g ∷ x) rest.1)
 
 both_held : (nodes : ℕ) (hs : List Holders) → EachAscends nodes (befores hs) → EachAscends nodes (afters hs) → AreHeld nodes hs
 both_held nodes [] one two = tt
@@ -50,10 +46,11 @@ pub record PatternHeld (nodes : ℕ) (p : PatternValue) : Type 0 where
 pub pattern_held : (nodes : ℕ) (p : PatternValue) → IsPattern nodes p → PatternHeld nodes p
 pattern_held nodes p ok =
     let hs = held_in p.before p.after 0 p.base in
-    let one = subst (λ (n : ℕ). EachAscends n (befores hs)) ok.before_nodes (subst (EachAscends p.before.nodes) (sym (befores_in p.before p.after 0 p.base)) (held_ascends (holds p.before) p.before.nodes 0 p.base)) in
-    let two = subst (λ (n : ℕ). EachAscends n (afters hs)) ok.after_nodes (subst (EachAscends p.after.nodes) (sym (afters_in p.before p.after 0 p.base)) (held_ascends (holds p.after) p.after.nodes 0 p.base)) in
-    let before : p.before.pairs ≡ pairs_from 0 (befores hs) = placement_rows p.before ok.before ∙ ap (λ c. pairs_from 0 (held_by (holds p.before) p.before.nodes 0 c)) ok.before_chunks ∙ ap (pairs_from 0) (sym (befores_in p.before p.after 0 p.base)) in
-    let after : p.after.pairs ≡ pairs_from 0 (afters hs) = placement_rows p.after ok.after ∙ ap (λ c. pairs_from 0 (held_by (holds p.after) p.after.nodes 0 c)) ok.after_chunks ∙ ap (pairs_from 0) (sym (afters_in p.before p.after 0 p.base)) in
+    let here = both_in p.before p.after 0 p.base in
+    let one = subst (λ (n : ℕ). EachAscends n (befores hs)) ok.before_nodes (subst (EachAscends p.before.nodes) (sym here.0) (held_ascends (holds p.before) p.before.nodes 0 p.base)) in
+    let two = subst (λ (n : ℕ). EachAscends n (afters hs)) ok.after_nodes (subst (EachAscends p.after.nodes) (sym here.1) (held_ascends (holds p.after) p.after.nodes 0 p.base)) in
+    let before : p.before.pairs ≡ pairs_from 0 (befores hs) = placement_rows p.before ok.before ∙ ap (λ c. pairs_from 0 (held_by (holds p.before) p.before.nodes 0 c)) ok.before_chunks ∙ ap (pairs_from 0) (sym here.0) in
+    let after : p.after.pairs ≡ pairs_from 0 (afters hs) = placement_rows p.after ok.after ∙ ap (λ c. pairs_from 0 (held_by (holds p.after) p.after.nodes 0 c)) ok.after_chunks ∙ ap (pairs_from 0) (sym here.1) in
     record {
       held = hs;
       many = length-held_in p.before p.after 0 p.base;
@@ -69,11 +66,7 @@ pattern_held nodes p ok =
 lines_spelled : (names : List (List ℕ)) (p q : PlacementValue) (g : ℕ) (hs : List Holders) → held_by (holds p) p.nodes g (length hs) ≡ befores hs → held_by (holds q) q.nodes g (length hs) ≡ afters hs
     → flat_map (λ k. holder_words names (codes "before") p k ∷ holder_words names (codes "after") q k ∷ []) (range_with_len g (length hs)) ≡ holder_lines names g hs
 lines_spelled names p q g [] one two = refl
-lines_spelled names p q g (h ∷ hs) one two =
-    let here : nodes_with (holds p) p.nodes g ≡ h.0 = ap (λ l. get_or l 0 []) one in
-    let there : nodes_with (holds q) q.nodes g ≡ h.1 = ap (λ l. get_or l 0 []) two in
-    let rest = lines_spelled names p q (g + 1) hs (ap (drop 1) one) (ap (drop 1) two) in
-    λ i. named_words names (codes "before") g (here i) ∷ named_words names (codes "after") g (there i) ∷ rest i
+lines_spelled names p q g (h ∷ hs) one two = grind (arith, nodes_with, named_words, lines_spelled names p q (g + 1) hs (ap (drop 1) one) (ap (drop 1) two))
 
 pub pattern_spelled : (names : List (List ℕ)) (base nodes : ℕ) (hs : List Holders) → length hs ≡ base → AreHeld nodes hs → custom_lines names (Some (pattern_from base nodes hs)) ≡ base_words base ∷ holder_lines names 0 hs
 pattern_spelled names base nodes hs many held =
@@ -92,9 +85,6 @@ lines_valid names p base q found rest count e1 e2 same =
     let taken = (holders_give names base 0 no_pairs q).ok (found, rest) e2 in
     subst (λ (n : ℕ). IsPattern n (pattern_of base n found)) same
     (subst (λ (f : Pairs). IsPattern (length names) (pattern_of base (length names) f)) (sym taken.pairs) (pattern_valid base (length names) taken.held taken.many head.some head.few taken.valid))
-
-pub pattern_made : (base count : ℕ) (found : Pairs) (b a : PlacementValue) → IsPattern count (pattern_of base count found) → b ≡ record { chunks = base; nodes = count; pairs = found.before } → a ≡ record { chunks = base; nodes = count; pairs = found.after } → IsPattern b.nodes (record { base = base; before = b; after = a })
-pattern_made base count found b a ok one two = grind arith
 
 -- a valid pattern, where one is due, and else none
 pub record IsCustom (names : List (List ℕ)) (patterned : Bool) (custom : Option PatternValue) : Type 0 where

@@ -1,7 +1,7 @@
 -- What the printer appends is the spelling.
 use Rattle.std.proofs.lemmas.{Bool.Decides.nat_tests, Grind.{common_steps, flat_map-append}}
-use Rattle.std.proofs.Common.{◌≡◌, ℕ, ◌+◌, Bool, true, false, cond, List, [], ◌∷◌, ◌++◌, map, length, take, ◌≤◌, Option, None, Some, refl, sym, ap, ◌∙◌, append_assoc, arith, codes, decimal, Result, Ok, Err, OnErr}
-use Rattle.std.proofs.{Math.Seq.take-append_seam, lemmas.List.{append-nil, length-take, map-append, map-id, take-take, take_all, FromFn.{filter_of_map_range_with_len_more, map-range_with_len_more}}}
+use Rattle.std.proofs.Common.{◌≡◌, ℕ, ◌+◌, Bool, true, false, cond, List, [], ◌∷◌, ◌++◌, map, length, take, Option, None, Some, refl, sym, ap, ◌∙◌, append_assoc, arith, codes, decimal}
+use Rattle.std.proofs.{lemmas.List.{append-nil, map-append, map-id, take_all, FromFn.{filter_of_map_range_with_len_more, map-range_with_len_more}}}
 use Rattle.std.specs.{Io.StartsWith, List.{filter, flat_map, range_with_len}}
 use Rattle.text_lines.{specs.Text.{line, text_of, fields}, proofs.Words.join_fields}
 use Rattle.schedule.specs.Links.{GroupValue}
@@ -16,8 +16,8 @@ appended a b c d e x y z w all hb hc hd he whole = rw (he, hd, hc, hb, sym whole
 pub appended_three : (a b c d x y z all : List ℕ) → b ≡ a ++ x → c ≡ b ++ y → d ≡ c ++ z → x ++ (y ++ z) ≡ all → d ≡ a ++ all
 appended_three a b c d x y z all hb hc hd whole = rw (hd, hc, hb, sym whole) (simp append_assoc)
 
-pub group_is : (names : List (List ℕ)) (g : GroupValue) → codes "group " ++ (decimal g.width ++ (fields (map (link_word names) g.links) ++ codes "\n")) ≡ line (group_words names g)
-group_is names g = grind (arith, join_fields, append_assoc)
+pub group_printed : (names : List (List ℕ)) (g : GroupValue) (out a b c d : List ℕ) → a ≡ out ++ codes "group " → b ≡ a ++ decimal g.width → c ≡ b ++ fields (map (link_word names) g.links) → d ≡ c ++ codes "\n" → d ≡ out ++ line (group_words names g)
+group_printed names g out a b c d one two three four = grind (arith, join_fields, append_assoc)
 
 -- the first two lines, but for the names and the end of the second
 abbrev pub front_text : Option PatternValue → List ℕ
@@ -28,12 +28,12 @@ front_is : (custom : Option PatternValue) → front_text custom ≡ line (header
 front_is None = refl
 front_is (Some p) = refl
 
-pub front_lines : (names : List (List ℕ)) (custom : Option PatternValue) → front_text custom ++ (fields names ++ codes "\n") ≡ text_of (header_words custom ∷ nodes_words names ∷ [])
-front_lines names custom = grind (arith, append-nil, join_fields, append_assoc, front_is)
+pub front_printed : (custom : Option PatternValue) (names : List (List ℕ)) (front out first second last : List ℕ) → front ≡ front_text custom → first ≡ out ++ front → second ≡ first ++ fields names → last ≡ second ++ codes "\n"
+    → last ≡ out ++ text_of (header_words custom ∷ nodes_words names ∷ [])
+front_printed custom names front out first second last is begun so_far ended = grind (arith, append-nil, join_fields, append_assoc, front_is)
 
-pub holders_is : (word : List ℕ) (g : ℕ) (names : List (List ℕ)) → word ++ (codes " " ++ (decimal g ++ (fields names ++ codes "\n"))) ≡ line (word ∷ decimal g ∷ names)
-holders_is word g names =
-    sym (ap (λ t. t ++ 10 ∷ []) (join_fields word (decimal g ∷ names)) ∙ append_assoc word (32 ∷ decimal g ++ fields names) (10 ∷ []) ∙ ap (λ t. word ++ t) (append_assoc (32 ∷ decimal g) (fields names) (10 ∷ [])))
+pub holders_printed : (word : List ℕ) (g : ℕ) (names : List (List ℕ)) (out a b c d e : List ℕ) → a ≡ out ++ word → b ≡ a ++ codes " " → c ≡ b ++ decimal g → d ≡ c ++ fields names → e ≡ d ++ codes "\n" → e ≡ out ++ line (word ∷ decimal g ∷ names)
+holders_printed word g names out a b c d e one two three four five = grind (arith, join_fields, append_assoc)
 
 -- one more of the numbers that pass a test
 pub passing_more : (p : ℕ → Bool) (n : ℕ) → filter p (range_with_len 0 (n + 1)) ≡ filter p (range_with_len 0 n) ++ cond (p n) (n ∷ []) []
@@ -65,31 +65,15 @@ pub spelling_is : (t : NamedTopologyValue) → text_of (header_words t.custom �
 unfolding spelling
 spelling_is t = grind (arith, nat_tests, common_steps, flat_map-append)
 
--- a topology that was printed in three pieces, of which the groups were shown one by one
-pub topology_printed : (t : NamedTopologyValue) (names : List (List ℕ)) (shown : List GroupValue) (count : ℕ) (out first second last more : List ℕ)
-    → first ≡ out ++ text_of (header_words t.custom ∷ nodes_words t.names ∷ []) → second ≡ first ++ text_of (map (group_words names) (take count shown)) → length shown ≤ count → shown ≡ t.topology.groups → names ≡ t.names
-    → last ≡ second ++ more → more ≡ text_of (custom_lines t.names t.custom) → last ≡ out ++ spelling t
-topology_printed t names shown count out first second last more begun so_far end same named ended custom = grind (arith, nat_tests, common_steps, take_all, appended_three, spelling_is)
+-- a topology that was printed in three pieces, of which the last may be lacking
+pub topology_printed : (t : NamedTopologyValue) (first second last : List ℕ) → first ≡ text_of (header_words t.custom ∷ nodes_words t.names ∷ []) → second ≡ first ++ text_of (map (group_words t.names) t.topology.groups)
+    → last ≡ second ++ text_of (custom_lines t.names t.custom) → last ≡ spelling t
+topology_printed t first second last begun so_far ended = grind (arith, append_assoc, spelling_is)
+
+pub plain_printed : (t : NamedTopologyValue) (first last : List ℕ) → first ≡ text_of (header_words t.custom ∷ nodes_words t.names ∷ []) → last ≡ first ++ text_of (map (group_words t.names) t.topology.groups) → t.custom ≡ None → last ≡ spelling t
+plain_printed t first last begun ended none = grind (arith, append-nil, topology_printed t first last last begun ended)
 
 -- ---- what stays in front where memory runs out
 
 pub kept_same : (new old : List ℕ) → new ≡ old → StartsWith new old
 kept_same new old e = ap (take (length old)) e ∙ take_all (length old) old (omega arith)
-
-pub kept_more : (new old more : List ℕ) → new ≡ old ++ more → StartsWith new old
-kept_more new old more e = ap (take (length old)) e ∙ take-append_seam old more
-
-pub kept_on : (new middle old : List ℕ) → StartsWith new middle → StartsWith middle old → StartsWith new old
-kept_on new middle old later earlier = grind (arith, length-take, take-take)
-
-pub ruleset kept_rules = (kept_same, kept_more, kept_on)
-
-pub kept_behind : (new middle old more : List ℕ) → StartsWith new middle → middle ≡ old ++ more → StartsWith new old
-kept_behind new middle old more later e = kept_on new middle old later (kept_more middle old more e)
-
-pub front_kept : (out first second third x y z : List ℕ) → first ≡ out ++ x → second ≡ first ++ y → third ≡ second ++ z → StartsWith third out
-front_kept out first second third x y z a b c = kept_on third second out (kept_more third second z c) (kept_on second first out (kept_more second first y b) (kept_more first out x a))
-
-pub at_err : {A E : Type 0} (r : Result A E) (P : Type 0) → P → OnErr r P
-at_err (Ok x) P p = tt
-at_err (Err e) P p = p

@@ -4,7 +4,7 @@ ghost use Rattle.std.specs.{Prelude.{◌≡◌, ◌<◌, ◌≤◌, map, IsTrue,
 ghost use Rattle.topology_text.specs.Family.{is_allowed, family_links, family_groups, family_of, numbered_name};
 
 use crate::family_kind::{FamilyKind, has_family_link};
-use crate::grouping::{box_groups, mesh_groups, port_groups, single_groups};
+use crate::grouping::{box_groups, own_groups, port_groups};
 use crate::name::Name;
 use crate::named_topology::NamedTopology;
 use schedule::{Group, Topology};
@@ -63,17 +63,17 @@ fn family_groups(alloc: Global, kind: FamilyKind, size: u8) -> Result<Vec<Group>
             groups.push(Group::new(links, 1))?;
             Ok(groups)
         }
-        FamilyKind::Mesh => mesh_groups(alloc, &links),
         FamilyKind::Switch => port_groups(alloc, &links, size),
         FamilyKind::Boxes => {
             let cables = family_links(alloc, FamilyKind::Complete, size / 4)?;
             box_groups(alloc, &links, &cables)
         }
+        FamilyKind::Mesh => own_groups(alloc, true, &links),
         FamilyKind::Line
         | FamilyKind::Ring
         | FamilyKind::Complete
         | FamilyKind::Cube
-        | FamilyKind::Torus => single_groups(alloc, &links),
+        | FamilyKind::Torus => own_groups(alloc, false, &links),
     }
 }
 
@@ -83,6 +83,7 @@ fn family_groups(alloc: Global, kind: FamilyKind, size: u8) -> Result<Vec<Group>
 /// groups in place of those, of the links that leave it (all these first) and of those that enter
 /// it; in `Boxes` the links from a box to another are one group, behind all others. An `Err` comes
 /// only where memory runs out.
+#[tactic(auto, using(crate::proofs::FamilyLaws::family_topology, crate::proofs::FamilyLaws::family_named))]
 pub fn family(alloc: Global, kind: FamilyKind, size: u8) -> Result<NamedTopology, AllocError>
     requires { IsTrue (is_allowed kind size) }
     ensures { IfOk result (λ t. t ≡ family_of kind size) }

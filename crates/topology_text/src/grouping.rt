@@ -1,32 +1,12 @@
 //! The groups of families, made of their links.
 
-ghost use Rattle.std.specs.{Prelude.{◌≡◌, ◌==◌, ◌<◌, ◌++◌, [], ◌∷◌, ℕ, All, map, filter, IfOk, OnOk}, List.{list_any, range_with_len}};
+ghost use Rattle.std.specs.{Prelude.{◌≡◌, ◌==◌, ◌<◌, ◌++◌, ℕ, Bool, if◌then◌else◌, All, map, filter, IfOk, OnOk}, List.{list_any, range_with_len}};
 ghost use Rattle.schedule.specs.{Links.{IsLink, IsGroup}, Placed.same_pair};
 ghost use Rattle.topology_text.specs.Family.{cable, double_ring, is_inside, mesh_group, port, single};
 
 use crate::family_kind::is_inside;
 use schedule::Group;
 use std::alloc::{AllocError, Global};
-
-/// The link in a group of its own.
-fn alone(alloc: Global, link: (u8, u8), width: u8) -> Result<Group, AllocError>
-    requires { IsGroup (record { links = link ∷ []; width = width }) }
-    ensures { IfOk result (λ g. g ≡ record { links = link ∷ []; width = width }) }
-{
-    Ok(Group::new(Vec::from_slice(alloc, &[link])?, width))
-}
-
-/// A group of its own for each link, of width 1.
-pub(crate) fn single_groups(alloc: Global, links: &[(u8, u8)]) -> Result<Vec<Group>, AllocError>
-    requires { All IsLink links.now }
-    ensures { IfOk result (λ v. v.items ≡ map single links.now) }
-{
-    let mut groups = Vec::new(alloc);
-    for link in links {
-        groups.push(alone(alloc, *link, 1)?)?;
-    }
-    Ok(groups)
-}
 
 /// Whether a mesh has the link in its ring of double links, in the one direction.
 fn is_in_double_ring(from: u8, to: u8) -> bool
@@ -38,69 +18,72 @@ fn is_in_double_ring(from: u8, to: u8) -> bool
     )
 }
 
-/// The width of a link of a mesh.
-fn mesh_width(from: u8, to: u8) -> u8
-    ensures { result ≡ (mesh_group (from, to)).width }
+/// The width of a link, in a mesh or else.
+fn own_width(mesh: bool, from: u8, to: u8) -> u8
+    ensures { result ≡ ((if mesh then mesh_group else single) (from, to)).width }
 {
-    if is_in_double_ring(from, to) || is_in_double_ring(to, from) {
+    if mesh && (is_in_double_ring(from, to) || is_in_double_ring(to, from)) {
         2
     } else {
         1
     }
 }
 
-/// A group of its own for each link of a mesh.
-pub(crate) fn mesh_groups(alloc: Global, links: &[(u8, u8)]) -> Result<Vec<Group>, AllocError>
+/// The link in a group of its own.
+#[tactic(auto, using(crate::proofs::FamilyGroups::own_is_group))]
+fn own_group(alloc: Global, mesh: bool, from: u8, to: u8) -> Result<Group, AllocError>
+    requires { IsLink (from, to) }
+    ensures { IfOk result (λ g. g ≡ (if mesh then mesh_group (from, to) else single (from, to))) }
+{
+    let links = Vec::from_slice(alloc, &[(from, to)])?;
+    Ok(Group::new(links, own_width(mesh, from, to)))
+}
+
+/// A group of its own for each link, of width 1 but in a mesh.
+pub(crate) fn own_groups(
+    alloc: Global,
+    mesh: bool,
+    links: &[(u8, u8)],
+) -> Result<Vec<Group>, AllocError>
     requires { All IsLink links.now }
-    ensures { IfOk result (λ v. v.items ≡ map mesh_group links.now) }
+    ensures { IfOk result (λ v. v.items ≡ map (if mesh then mesh_group else single) links.now) }
 {
     let mut groups = Vec::new(alloc);
     for (from, to) in links {
-        groups.push(alone(alloc, (*from, *to), mesh_width(*from, *to))?)?;
+        groups.push(own_group(alloc, mesh, *from, *to)?)?;
     }
     Ok(groups)
 }
 
-/// The links that leave the node.
-fn leaving(alloc: Global, links: &[(u8, u8)], node: u8) -> Result<Vec<(u8, u8)>, AllocError>
-    ensures { IfOk result (λ v. v.items ≡ filter (λ link. link.0 == node) links.now) }
+/// The links that leave the node, if the port is for these, and else those that enter it.
+fn at_port(
+    alloc: Global,
+    links: &[(u8, u8)],
+    node: u8,
+    out: bool,
+) -> Result<Vec<(u8, u8)>, AllocError>
+    ensures { IfOk result (λ v. v.items ≡ filter (λ link. (if out then link.0 else link.1) == node) links.now) }
 {
     links
         .iter()
         .copied()
-        .filter(|link| link.0 == node)
+        .filter(|link| (if out { link.0 } else { link.1 }) == node)
         .collect(alloc)
 }
 
-/// The links that enter the node.
-fn entering(alloc: Global, links: &[(u8, u8)], node: u8) -> Result<Vec<(u8, u8)>, AllocError>
-    ensures { IfOk result (λ v. v.items ≡ filter (λ link. link.1 == node) links.now) }
-{
-    links
-        .iter()
-        .copied()
-        .filter(|link| link.1 == node)
-        .collect(alloc)
-}
-
-fn push_ports_out(groups: &mut Vec<Group>, links: &[(u8, u8)], size: u8) -> Result<(), AllocError>
-    requires { (node : ℕ) → node < size → IsGroup (port (λ link. link.0) links.now node) }
-    ensures { OnOk result (groups.new.items ≡ groups.old.items ++ map (port (λ link. link.0) links.now) (range_with_len 0 size)) }
+#[tactic(auto, using(crate::proofs::FamilyGroups::nodes_more))]
+fn push_ports(
+    groups: &mut Vec<Group>,
+    links: &[(u8, u8)],
+    size: u8,
+    out: bool,
+) -> Result<(), AllocError>
+    requires { (node : ℕ) → node < size → IsGroup (port (λ link. if out then link.0 else link.1) links.now node) }
+    ensures { OnOk result (groups.new.items ≡ groups.old.items ++ map (port (λ link. if out then link.0 else link.1) links.now) (range_with_len 0 size)) }
 {
     for node in 0..size {
-        let out = leaving(*groups.allocator(), links, node)?;
-        groups.push(Group::new(out, 1))?;
-    }
-    Ok(())
-}
-
-fn push_ports_in(groups: &mut Vec<Group>, links: &[(u8, u8)], size: u8) -> Result<(), AllocError>
-    requires { (node : ℕ) → node < size → IsGroup (port (λ link. link.1) links.now node) }
-    ensures { OnOk result (groups.new.items ≡ groups.old.items ++ map (port (λ link. link.1) links.now) (range_with_len 0 size)) }
-{
-    for node in 0..size {
-        let into = entering(*groups.allocator(), links, node)?;
-        groups.push(Group::new(into, 1))?;
+        let port = at_port(*groups.allocator(), links, node, out)?;
+        groups.push(Group::new(port, 1))?;
     }
     Ok(())
 }
@@ -111,13 +94,12 @@ pub(crate) fn port_groups(
     links: &[(u8, u8)],
     size: u8,
 ) -> Result<Vec<Group>, AllocError>
-    requires out { (node : ℕ) → node < size → IsGroup (port (λ link. link.0) links.now node) }
-    requires into { (node : ℕ) → node < size → IsGroup (port (λ link. link.1) links.now node) }
+    requires { (out : Bool) (node : ℕ) → node < size → IsGroup (port (λ link. if out then link.0 else link.1) links.now node) }
     ensures { IfOk result (λ v. v.items ≡ map (port (λ link. link.0) links.now) (range_with_len 0 size) ++ map (port (λ link. link.1) links.now) (range_with_len 0 size)) }
 {
     let mut groups = Vec::new(alloc);
-    push_ports_out(&mut groups, links, size)?;
-    push_ports_in(&mut groups, links, size)?;
+    push_ports(&mut groups, links, size, true)?;
+    push_ports(&mut groups, links, size, false)?;
     Ok(groups)
 }
 
@@ -168,7 +150,7 @@ pub(crate) fn box_groups(
     requires cables { All (λ boxes. IsGroup (cable links.now boxes)) cables.now }
     ensures { IfOk result (λ v. v.items ≡ map single (filter is_inside links.now) ++ map (cable links.now) cables.now) }
 {
-    let mut groups = single_groups(alloc, &inside(alloc, links)?)?;
+    let mut groups = own_groups(alloc, false, &inside(alloc, links)?)?;
     push_cables(&mut groups, links, cables)?;
     Ok(groups)
 }

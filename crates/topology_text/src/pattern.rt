@@ -4,7 +4,7 @@ ghost use Rattle.std.specs.Prelude.{◌≡◌, ◌+◌, ◌*◌, ◌^◌, ◌<�
 ghost use Rattle.text_lines.specs.Check.{Gives, line_part, Tells};
 ghost use Rattle.schedule.specs.Placed.{IsPlacement};
 ghost use Rattle.collective_spec.specs.Patterns.{IsPattern};
-ghost use Rattle.topology_text.specs.Reading.{custom_line, holders_line, row_of_pairs, holders_at, pattern_at};
+ghost use Rattle.topology_text.specs.Reading.{custom_line, holders_line, row_of_pairs, holders_at, pattern_at, pattern_of};
 
 use crate::fault::TopologyCode;
 use crate::name::Name;
@@ -111,6 +111,16 @@ fn placement_of(
     Ok(placement)
 }
 
+/// The pattern of these pairs.
+fn pattern_of(alloc: Global, base: u8, nodes: u8, found: &PairsRead) -> Result<Pattern, AllocError>
+    requires { IsPattern nodes (pattern_of base nodes (record { before = found.now.before.items; after = found.now.after.items })) }
+    ensures { IfOk result (λ p. p ≡ pattern_of base nodes (record { before = found.now.before.items; after = found.now.after.items })) }
+{
+    let before = placement_of(alloc, base, nodes, &found.before)?;
+    let after = placement_of(alloc, base, nodes, &found.after)?;
+    Ok(Pattern::new(base, before, after))
+}
+
 /// Takes the pattern, where the text is `patterned`, as one of version 2 is; where it is not,
 /// nothing is taken.
 #[tactic(auto, unfolding(crate::specs::Reading::pattern_at))]
@@ -132,8 +142,5 @@ pub fn pattern_part(
     }
     let base = custom_part(lines).map_err(Stop::Refused)?;
     let found = pairs_part(alloc, names, base, lines)?;
-    let nodes = names.len() as u8;
-    let before = placement_of(alloc, base, nodes, &found.before)?;
-    let after = placement_of(alloc, base, nodes, &found.after)?;
-    Ok(Some(Pattern::new(base, before, after)))
+    Ok(Some(pattern_of(alloc, base, names.len() as u8, &found)?))
 }

@@ -15,7 +15,7 @@ use text_lines::{Lines, Stop};
 
 /// Takes what follows the names: the groups end at the first line that doesn't begin `group `, and
 /// in version 2 the pattern follows.
-#[tactic(auto, unfolding(crate::specs::Reading::named_at))]
+#[tactic(auto, using(crate::proofs::Laws::named_are), unfolding(crate::specs::Reading::named_at))]
 fn named_part(
     alloc: Global,
     patterned: bool,
@@ -76,6 +76,7 @@ fn answered(alloc: Global, bytes: &[u8]) -> Result<NamedTopology, TopologyFault>
 
 /// The topology that the text spells, all of the text. A fault names the first check that fails,
 /// and its line.
+#[tactic(auto, using(crate::proofs::Laws::is_found, crate::proofs::Laws::only_found, crate::proofs::FirstFault::blames))]
 pub fn read_topology(alloc: Global, bytes: &[u8]) -> Result<NamedTopology, TopologyFault>
     // What is read is spelled so.
     ensures found { IfOk result (λ t. IsNamed t × (bytes.now ≡ spelling t)) }

@@ -3,5 +3,5 @@ use Rattle.schedule.specs.Links.{IsLink}
 use Rattle.topology_text.specs.Family.{is_inside}
 use Rattle.topology_text.proofs.grouping.box_groups.Goals as goal
 
-pub single_groups-requires : goal.single_groups-requires
-single_groups-requires c = subst (All IsLink) (sym (c.deref.ensures.value ∙ c.in_ok-inside.ensures)) (All-filter is_inside IsLink c.args.links.now c.requires.links)
+pub own_groups-requires : goal.own_groups-requires
+own_groups-requires c = subst (All IsLink) (sym (c.deref.ensures.value ∙ c.in_ok-inside.ensures)) (All-filter is_inside IsLink c.args.links.now c.requires.links)

@@ -1,10 +1,9 @@
-use Rattle.std.proofs.Common.{ap, ◌∙◌, arith}
-use Rattle.schedule.specs.Placed.{empty_placement}
+use Rattle.std.proofs.Common.{◌∙◌, arith}
 use Rattle.topology_text.proofs.Inserted.{pair_below, none_inserted, one_inserted}
 use Rattle.topology_text.proofs.pattern.placement_of.Goals as goal
 
 pub loop-chunk-init : goal.loop-chunk-init
-loop-chunk-init c = c.in_ok-placement.ensures ∙ ap (λ n. empty_placement n c.args.nodes) c.from.ensures ∙ none_inserted c.args.chunks c.args.nodes
+loop-chunk-init c = grind (arith, none_inserted)
 
 pub insert-requires-clause-chunk : goal.insert-requires-clause-chunk
 insert-requires-clause-chunk c = grind (arith, pair_below)

@@ -1,4 +1,4 @@
-use Rattle.std.proofs.{Common.{arith, ◌≡◌, ◌++◌, ◌-◌, List, ℕ, true, length, drop, replicate, sym, ap, ◌∙◌}, Math.Seq.take-append_seam, lemmas.List.drop-replicate}
+use Rattle.std.proofs.{Common.{arith, ◌≡◌, ◌++◌, List, ℕ, true, length, drop, replicate, sym, ap, ◌∙◌}, Math.Seq.take-append_seam, lemmas.List.drop-replicate}
 use Rattle.topology_text.specs.Names.{is_name, padded, IsKept}
 use Rattle.topology_text.proofs.name.Name.of_bytes.Goals as goal
 
