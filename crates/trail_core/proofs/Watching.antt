@@ -1,5 +1,5 @@
 -- The lists and the rows agree, before and after a clause watches another literal.
-use Rattle.std.proofs.{Common.{suc, ◌≡◌, ◌≢◌, ◌==◌, ℕ, ◌+◌, ◌-◌, ◌<◌, ◌≤◌, List, [], ◌∷◌, ◌++◌, length, get_or, set, cond, eqb, count_by, sum_by, ap, ◌∙◌, ⊎_elim, arith, ◌⊎◌, Contains, swap_remove}, lemmas.Bool.{eq-eqb, ne_eqb, cases_eq}}
+use Rattle.std.proofs.{Common.{suc, ◌≡◌, ◌≢◌, ◌==◌, ℕ, ◌+◌, ◌<◌, ◌≤◌, List, [], ◌∷◌, ◌++◌, length, get_or, set, cond, eqb, count_by, sum_by, ap, ◌∙◌, ⊎_elim, arith, ◌⊎◌, Contains, swap_remove}, lemmas.Bool.{eq-eqb, ne_eqb, cases_eq}}
 use Rattle.std.proofs.lemmas.{Bool.Decides.nat_tests, List.{get_or-set_same, get_or-set_other, get_or_past, get_or_default, length_push, length-set, length-take-le}}
 use Rattle.std.proofs.lemmas.List.Sums.{sum_by_push, sum_by-cons, sum_by-set, sum_by-swap_remove, get_or-le-sum_by}
 use Rattle.cnf_formula.specs.Literals.{LitValue, code_of}

@@ -5,7 +5,7 @@ ghost use Rattle.std.specs.Prelude.{◌-◌, ◌≡◌, ℕ, ◌+◌, ◌*◌, �
 ghost use Rattle.cnf_formula.specs.Literals.{code_of};
 ghost use Rattle.trail_core.specs.Watching.{WatchValue, ListsValue, list_at, watches_at, IsOnlyNew};
 
-use crate::span::{Span, admitted};
+use crate::span::{Room, Span, admit};
 use crate::watch::Watch;
 use cnf_formula::Lit;
 use std::alloc::{AllocError, Global};
@@ -15,7 +15,9 @@ use std::marker::Model;
 #[derive(Drop)]
 pub(crate) struct WatchLists {
     pool: Vec<Watch>,
+    /// Apart from the rooms, which propagation does not read.
     spans: Vec<Span>,
+    rooms: Vec<Room>,
 }
 
 impl Model for WatchLists {
@@ -24,41 +26,43 @@ impl Model for WatchLists {
 
     ghost Value = { ListsValue };
 
-    ghost view = { λ a. record { watches = map (entries_of a.pool.items) a.spans.items; lists = map numbers_of (map (entries_of a.pool.items) a.spans.items); rooms = map (λ s. s.room) a.spans.items; uses = map (λ s. s.uses) a.spans.items } };
+    ghost view = { λ a. record { watches = map (entries_of a.pool.items) a.spans.items; lists = map numbers_of (map (entries_of a.pool.items) a.spans.items); rooms = map (λ r. r.size) a.rooms.items; uses = map (λ r. r.uses) a.rooms.items } };
 
-    ghost invariant = { λ a. ArePooled (length a.pool.items) a.spans.items };
+    ghost invariant = { λ a. ArePooled (length a.pool.items) a.spans.items a.rooms.items };
 }
 
 impl WatchLists {
     /// Empty lists, each with room for so many clauses, as many as it may come to hold.
-    pub(crate) fn new(alloc: Global, rooms: &[u32]) -> Result<WatchLists, AllocError>
-        ensures len { IfOk result (λ w. length w.lists ≡ length rooms.now) }
+    pub(crate) fn new(alloc: Global, sizes: &[u32]) -> Result<WatchLists, AllocError>
+        ensures len { IfOk result (λ w. length w.lists ≡ length sizes.now) }
         ensures lists { IfOk result (λ w. (k : ℕ) → list_at w.lists k ≡ []) }
         ensures watches { IfOk result (λ w. (k : ℕ) → watches_at w.watches k ≡ []) }
-        ensures rooms { IfOk result (λ w. w.rooms ≡ rooms.now) }
-        ensures uses { IfOk result (λ w. w.uses ≡ rooms.now) }
+        ensures rooms { IfOk result (λ w. w.rooms ≡ sizes.now) }
+        ensures uses { IfOk result (λ w. w.uses ≡ sizes.now) }
     {
-        let mut spans = Vec::with_capacity(alloc, rooms.len())?;
+        let mut spans = Vec::with_capacity(alloc, sizes.len())?;
+        let mut rooms = Vec::with_capacity(alloc, sizes.len())?;
         let mut start = 0u32;
-        for room in rooms {
-            if *room > u32::MAX - start {
+        for size in sizes {
+            if *size > u32::MAX - start {
                 return Err(AllocError);
             }
-            spans.push_reserved(Span {
-                start,
-                len: 0,
-                room: *room,
-                uses: *room,
+            spans.push_reserved(Span { start, len: 0 });
+            rooms.push_reserved(Room {
+                size: *size,
+                uses: *size,
             });
-            start += *room;
+            start += *size;
         }
         Ok(WatchLists {
             pool: vec![in alloc; Watch::default(); start as usize]?,
             spans,
+            rooms,
         })
     }
 
     /// How many clauses watch a literal.
+    #[tactic(auto, using(crate::proofs::Listing::known))]
     pub(crate) fn count(&self, lit: Lit) -> usize
         requires { code_of lit < length self.now.lists }
         ensures { result ≡ length (list_at self.now.lists (code_of lit)) }
@@ -67,6 +71,7 @@ impl WatchLists {
     }
 
     /// The entry at a place of a literal's list.
+    #[tactic(auto, using(crate::proofs::Listing::known))]
     pub(crate) fn entry(&self, lit: Lit, place: usize) -> Watch
         requires known { code_of lit < length self.now.lists }
         requires within { place < length (list_at self.now.lists (code_of lit)) }
@@ -77,6 +82,7 @@ impl WatchLists {
     }
 
     /// Puts an entry of the same clause in the place of one of a literal's list.
+    #[tactic(auto, using(crate::proofs::Listing::known))]
     pub(crate) fn replace(&mut self, lit: Lit, place: usize, watch: Watch)
         requires known { code_of lit < length self.old.lists }
         requires within { place < length (list_at self.old.lists (code_of lit)) }
@@ -109,6 +115,7 @@ impl WatchLists {
     }
 
     /// Takes the entry at a place out of a literal's list; the last entry comes in its place.
+    #[tactic(auto, using(crate::proofs::Listing::known))]
     fn take_out(&mut self, lit: Lit, place: usize)
         requires known { code_of lit < length self.old.lists }
         requires within { place < length (list_at self.old.lists (code_of lit)) }
@@ -117,14 +124,11 @@ impl WatchLists {
         ensures rooms { self.new.rooms ≡ self.old.rooms }
         ensures uses { self.new.uses ≡ self.old.uses }
     {
-        let code = lit.code();
-        let span = self.spans[code];
-        let start = span.start as usize;
-        self.pool[start + place] = self.pool[start + span.len as usize - 1];
-        self.spans[code] = Span {
-            len: span.len - 1,
-            ..span
-        };
+        let span = &mut self.spans[lit.code()];
+        span.len -= 1;
+        let last = (span.start + span.len) as usize;
+        let place = span.start as usize + place;
+        self.pool[place] = self.pool[last];
     }
 
     /// Makes room in a literal's list for one clause more.
@@ -140,13 +144,11 @@ impl WatchLists {
         ensures ok { OnOk result ((self.new.uses ≡ slice_set self.old.uses (code_of lit) (slice_index self.old.uses (code_of lit) + 1)) × (slice_index self.old.uses (code_of lit) + 1 ≤ slice_index self.new.rooms (code_of lit))) }
     {
         let code = lit.code();
-        let span = self.spans[code];
-        let roomy = admitted(&mut self.pool, span)?;
-        self.spans[code] = roomy;
-        Ok(())
+        admit(&mut self.pool, &mut self.spans[code], &mut self.rooms[code])
     }
 
     /// Adds an entry to a literal's list.
+    #[tactic(auto, using(crate::proofs::Listing::known))]
     pub(crate) fn add(&mut self, lit: Lit, watch: Watch)
         requires known { code_of lit < length self.old.lists }
         requires room { length (list_at self.old.lists (code_of lit)) < slice_index self.old.rooms (code_of lit) }
@@ -155,8 +157,7 @@ impl WatchLists {
         ensures uses { self.new.uses ≡ self.old.uses }
         ensures watches { IsOnlyNew self.old.watches self.new.watches (code_of lit) watch }
     {
-        let code = lit.code();
-        let span = &mut self.spans[code];
+        let span = &mut self.spans[lit.code()];
         let place = (span.start + span.len) as usize;
         span.len += 1;
         self.pool[place] = watch;

@@ -1,28 +1,33 @@
-use Rattle.std.proofs.{lemmas.{Bool.Decides.nat_tests, Grind.common_steps}, Common.{arith, map, ap, ◌∙◌, rules}}
-use Rattle.cnf_formula.specs.Literals.{code_of}
-use Rattle.trail_core.{specs.inner.Pooled.numbers_of, proofs.{Pooling.{pooled_longer, pooled_roomy, views_same}, Listing.{Known, known, admitted}, lists.WatchLists.admit.Goals.After-index-span}}
+use Rattle.std.proofs.Common.{length, arith, map, ap, ◌∙◌}
+use Rattle.std.proofs.lemmas.List.{length-map, length-set}
+use Rattle.list_laws.proofs.Fronts.{at_map, same_map}
+use Rattle.trail_core.{specs.inner.Pooled.numbers_of, proofs.{Pooling.pooled_roomy, Listing.{known, admitted}, Rooms.{no_less, at_written, used_more}}}
 use Rattle.trail_core.proofs.lists.WatchLists.admit.Goals as goal
 
-found : (c : After-index-span) → Known c.self.inside.pool.items c.self.inside.spans.items c.args.self.now c.code-code.result (code_of c.args.lit) c.index-span.result.now
-found c = known _ _ _ _ _ _ c.self.invariant c.self.view_is c.code-code.ensures.code c.requires.known c.index-span.ensures
-
 pub invariant_of-self : goal.invariant_of-self
-invariant_of-self c = pooled_longer _ _ _ c.self.invariant c.admitted.ensures.long c.admitted.ensures.small
+invariant_of-self c =
+    let n = known _ _ _ _ _ _ _ c.self.invariant c.self.view_is c.code-code.ensures.code c.requires.known c.index_mut.ensures.value in
+    let e = c.admit.ensures in
+    pooled_roomy _ _ _ _ _ _ _ _ _ c.self.invariant n.within (omega (arith, c.requires.uses, ap (λ w. length w.uses) c.self.view_is, length-map c.self.inside.rooms.items (λ r. r.uses))) c.index_mut.ensures.value c.index_mut-2.ensures.value e.long e.small e.inside e.place
 
-pub returns-in_err-roomy-clause-watches : goal.returns-in_err-roomy-clause-watches
-returns-in_err-roomy-clause-watches c =
-    views_same _ _ _ c.self.invariant c.admitted.ensures.long c.admitted.ensures.front ∙ ap (λ w. w.watches) c.self.view_is
+pub returns-clause-rooms : goal.returns-clause-rooms
+returns-clause-rooms c = grind (arith, no_less, length-map)
 
-pub returns-in_err-roomy-clause-lists : goal.returns-in_err-roomy-clause-lists
-returns-in_err-roomy-clause-lists c =
-    ap (map numbers_of) (views_same c.self.inside.pool.items c.admitted.new.pool.items c.self.inside.spans.items c.self.invariant c.admitted.ensures.long c.admitted.ensures.front) ∙ ap (λ w. w.lists) c.self.view_is
+pub returns-clause-ok : goal.returns-clause-ok
+returns-clause-ok c = grind (arith, at_written, used_more, length-map, at_map)
 
-pub invariant_of-self-2 : goal.invariant_of-self-2
-invariant_of-self-2 c = grind (arith, nat_tests, common_steps, found, pooled_roomy)
+pub returns-clause-err : goal.returns-clause-err
+returns-clause-err c = grind (arith, same_map, length-map)
 
-pub returns : goal.returns
-returns c =
-    let n = found (goal.at.returns c).After-index-span in
-    let o = c.in_ok-roomy.ensures in
-    let a = admitted _ _ _ _ _ _ n _ c.in_ok-roomy.roomy c.admitted.ensures.long c.admitted.ensures.front o.entries o.ok.1 o.ok.2 o.ok.0.fits in
-    record { lists = a.lists; watches = a.watches; rooms = a.rooms; len = a.len; err = search rules; ok = (a.uses, a.fits) }
+pub returns-clause-len : goal.returns-clause-len
+returns-clause-len c = grind (arith, length-set, length-map)
+
+pub returns-clause-lists : goal.returns-clause-lists
+returns-clause-lists c =
+    let n = known _ _ _ _ _ _ _ c.self.invariant c.self.view_is c.code-code.ensures.code c.requires.known c.index_mut.ensures.value in
+    ap (map numbers_of) (admitted _ _ _ _ _ _ _ n _ _ c.admit.ensures.long c.admit.ensures.front c.admit.ensures.entries) ∙ ap (λ w. w.lists) c.self.view_is
+
+pub returns-clause-watches : goal.returns-clause-watches
+returns-clause-watches c =
+    let n = known _ _ _ _ _ _ _ c.self.invariant c.self.view_is c.code-code.ensures.code c.requires.known c.index_mut.ensures.value in
+    admitted _ _ _ _ _ _ _ n _ _ c.admit.ensures.long c.admit.ensures.front c.admit.ensures.entries ∙ ap (λ w. w.watches) c.self.view_is
