@@ -7,6 +7,9 @@ use cnf_formula::{Lit, OutOfMemory};
 use std::alloc::Global;
 use std::marker::Model;
 
+/// More than any variable.
+const AGE: u64 = 1 << 32;
+
 /// A queue of variables, of which the one that was bumped last is taken first (variable move to
 /// front: Biere and Froehlich 2015). The variables stand in a circle, in which place 0, which is no
 /// variable's, lies between the latest and the earliest. No proof hangs on the circle: each link
@@ -24,8 +27,9 @@ pub struct Queue {
     clock: u64,
     /// The variable that is taken next; 0 where none is left.
     next: u32,
-    /// The variables that are to be bumped, each with how many were since it was bumped last.
-    met: Vec<(u64, u32)>,
+    /// The variables that are to be bumped, each with how many were since it was bumped last, times
+    /// `AGE`; so one number has both, and the numbers sort by age.
+    met: Vec<u64>,
 }
 
 impl Model for Queue {
@@ -37,7 +41,7 @@ impl Model for Queue {
     ghost view = { λ a. a.vars };
 
     ghost invariant = { λ a. (length a.earlier.items ≡ a.vars + 1) × (length a.later.items ≡ a.vars + 1) × (length a.stamps.items ≡ a.vars + 1)
-        × All (IsPlace (a.vars + 1)) a.earlier.items × All (IsPlace (a.vars + 1)) a.later.items × (a.next < a.vars + 1) × All (λ m. IsVar (a.vars + 1) m.1) a.met.items };
+        × All (IsPlace (a.vars + 1)) a.earlier.items × All (IsPlace (a.vars + 1)) a.later.items × (a.next < a.vars + 1) };
 }
 
 impl Queue {
@@ -126,7 +130,8 @@ impl Queue {
         ensures { self.new ≡ self.old }
     {
         let age = self.clock.saturating_sub(self.stamps[var as usize]);
-        self.met.push((age, var))?;
+        let age = age.min(u64::from(u32::MAX));
+        self.met.push(age * AGE + u64::from(var))?;
         Ok(())
     }
 
@@ -135,12 +140,15 @@ impl Queue {
     pub fn bump_met(&mut self)
         ensures { self.new ≡ self.old }
     {
-        self.met.sort_unstable_by_key(|met| met.0);
+        self.met.sort_unstable();
         for _ in 0..self.met.len() {
-            let Some((_, var)) = self.met.pop() else {
+            let Some(met) = self.met.pop() else {
                 break;
             };
-            self.bump(var);
+            let var = (met % AGE) as u32;
+            if 0 < var && var <= self.vars {
+                self.bump(var);
+            }
         }
     }
 
