@@ -2,7 +2,7 @@
 use Rattle.std.proofs.Common.{◌≡◌, ◌≢◌, ◌==◌, ℕ, ◌+◌, ◌<◌, ◌≤◌, List, [], ◌∷◌, ◌++◌, Some, length, get_or, set, cond, eqb, count_by, refl, sym, ap, ◌∙◌, subst, inl, inr, ⊎_elim, arith, ◌⊎◌, Contains}
 use Rattle.std.proofs.lemmas.{Bool.cases_eq, List.{Sums.{sum_by-set, get_or-le-sum_by}, Elements.{Contains-push, Contains-push_cases, Contains-append_left}}}
 use Rattle.std.proofs.lemmas.List.{get_or-set_same, get_or-set_other, get_or_default, get_or_append_left, get_or_push, length_push, length-set}
-use Rattle.cnf_formula.{specs.{Literals.{LitValue, negation, code_of}, Formulas.IsAbout}, proofs.Codes.code_within}
+use Rattle.cnf_formula.{specs.{Literals.{LitValue, negation, code_of}}, proofs.Codes.code_within}
 use Rattle.trail_core.{specs.{Assigned.{IsOpen, IsValue}, Trails.IsAssigned}, proofs.Keeping.negated_twice}
 use Rattle.list_laws.proofs.Places.{by_place_push}
 
@@ -76,10 +76,7 @@ turned_open : (lits : List LitValue) (x : LitValue) → IsOpen lits x → IsOpen
 turned_open lits x o = grind (arith, negated_twice)
 
 pub code_of_within : (vars : ℕ) (values : List ℕ) (lits : List LitValue) (x : LitValue) → IsAssigned vars values lits → 0 < x.var → x.var ≤ vars → (code_of x < length values) × (code_of (negation x) < length values)
-code_of_within vars values lits x a some within =
-    let here : IsAbout vars x = record { some = some; within = within } in
-    let there : IsAbout vars (negation x) = record { some = some; within = within } in
-    (omega (arith, code_within vars x here, a.values_len), omega (arith, code_within vars (negation x) there, a.values_len))
+code_of_within vars values lits x a some within = grind (arith, code_within)
 
 -- an open literal's variable is new on the trail
 pub var_new : (lits : List LitValue) (x : LitValue) → IsOpen lits x → (k : ℕ) (d : LitValue) → k < length lits → (get_or lits k d).var ≢ x.var

@@ -1,7 +1,7 @@
-use Rattle.std.proofs.Common.{length, arith, map, ap, ◌∙◌}
+use Rattle.std.proofs.Common.{length, arith, ap}
 use Rattle.std.proofs.lemmas.List.{length-map, length-set}
 use Rattle.list_laws.proofs.Fronts.{at_map, same_map}
-use Rattle.trail_core.{specs.inner.Pooled.numbers_of, proofs.{Pooling.pooled_roomy, Listing.{known, admitted}, Rooms.{no_less, at_written, used_more}}}
+use Rattle.trail_core.{proofs.{Pooling.pooled_roomy, Listing.{known, admitted}, Rooms.{no_less, at_written, used_more}}}
 use Rattle.trail_core.proofs.lists.WatchLists.admit.Goals as goal
 
 pub invariant_of-self : goal.invariant_of-self
@@ -23,11 +23,7 @@ pub returns-clause-len : goal.returns-clause-len
 returns-clause-len c = grind (arith, length-set, length-map)
 
 pub returns-clause-lists : goal.returns-clause-lists
-returns-clause-lists c =
-    let n = known _ _ _ _ _ _ _ c.self.invariant c.self.view_is c.code-code.ensures.code c.requires.known c.index_mut.ensures.value in
-    ap (map numbers_of) (admitted _ _ _ _ _ _ _ n _ _ c.admit.ensures.long c.admit.ensures.front c.admit.ensures.entries) ∙ ap (λ w. w.lists) c.self.view_is
+returns-clause-lists c = grind (arith, known, admitted)
 
 pub returns-clause-watches : goal.returns-clause-watches
-returns-clause-watches c =
-    let n = known _ _ _ _ _ _ _ c.self.invariant c.self.view_is c.code-code.ensures.code c.requires.known c.index_mut.ensures.value in
-    admitted _ _ _ _ _ _ _ n _ _ c.admit.ensures.long c.admit.ensures.front c.admit.ensures.entries ∙ ap (λ w. w.watches) c.self.view_is
+returns-clause-watches c = grind (arith, known, admitted)
