@@ -1,5 +1,5 @@
 -- Lists that lie in one pool, as entries of one of them change or it is moved.
-use Rattle.std.proofs.{lemmas.{Bool.Decides.nat_tests, Grind.common_steps}, Common.{◌≡◌, ◌≢◌, ℕ, ◌+◌, ◌-◌, ◌<◌, ◌≤◌, false, List, [], ◌∷◌, ◌++◌, map, length, get_or, set, drop, sym, ap, ◌∙◌, arith, rules, ◌⊎◌, swap_remove}}
+use Rattle.std.proofs.{lemmas.{Bool.Decides.nat_tests, Grind.common_steps}, Common.{◌≡◌, ◌≢◌, ℕ, ◌+◌, ◌-◌, ◌<◌, ◌≤◌, false, List, [], ◌∷◌, ◌++◌, map, length, get_or, set, drop, ap, ◌∙◌, arith, rules, ◌⊎◌, swap_remove}}
 use Rattle.std.proofs.{Math.ListN.get_or-map as get_or-mapped, lemmas.Bool.{cases_eq}}
 use Rattle.std.proofs.lemmas.List.{places, same_lists, ext_get_or, get_or-take, get_or-drop, get_or-set_same, get_or-set_other, get_or_append_left, get_or_push, get_or_past, length-set, length-map, get_or_read, length-drop, length-take-le, length_push}
 use Rattle.trail_core.specs.{Watching.{WatchValue, no_lit, list_at, watches_at}, inner.Pooled.{part, entries_of, numbers_of, no_span, span_at, room_at, IsInside, AreApart, ArePooled}, declared.span.{Span.Span, Room.Room}}
@@ -48,10 +48,6 @@ none_listed pool spans empty k = listed (map (entries_of pool) spans) k ∙ ap n
 pub none_push : (spans : List Span) (s : Span) → ((i : ℕ) → (span_at spans i).len ≡ 0) → s.len ≡ 0 → (i : ℕ) → (span_at (spans ++ s ∷ []) i).len ≡ 0
 none_push spans s empty e i = grind (arith, empty i, get_or_append_left, get_or_push, get_or_past, length_push)
 
--- all lists have the entries that they had
-pub views_same : (pool pool' : List WatchValue) (spans spans' : List Span) → length spans' ≡ length spans → ((i : ℕ) → entries_of pool' (span_at spans' i) ≡ entries_of pool (span_at spans i)) → map (entries_of pool') spans' ≡ map (entries_of pool) spans
-views_same pool pool' spans spans' len same = ext_get_or [] _ _ (grind (arith, length-map)) (λ i v. viewed pool' spans' i ∙ same i ∙ sym (viewed pool spans i))
-
 -- one list changes, and the entries of the others stay
 pub views_set : (pool pool' : List WatchValue) (spans : List Span) (k : ℕ) (s : Span) (ys : List WatchValue) → k < length spans → entries_of pool' s ≡ ys → ((i : ℕ) → i ≢ k → entries_of pool' (span_at spans i) ≡ entries_of pool (span_at spans i))
     → map (entries_of pool') (set spans k s) ≡ set (map (entries_of pool) spans) k ys
@@ -85,10 +81,6 @@ pub pooled_roomy : (size size' : ℕ) (spans : List Span) (rooms : List Room) (k
     → ((s.start ≡ x.start) × (r.size ≡ q.size)) ⊎ (s.start ≡ size) → ArePooled size' (set spans k s) (set rooms k r)
 pooled_roomy size size' spans rooms k x s q r p w v a b more small inside place =
     pooled_set size size' spans rooms k s r p w v more small inside (λ i ne. grind (arith, p.apart i k ne, p.inside i, get_or_read))
-
--- a pool that grows
-pub pooled_longer : (size size' : ℕ) (spans : List Span) (rooms : List Room) → ArePooled size spans rooms → size ≤ size' → size' < 4294967296 → ArePooled size' spans rooms
-pooled_longer size size' spans rooms p more small = grind arith
 
 -- a list comes behind the others
 pub pooled_push : (size n : ℕ) (spans : List Span) (rooms : List Room) → ArePooled size spans rooms → length rooms ≡ length spans → size + n < 4294967296 → ArePooled (size + n) (spans ++ record { start = size; len = 0 } ∷ []) (rooms ++ record { size = n; uses = n } ∷ [])

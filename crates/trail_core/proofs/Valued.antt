@@ -1,9 +1,9 @@
 -- What the values of literals keep, as literals become true and are taken back.
-use Rattle.std.proofs.Common.{◌≡◌, ◌≢◌, ◌==◌, ℕ, ◌+◌, ◌<◌, ◌≤◌, List, [], ◌∷◌, ◌++◌, Some, length, get_or, set, cond, eqb, count_by, refl, sym, ap, ◌∙◌, subst, inl, inr, ⊎_elim, arith, ◌⊎◌, Contains}
+use Rattle.std.proofs.Common.{◌≡◌, ◌≢◌, ◌==◌, ◌↔◌, ℕ, ◌+◌, ◌<◌, ◌≤◌, List, [], ◌∷◌, ◌++◌, length, get_or, set, cond, eqb, count_by, refl, sym, ap, ◌∙◌, subst, inl, inr, ⊎_elim, arith, ◌⊎◌, Contains}
 use Rattle.std.proofs.lemmas.{Bool.cases_eq, List.{Sums.{sum_by-set, get_or-le-sum_by}, Elements.{Contains-push, Contains-push_cases, Contains-append_left}}}
 use Rattle.std.proofs.lemmas.List.{get_or-set_same, get_or-set_other, get_or_default, get_or_append_left, get_or_push, length_push, length-set}
 use Rattle.cnf_formula.{specs.{Literals.{LitValue, negation, code_of}}, proofs.Codes.code_within}
-use Rattle.trail_core.{specs.{Assigned.{IsOpen, IsValue}, Trails.IsAssigned}, proofs.Keeping.negated_twice}
+use Rattle.trail_core.{specs.{Assigned.{IsOpen}, Trails.IsAssigned}, proofs.Keeping.negated_twice}
 use Rattle.list_laws.proofs.Places.{by_place_push}
 
 -- ---- the numbers of literals
@@ -46,26 +46,32 @@ valued_zeros values x a b w v = grind (arith, sum_by-set, length-set, get_or-set
 
 -- ---- what a value says
 
-pub value_by_true : (vars : ℕ) (values : List ℕ) (lits : List LitValue) (l : LitValue) → IsAssigned vars values lits → Contains lits l → get_or values (code_of l) 0 ≡ 1
+value_by_true : (vars : ℕ) (values : List ℕ) (lits : List LitValue) (l : LitValue) → IsAssigned vars values lits → Contains lits l → get_or values (code_of l) 0 ≡ 1
 value_by_true vars values lits l a c = subst (λ x. get_or values (code_of x) 0 ≡ 1) c.2 (a.known c.0 l c.1)
 
-pub value_by_false : (vars : ℕ) (values : List ℕ) (lits : List LitValue) (l : LitValue) → IsAssigned vars values lits → Contains lits (negation l) → get_or values (code_of l) 0 ≡ 2
+value_by_false : (vars : ℕ) (values : List ℕ) (lits : List LitValue) (l : LitValue) → IsAssigned vars values lits → Contains lits (negation l) → get_or values (code_of l) 0 ≡ 2
 value_by_false vars values lits l a c = subst (λ x. get_or values (code_of x) 0 ≡ 2) (ap negation c.2 ∙ negated_twice l) (a.opposed c.0 (negation l) c.1)
 
-pub true_by_value : (vars : ℕ) (values : List ℕ) (lits : List LitValue) (l : LitValue) → IsAssigned vars values lits → 0 < l.var → l.var ≤ vars → get_or values (code_of l) 0 ≡ 1 → Contains lits l
+true_by_value : (vars : ℕ) (values : List ℕ) (lits : List LitValue) (l : LitValue) → IsAssigned vars values lits → 0 < l.var → l.var ≤ vars → get_or values (code_of l) 0 ≡ 1 → Contains lits l
 true_by_value vars values lits l a some within e = grind (arith, value_by_false vars values lits l a, a.stands l some within)
 
-pub false_by_value : (vars : ℕ) (values : List ℕ) (lits : List LitValue) (l : LitValue) → IsAssigned vars values lits → 0 < l.var → l.var ≤ vars → get_or values (code_of l) 0 ≡ 2 → Contains lits (negation l)
+false_by_value : (vars : ℕ) (values : List ℕ) (lits : List LitValue) (l : LitValue) → IsAssigned vars values lits → 0 < l.var → l.var ≤ vars → get_or values (code_of l) 0 ≡ 2 → Contains lits (negation l)
 false_by_value vars values lits l a some within e = grind (arith, value_by_true vars values lits l a, a.stands l some within)
 
-pub open_by_value : (vars : ℕ) (values : List ℕ) (lits : List LitValue) (l : LitValue) → IsAssigned vars values lits → get_or values (code_of l) 0 ≡ 0 → IsOpen lits l
+open_by_value : (vars : ℕ) (values : List ℕ) (lits : List LitValue) (l : LitValue) → IsAssigned vars values lits → get_or values (code_of l) 0 ≡ 0 → IsOpen lits l
 open_by_value vars values lits l a e = grind (arith, value_by_true, value_by_false)
 
 value_by_open : (vars : ℕ) (values : List ℕ) (lits : List LitValue) (l : LitValue) → IsAssigned vars values lits → 0 < l.var → l.var ≤ vars → IsOpen lits l → get_or values (code_of l) 0 ≡ 0
 value_by_open vars values lits l a some within o = ⊎_elim (λ e. e) (λ n. absurd (⊎_elim o.not_true o.not_false (a.stands l some within n))) (cases_eq (get_or values (code_of l) 0) 0)
 
-pub value_some : (vars : ℕ) (values : List ℕ) (lits : List LitValue) (l : LitValue) → IsAssigned vars values lits → 0 < l.var → l.var ≤ vars → get_or values (code_of l) 0 ≢ 0 → IsValue lits l (Some (eqb (get_or values (code_of l) 0) 1))
-value_some vars values lits l a some within nz = grind (arith, value_by_true, value_by_false)
+pub value_is : (vars : ℕ) (values : List ℕ) (lits : List LitValue) (l : LitValue) (n : ℕ) → IsAssigned vars values lits → 0 < l.var → l.var ≤ vars → n ≡ get_or values (code_of l) 0
+    → (n ≡ 0 → IsOpen lits l) × ((n ≡ 1) ↔ Contains lits l) × ((n ≡ 2) ↔ Contains lits (negation l)) × (n ≢ 0 → Contains lits l ⊎ Contains lits (negation l))
+value_is vars values lits l n a some within e = (
+  λ z. open_by_value vars values lits l a (sym e ∙ z),
+  (λ o. true_by_value vars values lits l a some within (sym e ∙ o), λ h. e ∙ value_by_true vars values lits l a h),
+  (λ o. false_by_value vars values lits l a some within (sym e ∙ o), λ h. e ∙ value_by_false vars values lits l a h),
+  λ d. a.stands l some within (λ z. d (e ∙ z)),
+)
 
 pub consistent : (vars : ℕ) (values : List ℕ) (lits : List LitValue) → IsAssigned vars values lits → (l : LitValue) → Contains lits l → Contains lits (negation l) → ⊥
 consistent vars values lits a l p q = absurd (omega (arith, value_by_true vars values lits l a p, value_by_false vars values lits l a q))

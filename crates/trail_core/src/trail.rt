@@ -1,9 +1,9 @@
 //! The trail: the literals that are true, in the order in which they became so, with the decision
 //! level and the reason of each.
 
-ghost use Rattle.std.specs.Prelude.{◌≢◌, ◌≡◌, ◌↔◌, ℕ, ◌+◌, ◌<◌, ◌≤◌, IsTrue, [], ◌∷◌, ◌++◌, Option, Some, None, length, take, get_or, slice_set, slice_index, Contains, IfOk};
+ghost use Rattle.std.specs.Prelude.{◌≢◌, ◌≡◌, ◌⊎◌, ◌↔◌, ℕ, ◌+◌, ◌<◌, ◌≤◌, IsTrue, [], ◌∷◌, ◌++◌, Option, Some, None, length, take, get_or, slice_set, slice_index, Contains, IfOk};
 ghost use Rattle.cnf_formula.specs.Literals.{LitValue, negation, code_of};
-ghost use Rattle.trail_core.specs.{Assigned.{IsFalse, IsOpen, IsValue, IsConsistent, AreLimits, level_at}, Trails.{TrailValue, lits_of}, Formed.IsTrail};
+ghost use Rattle.trail_core.specs.{Assigned.{IsFalse, IsOpen, IsValue, IsConsistent, AreLimits, level_at}, Trails.{TrailValue, lits_of}, Formed.IsTrail, inner.Packed.reason_of};
 
 use cnf_formula::Lit;
 use std::alloc::{AllocError, Global};
@@ -86,12 +86,23 @@ impl Trail {
         })
     }
 
+    /// What is kept of the value of a literal.
+    fn mark(&self, lit: Lit) -> u8
+        requires { lit.var ≤ self.now.vars }
+        ensures unset { result ≡ 0 → IsOpen (lits_of self.now.steps) lit }
+        ensures is_true { (result ≡ 1) ↔ Contains (lits_of self.now.steps) lit }
+        ensures is_false { (result ≡ 2) ↔ IsFalse (lits_of self.now.steps) lit }
+        ensures set { result ≢ 0 → Contains (lits_of self.now.steps) lit ⊎ IsFalse (lits_of self.now.steps) lit }
+    {
+        self.values[lit.code()]
+    }
+
     /// Whether the literal is true.
     pub(crate) fn is_true(&self, lit: Lit) -> bool
         requires { lit.var ≤ self.now.vars }
         ensures { IsTrue result ↔ Contains (lits_of self.now.steps) lit }
     {
-        self.values[lit.code()] == TRUE
+        self.mark(lit) == TRUE
     }
 
     /// Whether the literal is false.
@@ -99,7 +110,7 @@ impl Trail {
         requires { lit.var ≤ self.now.vars }
         ensures { IsTrue result ↔ IsFalse (lits_of self.now.steps) lit }
     {
-        self.values[lit.code()] == FALSE
+        self.mark(lit) == FALSE
     }
 
     /// The value of a literal, or none where it is open.
@@ -107,7 +118,7 @@ impl Trail {
         requires { lit.var ≤ self.now.vars }
         ensures { IsValue (lits_of self.now.steps) lit result }
     {
-        let value = self.values[lit.code()];
+        let value = self.mark(lit);
         if value == OPEN {
             None
         } else {
@@ -186,12 +197,24 @@ impl Trail {
         }
     }
 
+    /// What is kept of a true literal.
+    fn assignment(&self, lit: Lit) -> Assignment
+        requires { Contains (lits_of self.now.steps) lit }
+        ensures level { (k : ℕ) → k < length self.now.steps → get_or (lits_of self.now.steps) k lit ≡ lit → result.level ≡ level_at self.now.limits k }
+        ensures within { result.place < length self.now.steps }
+        ensures is { get_or (lits_of self.now.steps) result.place lit ≡ lit }
+        ensures only { (k : ℕ) → k < length self.now.steps → get_or (lits_of self.now.steps) k lit ≡ lit → k ≡ result.place }
+        ensures reason { Contains self.now.steps (record { lit = lit; reason = reason_of result }) }
+    {
+        self.assignments[lit.var() as usize]
+    }
+
     /// The decision level of a true literal.
     pub(crate) fn level(&self, lit: Lit) -> u32
         requires { Contains (lits_of self.now.steps) lit }
         ensures { (k : ℕ) → k < length self.now.steps → get_or (lits_of self.now.steps) k lit ≡ lit → result ≡ level_at self.now.limits k }
     {
-        self.assignments[lit.var() as usize].level
+        self.assignment(lit).level
     }
 
     /// Where a true literal stands on the trail.
@@ -201,7 +224,7 @@ impl Trail {
         ensures is { get_or (lits_of self.now.steps) result lit ≡ lit }
         ensures only { (k : ℕ) → k < length self.now.steps → get_or (lits_of self.now.steps) k lit ≡ lit → k ≡ result }
     {
-        self.assignments[lit.var() as usize].place as usize
+        self.assignment(lit).place as usize
     }
 
     /// The clause that made a true literal so, its reason; none for a decision.
@@ -209,7 +232,7 @@ impl Trail {
         requires { Contains (lits_of self.now.steps) lit }
         ensures { Contains self.now.steps (record { lit = lit; reason = result }) }
     {
-        let reason = self.assignments[lit.var() as usize].reason;
+        let reason = self.assignment(lit).reason;
         if reason == NO_CLAUSE {
             None
         } else {

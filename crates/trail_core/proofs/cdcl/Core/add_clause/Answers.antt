@@ -1,8 +1,6 @@
-use Rattle.std.proofs.Common.{sym, ap, subst}
-use Rattle.trail_core.specs.{Trails.TrailValue, Meaning.CoreValue, Kept.CanAddTo}
+use Rattle.std.proofs.Common.{sym, subst}
+use Rattle.trail_core.specs.Kept.{CanAdd}
 use Rattle.trail_core.proofs.cdcl.Core.add_clause.Goals as goal
 
 pub hold-requires-clause-place : goal.hold-requires-clause-place
-hold-requires-clause-place c =
-    let make : CoreValue → TrailValue = λ x. record { vars = x.vars; steps = x.trail; limits = x.limits } in
-    subst (λ t. CanAddTo t c.args.lits.now) (sym (ap make c.self.view_is)) c.requires.place
+hold-requires-clause-place c = subst (λ x. CanAdd x c.args.lits.now) (sym c.self.view_is) c.requires.place

@@ -1,11 +1,9 @@
-use Rattle.std.proofs.Common.{ℕ, [], ◌∷◌, ◌++◌, Some, length, sym, ap, subst}
-use Rattle.trail_core.{specs.{Trails.{TrailValue, lits_of}, Search.IsUnit, Meaning.CoreValue, Kept.{IsDue, IsKept, IsHeld, CanAddTo}}, proofs.Added.kept_learned}
+use Rattle.std.proofs.Common.{ℕ, [], ◌∷◌, ◌++◌, Some, length, sym, subst}
+use Rattle.trail_core.{specs.{Trails.{TrailValue, lits_of}, Search.IsUnit, Kept.{IsDue, IsKept, IsHeld, CanAdd}}, proofs.Added.kept_learned}
 use Rattle.trail_core.proofs.cdcl.Core.learn.Goals as goal
 
 pub hold-requires-clause-place : goal.hold-requires-clause-place
-hold-requires-clause-place c =
-    let make : CoreValue → TrailValue = λ x. record { vars = x.vars; steps = x.trail; limits = x.limits } in
-    subst (λ t. CanAddTo t c.args.lits.now) (sym (ap make c.self.view_is)) c.requires.place
+hold-requires-clause-place c = subst (λ x. CanAdd x c.args.lits.now) (sym c.self.view_is) c.requires.place
 
 pub invariant_of-self-2 : goal.invariant_of-self-2
 invariant_of-self-2 c =
