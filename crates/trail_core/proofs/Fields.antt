@@ -1,7 +1,7 @@
 -- A trail as its fields hold it, and as a literal comes to it.
 use Rattle.std.proofs.{Common.{◌≡◌, ◌≢◌, ℕ, ◌<◌, ◌≤◌, List, [], ◌∷◌, ◌++◌, Option, map, length, get_or, set, subst, arith, Contains}, lemmas.List.length-map}
 use Rattle.cnf_formula.specs.Literals.{LitValue, negation, code_of}
-use Rattle.trail_core.specs.{Assigned.IsOpen, Trails.{StepValue, TrailValue, lits_of, step_of, IsAssigned, IsLeveled}, inner.Packed.{reason_of, reasons_of}, declared.trail.Assignment.Assignment}
+use Rattle.trail_core.specs.{Assigned.IsOpen, Trails.{StepValue, TrailValue, lits_of, step_of, IsAssigned, IsLeveled}, inner.Packed.{levels_of, reason_of, reasons_of}, declared.trail.Assignment.Assignment}
 use Rattle.trail_core.proofs.{Trails.{lits-steps, few_limits, steps_push}, Packed.reasons_set, Valued.{code_of_within, var_new, room_for}}
 
 abbrev pub trail_of : ℕ → List Assignment → List LitValue → List ℕ → TrailValue
@@ -26,12 +26,13 @@ pub record CanPush (vars : ℕ) (values : List ℕ) (lits : List LitValue) (limi
   pub room : length lits < vars
   pub few : length limits ≤ length lits
 
-pub can_push : (vars : ℕ) (values levels : List ℕ) (lits : List LitValue) (limits : List ℕ) (t : TrailValue) (x : LitValue) → IsAssigned vars values lits → IsLeveled vars levels lits limits → IsSeen vars lits limits t → 0 < x.var → x.var ≤ t.vars → IsOpen (lits_of t.steps) x → CanPush vars values lits limits x
-can_push vars values levels lits limits t x a v s some below o =
+pub can_push : (vars : ℕ) (values : List ℕ) (assignments : List Assignment) (lits : List LitValue) (limits : List ℕ) (t : TrailValue) (x : LitValue) → IsAssigned vars values lits → IsLeveled vars (levels_of assignments) lits limits → trail_of vars assignments lits limits ≡ t → 0 < x.var → x.var ≤ t.vars → IsOpen (lits_of t.steps) x → CanPush vars values lits limits x
+can_push vars values assignments lits limits t x a v e some below o =
+    let s = seen vars assignments lits limits t e in
     let w : x.var ≤ vars = omega (arith, s.vars_same, below) in
     let op : IsOpen lits x = subst (λ xs. IsOpen xs x) s.lits_same o in
     let codes = code_of_within vars values lits x a some w in
-    record { within = w; is_open = op; new = var_new lits x op; here = codes.0; there = codes.1; room = room_for vars values lits x a some w op; few = few_limits vars levels lits limits v }
+    record { within = w; is_open = op; new = var_new lits x op; here = codes.0; there = codes.1; room = room_for vars values lits x a some w op; few = few_limits vars (levels_of assignments) lits limits v }
 
 -- and comes there with its reason
 pub pushed : (assignments : List Assignment) (lits : List LitValue) (x : LitValue) (a : Assignment) (r : Option ℕ) (steps : List StepValue) → map (step_of (reasons_of assignments)) lits ≡ steps → x.var < length assignments → ((k : ℕ) (d : LitValue) → k < length lits → (get_or lits k d).var ≢ x.var) → reason_of a ≡ r

@@ -1,9 +1,9 @@
 -- One visit of a clause that watches a literal which is false.
-use Rattle.std.proofs.Common.{◌≡◌, ◌≢◌, ℕ, ◌+◌, ◌<◌, true, false, List, [], ◌∷◌, ◌++◌, Some, length, get_or, set, eqb, refl, sym, ap, ◌∙◌, subst, inl, inr, ⊎_elim, arith, ◌⊎◌, Contains, swap_remove}
-use Rattle.std.proofs.lemmas.{Bool.{eqb-true, eqb-false, cases_eq}, List.{get_or-set_same, get_or-set_other, get_or-take, get_or_default, length-set, length-map, get_or-map, get_or_past, map_push}}
+use Rattle.std.proofs.Common.{◌≡◌, ◌≢◌, ℕ, ◌+◌, ◌<◌, true, false, List, [], ◌∷◌, ◌++◌, Some, length, get_or, set, eqb, Bool, IsTrue, ◌↔◌, refl, sym, ap, ◌∙◌, subst, inl, inr, ⊎_elim, arith, ◌⊎◌, Contains, swap_remove}
+use Rattle.std.proofs.lemmas.{Bool.{eqb-true, eqb-false, cases_eq}, List.{get_or-set_same, get_or-set_other, get_or-take, get_or_default, length-set, length-map, get_or-map, get_or_past, map_push, Elements.Contains-push}}
 use Rattle.list_laws.proofs.Fronts.{same_map}
 use Rattle.cnf_formula.{specs.Literals.{LitValue, code_of}, proofs.Codes.same_code}
-use Rattle.trail_core.specs.{Assigned.{IsFalse, IsOpen}, Trails.{StepValue, TrailValue, lits_of}, Search.{IsUnit, Implied, HasLit, clauses_of, Scanned}}
+use Rattle.trail_core.specs.{Assigned.{IsFalse, IsOpen}, Trails.{StepValue, TrailValue, lits_of}, Search.{IsUnit, IsSatisfied, Implied, HasLit, clauses_of, Scanned}}
 use Rattle.trail_core.specs.{Watching.{RowValue, ListsValue, no_row, watch_count, row_at, list_at, IsWatched, IsRow, AreRows}, Search.Implied.{none, more}}
 use Rattle.trail_core.proofs.{Places.at_set, Watching.{hit, hit_yes, hit_no, count_long, watch_long, watch_which, watch_within, entry_watches, occurs, room_in_list, shifted, moved}}
 
@@ -120,6 +120,10 @@ rewatched_not rows trues id falsified other x p f n = grind (arith, get_or-set_s
 pub removed_front : (xs : List ℕ) (place c j : ℕ) → place < length xs → j < place → get_or (swap_remove xs place c) j 0 ≡ get_or xs j 0
 removed_front xs place c j w h = grind (arith, get_or-take, get_or-set_other)
 
+-- a literal that is neither
+pub open_by : (t f : Bool) (trues : List LitValue) (l : LitValue) → (IsTrue t ↔ Contains trues l) → (IsTrue f ↔ IsFalse trues l) → t ≡ false → f ≡ false → IsOpen trues l
+open_by t f trues l p q a b = grind arith
+
 -- the other literal becomes true
 pub pushed_scanned : (rows : List RowValue) (t t' : TrailValue) (id : ℕ) (falsified other : LitValue) → id < length rows → Contains (row_at rows id).lits other → Contains (row_at rows id).lits falsified → IsOpen (lits_of t.steps) other → ((o : LitValue) → Contains (row_at rows id).lits o → (o ≡ other) ⊎ IsFalse (lits_of t.steps) o)
     → t' ≡ record t { steps = t.steps ++ record { lit = other; reason = Some id } ∷ [] } → Scanned falsified rows t rows t'
@@ -141,6 +145,10 @@ pushed_scanned rows t t' id falsified other within own own_false o others e = re
 
 pub lits_push : (steps : List StepValue) (s : StepValue) → lits_of (steps ++ s ∷ []) ≡ lits_of steps ++ s.lit ∷ []
 lits_push steps s = map_push (λ x. x.lit) steps s
+
+-- and so it satisfies its clause
+pub pushed_satisfied : (rows : List RowValue) (t t' : TrailValue) (id e : ℕ) (l : LitValue) → Contains (row_at rows id).lits l → t' ≡ record t { steps = t.steps ++ record { lit = l; reason = Some id } ∷ [] } → id ≡ e → IsSatisfied (lits_of t'.steps) (row_at rows e).lits
+pushed_satisfied rows t t' id e l own p is = (l, subst (λ n. Contains (row_at rows n).lits l) is own, subst (λ ls. Contains ls l) (sym (ap (λ u. lits_of u.steps) p ∙ lits_push t.steps (record { lit = l; reason = Some id }))) (Contains-push (lits_of t.steps) l))
 
 -- ---- equal literals
 

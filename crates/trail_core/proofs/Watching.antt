@@ -37,6 +37,10 @@ watch_within rows e k h = grind (arith, nat_tests, get_or_past)
 pub entry_watches : (rows : List RowValue) (w : ListsValue) (k place : ℕ) → IsWatched rows w → place < length (list_at w.lists k) → 0 < watch_count (row_at rows (get_or (list_at w.lists k) place 0)) k
 entry_watches rows w k place i h = grind (arith, hit_yes, get_or-le-sum_by)
 
+-- and so it is held
+pub entry_within : (rows : List RowValue) (w : ListsValue) (k place e : ℕ) → IsWatched rows w → place < length (list_at w.lists k) → e ≡ get_or (list_at w.lists k) place 0 → e < length rows
+entry_within rows w k place e i h is = grind (arith, watch_within rows e k, entry_watches rows w k place i h)
+
 cons_counts : (x : ℕ) (xs : List ℕ) (e : ℕ) → 0 < count_by (λ y. y == e) (x ∷ xs) → (x ≡ e) ⊎ (0 < count_by (λ y. y == e) xs)
 cons_counts x xs e h = grind (arith, nat_tests, sum_by-cons)
 

@@ -29,6 +29,7 @@ fn another(clause: &[Lit], trail: &Trail, this: Lit) -> Option<Lit>
 /// Visits a clause that watches a literal which is false, by its entry at a place of the literal's
 /// list: watches another literal of it, or makes the only one that is left true, or returns the
 /// clause, whose literals are all false.
+#[tactic(auto, using(crate::proofs::Visits::scanned_same, crate::proofs::Watching::entry_within))]
 fn visit_clause(
     store: &mut ClauseStore,
     lists: &mut WatchLists,
@@ -74,6 +75,7 @@ fn visit_clause(
 /// literal that is left of it true, or watches another, or returns the clause, whose literals are
 /// all false. A clause that is satisfied by its blocking literal is passed over, and one of two
 /// literals is not read.
+#[tactic(auto, using(crate::proofs::Visits::scanned_same))]
 fn visit(
     store: &mut ClauseStore,
     lists: &mut WatchLists,
@@ -94,14 +96,13 @@ fn visit(
         (λ c. (c < length store.new) × IsFalsified (lits_of trail.new.steps) (row_at store.new c).lits) }
 {
     let watch = lists.entry(falsified, place);
-    let blocker = watch.blocker();
+    let (blocker, id) = (watch.blocker(), watch.clause());
     if trail.is_true(blocker) {
         return None;
     }
     if !watch.is_pair() {
         return visit_clause(store, lists, trail, falsified, place, watch);
     }
-    let id = watch.clause();
     if trail.is_false(blocker) {
         return Some(id);
     }

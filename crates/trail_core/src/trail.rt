@@ -241,6 +241,7 @@ impl Trail {
     }
 
     /// Makes an open literal true on the present level, by the clause of this number.
+    #[tactic(auto, using(crate::proofs::Fields::can_push))]
     pub(crate) fn push(&mut self, lit: Lit, reason: u32)
         requires within { lit.var ≤ self.old.vars }
         requires open { IsOpen (lits_of self.old.steps) lit }
@@ -259,6 +260,7 @@ impl Trail {
 
     /// Decides a literal: opens a decision level, on which an open literal is the first that is
     /// true.
+    #[tactic(auto, using(crate::proofs::Fields::can_push))]
     pub(crate) fn decide(&mut self, lit: Lit)
         requires within { lit.var ≤ self.old.vars }
         requires open { IsOpen (lits_of self.old.steps) lit }

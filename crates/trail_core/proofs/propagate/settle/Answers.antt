@@ -1,6 +1,6 @@
-use Rattle.std.proofs.{Common.{◌≡◌, ◌≤◌, List, [], Some, length, get_or, refl, sym, ap, ◌∙◌, subst, inl, arith, Contains}, lemmas.{Bool.false≢true, List.{length-map, get_or_default, Elements.Contains-push}}}
+use Rattle.std.proofs.{Common.{◌≡◌, ◌≤◌, List, [], Some, length, get_or, refl, sym, ap, ◌∙◌, subst, inl, arith, Contains}, lemmas.{List.{length-map, get_or_default}}}
 use Rattle.cnf_formula.specs.Literals.{LitValue}
-use Rattle.trail_core.{specs.{Trails.lits_of, Watching.no_row, Search.{IsUnit, Implied, clauses_of, Implied.{none, more}}, Kept.IsDue}, proofs.Visits.{lits_at, lits_push}}
+use Rattle.trail_core.{specs.{Trails.lits_of, Watching.no_row, Search.{IsUnit, Implied, clauses_of, Implied.{none, more}}, Kept.IsDue}, proofs.Visits.{lits_at, open_by, pushed_satisfied}}
 use Rattle.trail_core.proofs.propagate.settle.Goals as goal
 
 single : (xs : List LitValue) (l : LitValue) → length xs ≤ 1 → l ≡ get_or xs 0 l → (o : LitValue) → Contains xs o → o ≡ l
@@ -24,7 +24,7 @@ returns-else-is_false-clause-implied c =
     let one = single c.clause.result.now l n c.lit-item.is in
     let unit : IsUnit (lits_of t.steps) c.clause.result.now l = record {
       stands = (0, c.in-len1-up.len_at_least, sym c.lit-item.is);
-      open_ = record { not_true = λ h. false≢true (sym c.if-is_true.false ∙ c.is_true.ensures.1 h); not_false = λ h. false≢true (sym c.if-is_false.false ∙ c.is_false.ensures.1 h) };
+      open_ = open_by _ _ _ _ c.is_true.ensures c.is_false.ensures c.if-is_true.false c.if-is_false.false;
       others = λ o h. inl (one o h);
     } in
     subst (λ ss. Implied (clauses_of c.args.store.now) (IsDue []) t.steps ss) (sym (ap (λ u. u.steps) c.push.ensures))
@@ -37,9 +37,4 @@ returns-else-is_false-clause-implied c =
     }))
 
 pub returns-else-is_false-clause-settled : goal.returns-else-is_false-clause-settled
-returns-else-is_false-clause-settled c = λ h.
-    let l = c.lit-item.result in (
-      l,
-      subst (λ xs. Contains xs l) (c.clause.ensures.lits no_row) (0, c.in-len1-up.len_at_least, sym c.lit-item.is),
-      subst (λ ls. Contains ls l) (sym (ap (λ u. lits_of u.steps) c.push.ensures ∙ lits_push c.args.trail.now.steps (record { lit = l; reason = Some c.args.id }))) (Contains-push (lits_of c.args.trail.now.steps) l),
-    )
+returns-else-is_false-clause-settled c = λ h. pushed_satisfied _ _ _ _ _ _ (subst (λ xs. Contains xs c.lit-item.result) (c.clause.ensures.lits no_row) (0, c.in-len1-up.len_at_least, sym c.lit-item.is)) c.push.ensures refl

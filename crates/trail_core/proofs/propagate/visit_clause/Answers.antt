@@ -1,14 +1,14 @@
-use Rattle.std.proofs.{Common.{◌≡◌, ◌<◌, [], ◌∷◌, ◌++◌, Some, length, get_or, set, sym, ap, ◌∙◌, subst, inl, inr, ⊎_elim, arith, Contains, All, swap_remove}, lemmas.{Bool.false≢true, List.length-set}}
-use Rattle.std.proofs.lemmas.List.Elements.{All-contains, Contains-push}
+use Rattle.std.proofs.{Common.{◌≡◌, ◌<◌, length, get_or, sym, ap, ◌∙◌, subst, inl, inr, ⊎_elim, arith, Contains, All, swap_remove}, lemmas.{List.length-set}}
+use Rattle.std.proofs.lemmas.List.Elements.{All-contains}
 use Rattle.cnf_formula.{specs.{Literals.code_of, Formulas.IsAbout}, proofs.Codes.code_within}
-use Rattle.trail_core.specs.{Assigned.{IsFalse, IsOpen}, Trails.lits_of, Search.{Scanned, IsSatisfied, clauses_of}, Watching.{ListsValue, WatchValue, IsOnlyNew, AreBlocked, no_row, watch_count, row_at, list_at, IsWatched, AreRows}}
-use Rattle.trail_core.proofs.Watching.{entry_watches, watch_within, shifted, shifted_a, length_removed}
-use Rattle.trail_core.proofs.Visits.{Pair, IsOther, pair_is, Found, same_lit, other_lit, scanned_same, found_room, found_apart, rewatched, rewatched_is, rewatched_rows, rewatched_scanned, rewatched_not, removed_front, pushed_scanned, lits_push}
+use Rattle.trail_core.specs.{Assigned.{IsFalse}, Trails.lits_of, Search.{Scanned, clauses_of}, Watching.{ListsValue, WatchValue, IsOnlyNew, AreBlocked, no_row, watch_count, row_at, list_at, IsWatched, AreRows}}
+use Rattle.trail_core.proofs.Watching.{entry_within, shifted, shifted_a, length_removed}
+use Rattle.trail_core.proofs.Visits.{Pair, IsOther, pair_is, Found, same_lit, other_lit, found_room, found_apart, rewatched, rewatched_is, rewatched_rows, rewatched_scanned, rewatched_not, removed_front, pushed_scanned, pushed_satisfied, open_by}
 use Rattle.trail_core.proofs.{Blocking.{watched_same, blocked_new, can_replace, long_blocked}, propagate.visit_clause.Goals.{After-clause-id, Joined-eq, In-Some, then-eq, else-eq}}
 use Rattle.trail_core.proofs.propagate.visit_clause.Goals as goal
 
 known : (c : After-clause-id) → c.clause-id.result < length c.args.store.now
-known c = subst (λ n. n < length c.args.store.now) (sym (c.clause-id.ensures ∙ c.requires.is)) (watch_within c.args.store.now _ (code_of c.args.falsified) (entry_watches c.args.store.now c.args.lists.now (code_of c.args.falsified) c.args.place c.requires.can.watched c.requires.within))
+known c = grind (arith, entry_within)
 
 pair : (c : Joined-eq) → Pair c.args.store.now c.clause-id.result c.args.falsified c.if-eq.other
 pair c =
@@ -24,9 +24,6 @@ about c = grind (arith, pair, All-contains)
 found : (c : In-Some) → Found (lits_of c.args.trail.now.steps) (row_at c.args.store.now c.clause-id.result).lits c.if-eq.other c.in-Some.lit
 found c = record { stands = subst (λ xs. Contains xs c.in-Some.lit) (c.clause.ensures.lits no_row) c.in-Some.ensures.0; differs = c.in-Some.ensures.1; not_false = c.in-Some.ensures.2 }
 
-pub watched-first-requires : goal.watched-first-requires
-watched-first-requires c = known (goal.at.watched-first-requires c).After-clause-id
-
 pub is_true-requires : goal.is_true-requires
 is_true-requires c = (about (goal.at.is_true-requires c).Joined-eq).within
 
@@ -39,20 +36,11 @@ returns-then-is_true-clause-can c =
     can_replace c.args.store.now lists c.replace.new.self c.args.trail.now k new c.requires.can c.replace.ensures.lists c.replace.ensures.rooms c.replace.ensures.uses (subst (IsOnlyNew lists.watches c.replace.new.self.watches k) c.blocked_by.ensures c.replace.ensures.watches)
     (long_blocked c.args.store.now c.args.watch.clause k new (subst (λ n. Contains (row_at c.args.store.now n).lits c.if-eq.other) c.clause-id.ensures p.own) c.requires.long)
 
-pub returns-then-is_true-clause-scanned : goal.returns-then-is_true-clause-scanned
-returns-then-is_true-clause-scanned c = scanned_same c.args.falsified c.args.store.now c.args.trail.now
-
 pub returns-then-is_true-clause-handled : goal.returns-then-is_true-clause-handled
 returns-then-is_true-clause-handled c = grind (arith, pair)
 
-pub clause-requires : goal.clause-requires
-clause-requires c = known (goal.at.clause-requires c).After-clause-id
-
 pub another-requires : goal.another-requires
 another-requires c = subst (All (IsAbout c.args.trail.now.vars)) (sym (c.clause.ensures.lits no_row)) (c.requires.can.are_rows c.clause-id.result (known (goal.at.another-requires c).After-clause-id)).within
-
-pub watch-requires : goal.watch-requires
-watch-requires c = known (goal.at.watch-requires c).After-clause-id
 
 pub shift-requires-clause-to_known : goal.shift-requires-clause-to_known
 shift-requires-clause-to_known c =
@@ -93,11 +81,7 @@ returns-in-Some c =
     (long_blocked store c.args.watch.clause (code_of x) entry (subst (λ m. Contains (row_at store m).lits other) c.clause-id.ensures p.own) c.requires.long) in
     record {
       can = record {
-        are_lists = record {
-          lists_len = ap length lists-is ∙ length-set (set lists.lists k (swap_remove (list_at lists.lists k) place id)) (code_of x) (list_at lists.lists (code_of x) ++ id ∷ []) ∙ length-set lists.lists k (swap_remove (list_at lists.lists k) place id) ∙ c.requires.can.are_lists.lists_len;
-          rooms_len = ap length c.shift.ensures.rooms ∙ c.requires.can.are_lists.rooms_len;
-          uses_len = ap length c.shift.ensures.uses ∙ c.requires.can.are_lists.uses_len;
-        };
+        are_lists = grind (arith, length-set);
         are_rows = subst (AreRows t.vars) (sym rows-is) (rewatched_rows t.vars store (lits_of t.steps) id falsified other x c.requires.can.are_rows p n);
         watched = subst (λ rows. IsWatched rows c.shift.new.self) (sym rows-is) (watched_same (rewatched store id other x) new c.shift.new.self w lists-is c.shift.ensures.rooms c.shift.ensures.uses);
         blocked = subst (λ rows. AreBlocked (clauses_of rows) c.shift.new.self.watches) (sym rows-is) (subst (λ cs. AreBlocked cs c.shift.new.self.watches) (sym scanned.same) blocked);
@@ -111,9 +95,6 @@ returns-in-Some c =
 pub is_false-requires : goal.is_false-requires
 is_false-requires c = (about (goal.at.is_false-requires c).Joined-eq).within
 
-pub returns-then-is_false-clause-scanned : goal.returns-then-is_false-clause-scanned
-returns-then-is_false-clause-scanned c = scanned_same c.args.falsified c.args.store.now c.args.trail.now
-
 pub returns-then-is_false-clause-handled : goal.returns-then-is_false-clause-handled
 returns-then-is_false-clause-handled c = (
   known (goal.at.returns-then-is_false-clause-handled c).After-clause-id,
@@ -126,15 +107,7 @@ push-requires-clause-within c = (about (goal.at.push-requires-clause-within c).J
 pub returns-clause-scanned : goal.returns-clause-scanned
 returns-clause-scanned c =
     let p = pair (goal.at.returns-clause-scanned c).Joined-eq in
-    let left : IsOpen (lits_of c.args.trail.now.steps) c.if-eq.other = record { not_true = λ h. false≢true (sym c.if-is_true.false ∙ c.is_true.ensures.1 h); not_false = λ h. false≢true (sym c.if-is_false.false ∙ c.is_false.ensures.1 h) } in
-    pushed_scanned c.args.store.now c.args.trail.now c.push.new.self c.clause-id.result c.args.falsified c.if-eq.other p.within p.own p.own_false left (λ l h. c.in_default.ensures l (subst (λ xs. Contains xs l) (sym (c.clause.ensures.lits no_row)) h)) c.push.ensures
+    pushed_scanned c.args.store.now c.args.trail.now c.push.new.self c.clause-id.result c.args.falsified c.if-eq.other p.within p.own p.own_false (open_by _ _ _ _ c.is_true.ensures c.is_false.ensures c.if-is_true.false c.if-is_false.false) (λ l h. c.in_default.ensures l (subst (λ xs. Contains xs l) (sym (c.clause.ensures.lits no_row)) h)) c.push.ensures
 
 pub returns-clause-handled : goal.returns-clause-handled
-returns-clause-handled c = λ h.
-    let p = pair (goal.at.returns-clause-handled c).Joined-eq in
-    let steps = c.args.trail.now.steps in
-    let pushed = ap (λ u. lits_of u.steps) c.push.ensures ∙ lits_push steps (record { lit = c.if-eq.other; reason = Some c.clause-id.result }) in
-    subst (λ n. IsSatisfied (lits_of c.push.new.self.steps) (row_at c.args.store.now n).lits) (c.clause-id.ensures ∙ c.requires.is) (c.if-eq.other, p.own, subst (λ ls. Contains ls c.if-eq.other) (sym pushed) (Contains-push (lits_of steps) c.if-eq.other))
-
-pub push-requires-clause-small : goal.push-requires-clause-small
-push-requires-clause-small c = let w = known (goal.at.push-requires-clause-small c).After-clause-id in omega (arith, w, c.clause.ensures.small)
+returns-clause-handled c = λ h. pushed_satisfied _ _ _ _ _ _ (pair (goal.at.returns-clause-handled c).Joined-eq).own c.push.ensures (c.clause-id.ensures ∙ c.requires.is)

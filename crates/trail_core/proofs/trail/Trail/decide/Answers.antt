@@ -1,32 +1,21 @@
 use Rattle.std.proofs.{Common.{◌≡◌, ◌+◌, [], ◌∷◌, ◌++◌, None, length, ap, refl, arith}, lemmas.List.length-set}
-use Rattle.trail_core.specs.{inner.Packed.levels_of, declared.trail.Assignment.Assignment}
-use Rattle.trail_core.proofs.{Trails.{same_trail, leveled_decide, placed_push}, Packed.no_reason, Valued.assigned_push, Fields.{seen, CanPush, can_push, pushed}, trail.Trail.decide.Goals.After-len-place}
+use Rattle.trail_core.specs.{declared.trail.Assignment.Assignment}
+use Rattle.trail_core.proofs.{Trails.{same_trail, leveled_decide, placed_push}, Packed.no_reason, Valued.assigned_push, Fields.{seen, can_push, pushed}}
 use Rattle.trail_core.proofs.trail.Trail.decide.Goals as goal
 
-ready : (c : After-len-place) → CanPush c.self.inside.vars c.self.inside.values.items c.self.inside.lits.items c.self.inside.limits.items c.args.lit
-ready c =
-    let i = c.self.inside in
-    can_push i.vars i.values.items (levels_of i.assignments.items) i.lits.items i.limits.items c.args.self.now c.args.lit c.self.invariant.0 c.self.invariant.1 (seen i.vars i.assignments.items i.lits.items i.limits.items c.args.self.now c.self.view_is) c.var-var.ensures.limits.some c.requires.within c.requires.open
-
 pub push_reserved-requires : goal.push_reserved-requires
-push_reserved-requires c = let r = ready (goal.at.push_reserved-requires c).After-len-place in omega (arith, r.room, r.few, c.self.invariant)
-
-pub set_values-requires-clause-here : goal.set_values-requires-clause-here
-set_values-requires-clause-here c = (ready (goal.at.set_values-requires-clause-here c).After-len-place).here
-
-pub set_values-requires-clause-opposite : goal.set_values-requires-clause-opposite
-set_values-requires-clause-opposite c = (ready (goal.at.set_values-requires-clause-opposite c).After-len-place).there
+push_reserved-requires c = let r = can_push _ _ _ _ _ _ _ c.self.invariant.0 c.self.invariant.1 c.self.view_is c.var-var.ensures.limits.some c.requires.within c.requires.open in omega (arith, r.room, r.few, c.self.invariant)
 
 pub overflow_cast-len : goal.overflow_cast-len
-overflow_cast-len c = let r = ready (goal.at.overflow_cast-len c).After-len-place in omega (arith, r.room, r.few, c.push_reserved.ensures.len, c.self.invariant.5, c.len.ensures)
+overflow_cast-len c = let r = can_push _ _ _ _ _ _ _ c.self.invariant.0 c.self.invariant.1 c.self.view_is c.var-var.ensures.limits.some c.requires.within c.requires.open in omega (arith, r.room, r.few, c.push_reserved.ensures.len, c.self.invariant.5, c.len.ensures)
 
 pub push_reserved-requires-2 : goal.push_reserved-requires-2
-push_reserved-requires-2 c = let r = ready (goal.at.push_reserved-requires-2 c).After-len-place in omega (arith, r.room, c.self.invariant)
+push_reserved-requires-2 c = let r = can_push _ _ _ _ _ _ _ c.self.invariant.0 c.self.invariant.1 c.self.view_is c.var-var.ensures.limits.some c.requires.within c.requires.open in omega (arith, r.room, c.self.invariant)
 
 pub invariant_of-self : goal.invariant_of-self
 invariant_of-self c =
     let i = c.self.inside in
-    let r = ready (goal.at.invariant_of-self c).After-len-place in
+    let r = can_push _ _ _ _ _ _ _ c.self.invariant.0 c.self.invariant.1 c.self.view_is c.var-var.ensures.limits.some c.requires.within c.requires.open in
     let m : c.len-place.result ≡ length i.lits.items = omega (arith, c.len-place.ensures) in
     let n : c.len.result ≡ length i.limits.items + 1 = omega (arith, c.len.ensures, c.push_reserved.ensures.len) in
     let x : Assignment = record { level = length i.limits.items + 1; reason = 4294967295; place = length i.lits.items } in
@@ -40,9 +29,9 @@ pub returns : goal.returns
 returns c =
     let i = c.self.inside in
     let t = c.args.self.now in
-    let r = ready (goal.at.returns c).After-len-place in
+    let r = can_push _ _ _ _ _ _ _ c.self.invariant.0 c.self.invariant.1 c.self.view_is c.var-var.ensures.limits.some c.requires.within c.requires.open in
     let a : Assignment = record { level = c.len.result; reason = 4294967295; place = c.len-place.result } in
-    let m : c.len-place.result ≡ length t.steps = omega (arith, c.len-place.ensures, (seen i.vars i.assignments.items i.lits.items i.limits.items t c.self.view_is).count) in
+    let m : c.len-place.result ≡ length t.steps = omega (arith, c.len-place.ensures, (seen _ _ _ _ _ c.self.view_is).count) in
     let old : i.limits.items ≡ t.limits = ap (λ u. u.limits) c.self.view_is in
     let limits : c.push_reserved.new.self.items ≡ t.limits ++ length t.steps ∷ [] = rw (← m, ← old) c.push_reserved.ensures.items in
     rw (c.var-var.ensures.var, c.push_reserved-2.ensures.items) (same_trail _ _ _ _ _ _ (ap (λ u. u.vars) c.self.view_is)
