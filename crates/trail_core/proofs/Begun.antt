@@ -33,10 +33,7 @@ few_front clauses k code w =
     let front = joined (take (k + 1) clauses) in
     let rest = joined (drop (k + 1) clauses) in
     let whole : joined clauses ≡ front ++ rest = sym (ap joined (take-append-drop (k + 1) clauses)) ∙ flat_map-append (λ xs. xs) (take (k + 1) clauses) (drop (k + 1) clauses) in
-    let before : sum_by (λ r. occurrences r code) (map front_row (take k clauses)) ≡ sum_by one (joined (take k clauses)) = occurrences_joined (take k clauses) code in
-    let here : sum_by one front ≡ sum_by one (joined (take k clauses)) + sum_by one (get_or clauses k []) = ap (sum_by one) (joined_more clauses k w) ∙ sum_by-append one (joined (take k clauses)) (get_or clauses k []) in
-    let all : sum_by one (joined clauses) ≡ sum_by one front + sum_by one rest = ap (sum_by one) whole ∙ sum_by-append one front rest in
-    omega (arith, before, here, all)
+    grind (arith, occurrences_joined, joined_more clauses k w, sum_by-append, whole)
 
 -- one clause more
 pub begun_add : (rows : List RowValue) (w w' : ListsValue) (r : RowValue) (short short' : List ℕ) → IsBegun rows w short → ((k : ℕ) → Put w.lists w'.lists r (length rows) k) → ((k : ℕ) → watch_count r k ≤ occurrences r k) → AreBlocked (clauses_of (rows ++ r ∷ [])) w'.watches

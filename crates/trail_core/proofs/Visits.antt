@@ -44,10 +44,11 @@ pair_is vars rows w id place falsified first second other are i p at f s o =
 pub lits_at : (rows : List RowValue) (e : ℕ) → (row_at rows e).lits ≡ get_or (clauses_of rows) e []
 lits_at rows e = grind (arith, get_or-map, get_or_past, length-map)
 
+pub implied_same : (clauses : List (List LitValue)) (due : List StepValue → List LitValue → Type 0) (steps : List StepValue) → Implied clauses due steps steps
+implied_same clauses due steps = none steps
+
 pub scanned_same : (by : LitValue) (rows : List RowValue) (t : TrailValue) → Scanned by rows t rows t
-scanned_same by rows t =
-    let same : Implied (clauses_of rows) (HasLit by) t.steps t.steps = none t.steps in
-    grind arith
+scanned_same by rows t = grind (arith, implied_same)
 
 -- a literal that is not false watches in place of one that is
 pub record Found (trues : List LitValue) (clause : List LitValue) (other x : LitValue) : Type 0 where

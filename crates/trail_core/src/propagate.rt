@@ -112,6 +112,7 @@ fn visit(
 }
 
 /// Visits all clauses that watch a literal that is false, up to one whose literals are all false.
+#[tactic(auto, using(crate::proofs::Visits::scanned_same, crate::proofs::Watching::watch_entry))]
 pub(crate) fn scan(
     store: &mut ClauseStore,
     lists: &mut WatchLists,
@@ -139,6 +140,7 @@ pub(crate) fn scan(
 
 /// Makes the literal of a clause of less than two literals true; false where the clause is
 /// falsified.
+#[tactic(auto, using(crate::proofs::Visits::implied_same))]
 fn settle(store: &ClauseStore, trail: &mut Trail, id: u32) -> bool
     requires rows { AreRows trail.old.vars store.now }
     requires short { IsShort store.now id }
@@ -165,6 +167,7 @@ fn settle(store: &ClauseStore, trail: &mut Trail, id: u32) -> bool
 }
 
 /// Makes the literals of all clauses of less than two literals true, up to one that is falsified.
+#[tactic(auto, using(crate::proofs::Visits::implied_same, crate::proofs::Scans::implied_trans))]
 pub(crate) fn settle_all(store: &ClauseStore, trail: &mut Trail, short: &[u32]) -> Option<u32>
     requires rows { AreRows trail.old.vars store.now }
     requires short { All (IsShort store.now) short.now }

@@ -1,10 +1,7 @@
 use Rattle.std.proofs.{Common.{◌≡◌, ◌-◌, ◌<◌, get_or, refl, sym, ap, ◌∙◌, subst, inl, inr, ⊎_elim, arith}, lemmas.Bool.cases_lt}
 use Rattle.cnf_formula.specs.Literals.{negation, code_of}
-use Rattle.trail_core.{specs.{Trails.lits_of, Watching.{watch_count, row_at, list_at}, Search.IsSatisfied}, proofs.{Watching.watch_entry, Visits.scanned_same, Scans.{implied_grows, scanned_trans, satisfied_grows}}}
+use Rattle.trail_core.{specs.{Trails.lits_of, Watching.{watch_count, row_at, list_at}, Search.IsSatisfied}, proofs.{Scans.{implied_grows, scanned_trans, satisfied_grows}}}
 use Rattle.trail_core.proofs.propagate.scan.Goals as goal
-
-pub loop-place-init : goal.loop-place-init
-loop-place-init c = grind (arith, scanned_same, watch_entry)
 
 pub returns-in-Some-clause-scanned : goal.returns-in-Some-clause-scanned
 returns-in-Some-clause-scanned c = scanned_trans c.args.falsified c.args.store.now c.loop-place.store c.visit.new.store c.args.trail.now c.loop-place.trail c.visit.new.trail c.loop-place.invariant.scanned c.visit.ensures.scanned

@@ -1,19 +1,10 @@
-use Rattle.std.proofs.{Common.{◌≡◌, ◌≤◌, List, [], Some, length, get_or, refl, sym, ap, ◌∙◌, subst, inl, arith, Contains}, lemmas.{List.{length-map, get_or_default}}}
+use Rattle.std.proofs.{Common.{◌≡◌, ◌≤◌, List, Some, length, get_or, refl, sym, ap, ◌∙◌, subst, inl, arith, Contains}, lemmas.{List.{length-map, get_or_default}}}
 use Rattle.cnf_formula.specs.Literals.{LitValue}
-use Rattle.trail_core.{specs.{Trails.lits_of, Watching.no_row, Search.{IsUnit, Implied, clauses_of, Implied.{none, more}}, Kept.IsDue}, proofs.Visits.{lits_at, open_by, pushed_satisfied}}
+use Rattle.trail_core.{specs.{Trails.lits_of, Watching.no_row, Search.{IsUnit, Implied.{none, more}}}, proofs.Visits.{lits_at, open_by, pushed_satisfied}}
 use Rattle.trail_core.proofs.propagate.settle.Goals as goal
 
 single : (xs : List LitValue) (l : LitValue) → length xs ≤ 1 → l ≡ get_or xs 0 l → (o : LitValue) → Contains xs o → o ≡ l
 single xs l n e o c = grind (arith, get_or_default)
-
-pub returns-then-is_true-clause-implied : goal.returns-then-is_true-clause-implied
-returns-then-is_true-clause-implied c = none c.args.trail.now.steps
-
-pub returns-then-is_false-clause-implied : goal.returns-then-is_false-clause-implied
-returns-then-is_false-clause-implied c = none c.args.trail.now.steps
-
-pub returns-in-empty-clause-implied : goal.returns-in-empty-clause-implied
-returns-in-empty-clause-implied c = none c.args.trail.now.steps
 
 pub returns-else-is_false-clause-implied : goal.returns-else-is_false-clause-implied
 returns-else-is_false-clause-implied c =
@@ -27,8 +18,7 @@ returns-else-is_false-clause-implied c =
       open_ = open_by _ _ _ _ c.is_true.ensures c.is_false.ensures c.if-is_true.false c.if-is_false.false;
       others = λ o h. inl (one o h);
     } in
-    subst (λ ss. Implied (clauses_of c.args.store.now) (IsDue []) t.steps ss) (sym (ap (λ u. u.steps) c.push.ensures))
-    (more t.steps t.steps (record { lit = l; reason = Some c.args.id }) (none t.steps) (record {
+    rw c.push.ensures (more t.steps t.steps (record { lit = l; reason = Some c.args.id }) (none t.steps) (record {
       id = c.args.id;
       reason = refl;
       within = omega (arith, c.requires.short.within, length-map c.args.store.now (λ r. r.lits));

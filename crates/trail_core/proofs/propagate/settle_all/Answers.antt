@@ -1,19 +1,6 @@
-use Rattle.std.proofs.{Common.{◌≡◌, get_or, refl, sym, ap, ◌∙◌, subst, ⊎_elim, arith}, lemmas.{Bool.cases_lt, List.get_or_default}}
-use Rattle.trail_core.{specs.{Trails.lits_of, Watching.{row_at, AreRows}, Search.{IsSatisfied, Implied.none}}, proofs.Scans.{implied_trans, implied_grows}}
+use Rattle.std.proofs.{Common.{◌≡◌, get_or, sym, ap, ◌∙◌, subst, ⊎_elim, arith}, lemmas.{Bool.cases_lt, List.get_or_default}}
+use Rattle.trail_core.{specs.{Trails.lits_of, Watching.{row_at, AreRows}, Search.{IsSatisfied}}, proofs.Scans.{implied_trans, implied_grows}}
 use Rattle.trail_core.proofs.propagate.settle_all.Goals as goal
-
-pub loop-id-init : goal.loop-id-init
-loop-id-init c = record {
-  are_rows = c.requires.rows;
-  vars = refl;
-  limits = refl;
-  bottom = c.requires.bottom;
-  implied = none c.args.trail.now.steps;
-  settled = λ k w. absurd (omega (arith, w));
-}
-
-pub returns-then-not-settle-clause-implied : goal.returns-then-not-settle-clause-implied
-returns-then-not-settle-clause-implied c = implied_trans c.loop-id.invariant.implied c.settle.ensures.implied
 
 pub loop-id-preserved : goal.loop-id-preserved
 loop-id-preserved c =

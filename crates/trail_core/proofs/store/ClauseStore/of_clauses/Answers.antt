@@ -1,6 +1,6 @@
-use Rattle.std.proofs.{Common.{◌≡◌, ◌+◌, ◌<◌, ◌≤◌, List, [], ◌∷◌, ◌++◌, map, length, get_or, take, sym, ap, ◌∙◌, subst, arith, All}, lemmas.List.{map_push, Elements.All-push}}
+use Rattle.std.proofs.{Common.{◌+◌, ◌<◌, ◌≤◌, [], ◌∷◌, ◌++◌, map, length, get_or, take, ap, ◌∙◌, arith}, lemmas.List.{map_push, Elements.All-push}}
 use Rattle.cnf_formula.specs.Literals.{yes}
-use Rattle.trail_core.{specs.{inner.{Begun.front_row, Stored.row_of}, declared.store.Header.Header}, proofs.{Storing.{joined, joined_at, Lies}, Begun.rows_more, store.ClauseStore.of_clauses.Goals.After-clause-clause}}
+use Rattle.trail_core.{specs.{inner.{Begun.front_row}}, proofs.{Storing.{joined, joined_at, Lies}, Begun.rows_more, store.ClauseStore.of_clauses.Goals.After-clause-clause}}
 use Rattle.trail_core.proofs.store.ClauseStore.of_clauses.Goals as goal
 
 -- the clause lies among the literals
@@ -28,15 +28,11 @@ loop-place-preserved c =
     let long = ap length c.clause-clause.ensures in
     let end = start + length c.clause-clause.result.now in
     let at = joined_at clauses k start end w i.start (omega (arith, long)) in
-    let headers : List Header = c.loop-place.headers.items in
-    let h : Header = record { start = start; end = end; first = c.front_pair-first.result.0; second = c.front_pair-first.result.1 } in
-    let is : c.push_reserved.new.self.items ≡ headers ++ h ∷ [] = c.push_reserved.ensures.items in
     let first = c.front_pair-first.ensures.first ∙ ap (λ xs. get_or xs 0 (yes 1)) c.clause-clause.ensures in
     let second = c.front_pair-first.ensures.second ∙ ap (λ xs. get_or xs 1 (yes 1)) c.clause-clause.ensures in
-    let row : row_of lits h ≡ front_row clause = λ i. record { lits = at.0 i; first = first i; second = second i } in
     record {
       capacity = omega (arith, i.capacity, c.push_reserved.ensures.capacity);
       start = at.1;
-      rows = ap (map (row_of lits)) is ∙ map_push (row_of lits) headers h ∙ ap (λ rs. rs ++ row_of lits h ∷ []) i.rows ∙ ap (λ r. map front_row (take k clauses) ++ r ∷ []) row ∙ sym (rows_more clauses k w);
-      lie = subst (All (Lies lits)) (sym is) (All-push (Lies lits) headers h i.lie (omega arith, at.2));
+      rows = rw (c.push_reserved.ensures.items, map_push, i.rows, rows_more clauses k w) (λ i. map front_row (take k clauses) ++ record { lits = at.0 i; first = first i; second = second i } ∷ []);
+      lie = rw c.push_reserved.ensures.items (All-push (Lies lits) _ _ i.lie (omega arith, at.2));
     }
