@@ -48,10 +48,7 @@ put_two lists r id h d wa wb k = grind (arith, count_long r k h, nat_tests, same
 -- ---- what is kept
 
 pub counted_all : (xs : List ℕ) (k : ℕ) → level_at xs k ≡ length xs → (i : ℕ) → i < length xs → get_or xs i 0 ≤ k
-counted_all xs k e i w = ⊎_elim
-    (λ h. absurd (omega (arith, sum_by-set (λ m. cond (leb m k) 1 0) xs i k 0 w, e, ap (λ b. cond {A = ℕ} b 1 0) (lt-leb (get_or xs i 0) k h), ap (λ b. cond {A = ℕ} b 1 0) (le-leb k k (omega arith)), count_by-le-length (λ m. leb m k) (set xs i k), length-set xs i k)))
-    (λ h. h)
-    (cases_lt k (get_or xs i 0))
+counted_all xs k e i w = grind (arith, sum_by-set (λ m. cond (leb m k) 1 0) xs i k 0 w, lt-leb, le-leb, count_by-le-length (λ m. leb m k) (set xs i k), length-set)
 
 -- a literal stands on a trail but once
 abbrev pub IsOnce : List LitValue → Type 0

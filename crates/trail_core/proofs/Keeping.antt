@@ -100,12 +100,6 @@ kept_next rows w t head short falsified k v is handled =
 pub row_of_clause : (rows : List RowValue) (clause : List LitValue) → Contains (clauses_of rows) clause → (e : ℕ) × (e < length rows) × ((row_at rows e).lits ≡ clause)
 row_of_clause rows clause c = grind (arith, get_or-map, length-map)
 
-watches_first : (r : RowValue) → 1 < length r.lits → 0 < watch_count r (code_of r.first)
-watches_first r h = omega (arith, count_long r (code_of r.first) h, hit_yes (code_of r.first) (code_of r.first) refl)
-
-watches_second : (r : RowValue) → 1 < length r.lits → 0 < watch_count r (code_of r.second)
-watches_second r h = omega (arith, count_long r (code_of r.second) h, hit_yes (code_of r.second) (code_of r.second) refl)
-
 pub closed_by : (vars : ℕ) (rows : List RowValue) (trues : List LitValue) → AreRows vars rows → IsConsistent trues → Excused rows trues trues → ShortTrue rows trues → IsClosed trues (clauses_of rows)
 closed_by vars rows trues are con ex sh = record {
   not_falsified = λ clause c f. let r = row_of_clause rows clause c in fal r.0 r.1 (subst (IsFalsified trues) (sym r.2) f);
@@ -115,7 +109,7 @@ closed_by vars rows trues are con ex sh = record {
     -- a clause is satisfied where one of the literals that it watches is false
     sat : (e : ℕ) → e < length rows → (1 < length (row_at rows e).lits → IsFalse trues (row_at rows e).first ⊎ IsFalse trues (row_at rows e).second) → IsSatisfied trues (row_at rows e).lits
     sat e w f = ⊎_elim
-        (λ h. ⊎_elim (ex e (row_at rows e).first (watches_first (row_at rows e) h)) (ex e (row_at rows e).second (watches_second (row_at rows e) h)) (f h))
+        (λ h. ⊎_elim (ex e (row_at rows e).first (grind (arith, count_long, hit_yes))) (ex e (row_at rows e).second (grind (arith, count_long, hit_yes))) (f h))
         (sh e w)
         (cases_lt 1 (length (row_at rows e).lits))
 

@@ -95,9 +95,7 @@ var_new lits x o k d w e =
 pub room_for : (vars : ℕ) (values : List ℕ) (lits : List LitValue) (x : LitValue) → IsAssigned vars values lits → 0 < x.var → x.var ≤ vars → IsOpen lits x → length lits < vars
 room_for vars values lits x a some within o =
     let in' = (code_of_within vars values lits x a some within).0 in
-    let one : cond {A = ℕ} (eqb (get_or values (code_of x) 0) 0) 1 0 ≤ count_by (λ n. n == 0) values = get_or-le-sum_by (λ n. cond (eqb n 0) 1 0) values (code_of x) 0 in' in
-    let e : cond {A = ℕ} (eqb (get_or values (code_of x) 0) 0) 1 0 ≡ 1 = ap (λ n. cond (eqb n 0) 1 0) (value_by_open vars values lits x a some within o) in
-    omega (arith, one, e, a.zeros)
+    grind (arith, get_or-le-sum_by (λ n. cond (eqb n 0) 1 0) values (code_of x) 0 in', value_by_open vars values lits x a some within o, a.zeros)
 
 pub assigned_push : (vars : ℕ) (values : List ℕ) (lits : List LitValue) (x : LitValue) → IsAssigned vars values lits → 0 < x.var → x.var ≤ vars → IsOpen lits x → IsAssigned vars (valued values x 1 2) (lits ++ x ∷ [])
 assigned_push vars values lits x a some within o =
@@ -124,11 +122,7 @@ assigned_push vars values lits x a some within o =
       apart = λ i j d e lt w. by_place_push (λ m l. (n : ℕ) → n < m → (get_or (lits ++ x ∷ []) n d).var ≢ l.var) lits x e
           (λ m u n s. subst (λ l. l.var ≢ (get_or lits m e).var) (sym (get_or_append_left lits (x ∷ []) d n (omega (arith, s, u)))) (a.apart n m d e s u))
           (λ n s. subst (λ l. l.var ≢ x.var) (sym (get_or_append_left lits (x ∷ []) d n s)) (new n d s)) j w i lt;
-      zeros =
-          let here : zero_hit (get_or values (code_of x) 0) ≡ 1 = ap zero_hit (value_by_open vars values lits x a some within o) in
-          let there : zero_hit (get_or values (code_of (negation x)) 0) ≡ 1 = ap zero_hit (value_by_open vars values lits (negation x) a some within (turned_open lits x o)) in
-          let none : zero_hit 1 + zero_hit 2 ≡ 0 = refl in
-          omega (arith, valued_zeros values x 1 2 in'.0 in'.1, here, there, none, a.zeros, length_push lits x);
+      zeros = grind (arith, valued_zeros values x 1 2 in'.0 in'.1, value_by_open vars values lits x a some within o, value_by_open vars values lits (negation x) a some within (turned_open lits x o), a.zeros, length_push lits x);
     }
 
 -- ---- literals are taken back
@@ -163,11 +157,7 @@ assigned_pop vars values lits x a =
       apart = λ i j d e lt w.
           subst (λ l. l.var ≢ (get_or lits j e).var) (get_or_append_left lits (x ∷ []) d i (omega (arith, lt, w)))
           (subst (λ l. (get_or (lits ++ x ∷ []) i d).var ≢ l.var) (get_or_append_left lits (x ∷ []) e j w) (a.apart i j d e lt (omega (arith, w, n))));
-      zeros =
-          let here' : zero_hit (get_or values (code_of x) 0) ≡ 0 = ap zero_hit was_true in
-          let there : zero_hit (get_or values (code_of (negation x)) 0) ≡ 0 = ap zero_hit was_false in
-          let two : zero_hit 0 + zero_hit 0 ≡ 2 = refl in
-          omega (arith, valued_zeros values x 0 0 in'.0 in'.1, here', there, two, a.zeros, n);
+      zeros = grind (arith, valued_zeros values x 0 0 in'.0 in'.1, was_true, was_false, a.zeros, n);
     }
   where
     stays : (l : LitValue) → l.var ≢ x.var → Contains (lits ++ x ∷ []) l → Contains lits l

@@ -1,5 +1,5 @@
 use Rattle.std.proofs.Common.{◌≡◌, [], ◌∷◌, ◌++◌, None, length, sym, ap, ◌∙◌, subst}
-use Rattle.trail_core.{specs.{Assigned.IsOpen, Trails.lits_of, Search.clauses_of, Meaning.IsClosed, Kept.IsKept}, proofs.{Keeping.implied_closed, Levels.{done_closed, kept_decide}, cdcl.Core.assume.Goals.After-propagate_all-closed}}
+use Rattle.trail_core.{specs.{Assigned.IsOpen, Trails.lits_of, Search.clauses_of, Meaning.IsClosed}, proofs.{Keeping.implied_closed, Levels.{done_closed, kept_decide}, cdcl.Core.assume.Goals.After-propagate_all-closed}}
 use Rattle.trail_core.proofs.cdcl.Core.assume.Goals as goal
 
 closed : (c : After-propagate_all-closed) → IsClosed (lits_of c.self.inside.trail.steps) (clauses_of c.self.inside.store)
@@ -16,9 +16,8 @@ invariant_of-self c =
     let i = c.self.inside in
     let p = c.propagate_all-closed in
     let after = (goal.at.invariant_of-self c).After-propagate_all-closed in
-    let closed' : IsClosed (lits_of p.new.trail.steps) (clauses_of p.new.store) = subst (λ ss. IsClosed (lits_of ss) (clauses_of p.new.store)) (sym (same after)) (subst (IsClosed (lits_of i.trail.steps)) (sym p.ensures.same) (closed after)) in
-    let d = done_closed p.new.store p.new.trail p.new.head p.result closed' p.ensures.answer in
-    subst (λ t. IsKept p.new.store p.new.lists t p.new.head i.short.items) (sym c.decide.ensures) (kept_decide p.new.store p.new.lists p.new.trail p.new.head i.short.items c.args.lit (subst (IsKept p.new.store p.new.lists p.new.trail p.new.head) c.deref.ensures.value p.ensures.kept) d)
+    let d = done_closed p.new.store p.new.trail p.new.head p.result (rw (same after, p.ensures.same) (closed after)) p.ensures.answer in
+    rw c.decide.ensures (kept_decide p.new.store p.new.lists p.new.trail p.new.head i.short.items c.args.lit (rw c.deref.ensures.value at p.ensures.kept) d)
 
 pub returns : goal.returns
 returns c =
