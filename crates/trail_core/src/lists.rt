@@ -33,31 +33,31 @@ impl Model for WatchLists {
 
 impl WatchLists {
     /// Empty lists, each with room for so many clauses, as many as it may come to hold.
-    pub(crate) fn new(alloc: Global, sizes: &[u32]) -> Result<WatchLists, AllocError>
-        ensures len { IfOk result (λ w. length w.lists ≡ length sizes.now) }
+    pub(crate) fn new(alloc: Global, rooms: &[u32]) -> Result<WatchLists, AllocError>
+        ensures len { IfOk result (λ w. length w.lists ≡ length rooms.now) }
         ensures lists { IfOk result (λ w. (k : ℕ) → list_at w.lists k ≡ []) }
         ensures watches { IfOk result (λ w. (k : ℕ) → watches_at w.watches k ≡ []) }
-        ensures rooms { IfOk result (λ w. w.rooms ≡ sizes.now) }
-        ensures uses { IfOk result (λ w. w.uses ≡ sizes.now) }
+        ensures rooms { IfOk result (λ w. w.rooms ≡ rooms.now) }
+        ensures uses { IfOk result (λ w. w.uses ≡ rooms.now) }
     {
-        let mut spans = Vec::with_capacity(alloc, sizes.len())?;
-        let mut rooms = Vec::with_capacity(alloc, sizes.len())?;
+        let mut spans = Vec::with_capacity(alloc, rooms.len())?;
+        let mut all_rooms = Vec::with_capacity(alloc, rooms.len())?;
         let mut start = 0u32;
-        for size in sizes {
-            if *size > u32::MAX - start {
+        for room in rooms {
+            if *room > u32::MAX - start {
                 return Err(AllocError);
             }
             spans.push_reserved(Span { start, len: 0 });
-            rooms.push_reserved(Room {
-                size: *size,
-                uses: *size,
+            all_rooms.push_reserved(Room {
+                size: *room,
+                uses: *room,
             });
-            start += *size;
+            start += *room;
         }
         Ok(WatchLists {
             pool: vec![in alloc; Watch::default(); start as usize]?,
             spans,
-            rooms,
+            rooms: all_rooms,
         })
     }
 
