@@ -22,7 +22,6 @@ pub enum End {
 }
 
 /// Searches from where the core holds the clauses of the ledger's formula and lines.
-#[tactic(auto, using(crate::proofs::Going::still_written, crate::proofs::Going::advanced_can, crate::proofs::Going::written_then, crate::proofs::Caused::handed_steps, crate::proofs::Caused::after, crate::proofs::Caused::handed_on, crate::proofs::Caused::unmoved, crate::proofs::Caused::answered_after, crate::proofs::Measure::decision_leaves_less, crate::proofs::Caused::answered))]
 pub fn search<T, L: Ledger<T>>(
     alloc: Global,
     ledger: &mut L,

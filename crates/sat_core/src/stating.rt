@@ -134,7 +134,6 @@ fn hold(
 
 /// Learns the line of the literal at a place of the trail, on level 0, where it was needed, there
 /// is room for the line and no held clause states it.
-#[tactic(auto, using(crate::proofs::Going::still_written, crate::proofs::Going::same_trail, crate::proofs::Caused::answered, crate::proofs::Caused::on_fault, crate::proofs::Caused::no_memory, crate::proofs::Going::written_to, crate::proofs::Caused::of_ledger, crate::proofs::Caused::no_memory_after, crate::proofs::Going::ready_at, crate::proofs::Caused::answered_after))]
 fn state<T, L: Ledger<T>>(
     alloc: Global,
     ledger: &mut L,
@@ -191,7 +190,6 @@ fn state_all<T, L: Ledger<T>>(
 
 /// Where the search begins anew and it is due, literals of level 0 get their lines, and clauses of
 /// little use fall asleep.
-#[tactic(auto, using(crate::proofs::Going::still_written, crate::proofs::Caused::answered, crate::proofs::Caused::on_fault, crate::proofs::Caused::handed_on, crate::proofs::Caused::no_memory_after, crate::proofs::Caused::answered_after))]
 pub fn rest_if_due<T, L: Ledger<T>>(
     alloc: Global,
     ledger: &mut L,

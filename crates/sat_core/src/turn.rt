@@ -83,7 +83,6 @@ fn line_of_conflict(
 /// Learns from a conflict: closes on level 0, else adds a line where there is room for it. Where a
 /// clause that sleeps states the line already, that clause is woken in its place; where there is no
 /// room, one by which something may follow on level 0.
-#[tactic(auto, using(crate::proofs::Going::still_written, crate::proofs::Caused::handed_steps, crate::proofs::Caused::no_memory, crate::proofs::Turning::turn_accepted, crate::proofs::Going::written_to, crate::proofs::Caused::of_ledger, crate::proofs::Turning::not_empty, crate::proofs::Turning::turn_above, crate::proofs::Turning::guided_more, crate::proofs::Caused::answered, crate::proofs::Ending::no_room, crate::proofs::Turning::turn_over, crate::proofs::Turning::turn_backed, crate::proofs::Turning::turn_written, crate::proofs::Caused::no_memory_after, crate::proofs::Going::written_then, crate::proofs::Caused::after, crate::proofs::Caused::unmoved, crate::proofs::Caused::handed_on, crate::proofs::Caused::answered_after))]
 pub fn at_conflict<T, L: Ledger<T>>(
     alloc: Global,
     ledger: &mut L,
