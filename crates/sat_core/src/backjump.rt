@@ -68,7 +68,6 @@ fn jump(core: &mut Core, lits: &[Lit], level: u32) -> Result<ClauseId, OutOfMemo
 
 /// Goes back to the second highest level of the line's clause, or to level 0 where the search
 /// begins anew, and adds it. Gives its number in the core.
-#[tactic(auto, using(crate::proofs::Jumping::backed_within, crate::proofs::Jumping::backed_differ, crate::proofs::Jumping::lower_levels))]
 pub fn go_back(
     core: &mut Core,
     decider: &mut Decider,

@@ -140,7 +140,6 @@ fn are_all_apart(alloc: Global, own: u32, clauses: &ClauseList) -> Result<bool, 
 }
 
 /// The clauses in their order, each literal of them once.
-#[tactic(auto, using(std::proofs::lemmas::Bool::Decides::nat_tests, std::proofs::lemmas::Grind::common_steps, crate::proofs::Loaded::codes_within, std::proofs::lemmas::List::take_all))]
 fn once_in_each(alloc: Global, own: u32, clauses: &ClauseList) -> Result<ClauseList, OutOfMemory>
     requires { All (IsClause own) clauses.now }
     ensures loaded { IfOk result (λ kept. IsLoaded clauses.now kept) }
@@ -187,7 +186,6 @@ fn know(lits: &[Lit])
 
 /// A core with the clauses of a formula in their order, each literal of them once, and the table of
 /// them.
-#[tactic(auto, using(crate::proofs::Loaded::clauses_own, crate::proofs::Loaded::numbered_from))]
 pub fn load(alloc: Global, formula: &Formula, own: u32) -> Result<(Core, Awake), OutOfMemory>
     requires { own ≡ own_of formula.now.vars }
     ensures vars { IfOk result (λ both. both.0.vars ≡ own) }

@@ -79,7 +79,6 @@ fn is_needed(core: &Core, awake: &Awake, place: usize) -> bool
 
 /// The line of the literal at a place of the trail, on level 0, where it was needed and no held
 /// clause states it.
-#[tactic(auto, using(crate::proofs::Stated::stating_about))]
 fn line_of(
     alloc: Global,
     core: &Core,
@@ -108,7 +107,6 @@ fn line_of(
 }
 
 /// Adds the clause of a line that was learned to the core, on level 0.
-#[tactic(auto, using(crate::proofs::Turning::grown_guided))]
 fn hold(
     core: &mut Core,
     guide: &mut Guide,

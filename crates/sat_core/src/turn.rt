@@ -31,7 +31,6 @@ pub enum Turn {
 
 /// Adds a line's clause, which was learned, to the core, and goes back from the conflict. Whether
 /// the search begins anew.
-#[tactic(auto, using(crate::proofs::Turning::grown_guided, crate::proofs::Jumping::backed_differ))]
 fn go_on(
     alloc: Global,
     core: &mut Core,

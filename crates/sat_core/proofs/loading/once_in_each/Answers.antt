@@ -1,6 +1,6 @@
-use Rattle.std.proofs.{Common.{◌≡◌, ◌<◌, List, [], ◌∷◌, ◌++◌, length, get_or, sym, ap, ◌∙◌, subst, arith, ◌≢◌, All, AllPairs}, lemmas.List.{Elements.{All-push, All-contains}}}
+use Rattle.std.proofs.{Common.{◌≡◌, ◌<◌, List, [], ◌∷◌, ◌++◌, length, get_or, sym, ap, ◌∙◌, subst, arith, ◌≢◌, All, AllPairs}, lemmas.List.{take_all, Elements.{All-push, All-contains}}}
 use Rattle.cnf_formula.specs.{Literals.LitValue, Formulas.{IsAbout, IsClause}}
-use Rattle.sat_core.{specs.inner.{Holding.IsSame}, proofs.Loaded.{kept_about, loaded_more}}
+use Rattle.sat_core.{specs.inner.{Holding.IsSame, Loading.IsLoaded}, proofs.Loaded.{codes_within, kept_about, loaded_more}}
 use Rattle.sat_core.proofs.loading.once_in_each.Goals as goal
 
 pub loop-place-preserved : goal.loop-place-preserved
@@ -24,3 +24,9 @@ loop-place-preserved c =
       within = subst (All (IsClause own)) (sym is) (All-push (IsClause own) once kept i.within about);
       once = subst (All (AllPairs (λ a b. a ≢ b))) (sym is) (All-push (AllPairs (λ a b. a ≢ b)) once kept i.once e.once);
     }
+
+pub once_each-requires-clause-room : goal.once_each-requires-clause-room
+once_each-requires-clause-room c = codes_within c.args.own c.args.clauses.now c.loop-place.place c.clause.result.now (length c.loop-place.seen.items) c.requires (omega (arith, c.loop-place-test.true, c.loop-place.auto.place-end, c.len-place-end.ensures)) c.clause.ensures c.loop-place.invariant.len
+
+pub returns-clause-loaded : goal.returns-clause-loaded
+returns-clause-loaded c = subst (λ cs. IsLoaded cs c.loop-place.once) (take_all c.loop-place.place c.args.clauses.now (omega (arith, c.loop-place-test.false, c.loop-place.auto.place-end, c.len-place-end.ensures))) c.loop-place.invariant.loaded

@@ -1,7 +1,7 @@
 use Rattle.std.proofs.Common.{◌≡◌, sym, ap, ◌∙◌, subst, Contains, get_or, true}
 use Rattle.cnf_formula.specs.Literals.{LitValue, code_of}
 use Rattle.conflict_analysis.{specs.{Met.lit_at, UnitLines.denied}, proofs.Resolved.place_read}
-use Rattle.sat_core.proofs.{Hinted.hints_names, Turning.none_by, Stated.{HasUnitLine, stating_is}}
+use Rattle.sat_core.proofs.{Hinted.hints_names, Turning.none_by, Stated.{HasUnitLine, stating_is, stating_about}}
 use Rattle.sat_core.proofs.stating.line_of.Goals as goal
 
 pub named-requires : goal.named-requires
@@ -9,6 +9,9 @@ named-requires c =
     let unit = c.in_ok-unit.unit in
     let is = c.in_ok-unit.ensures.settled in
     record { known = hints_names c.args.core.now.clauses (denied c.args.core.now c.args.place) is.resolved is.conflict unit.lits unit.hints _ is.analysis is.hints c.requires.guided.listed.names }
+
+pub subset_of-requires : goal.subset_of-requires
+subset_of-requires c = stating_about c.args.core.now c.args.place _ _ c.trail.ensures.formed c.requires.place c.requires.guided.sleepers (c.deref.ensures.value ∙ ap (λ l. l.lits) c.line.view_is ∙ c.in_ok-line.ensures.line.lits ∙ c.in_ok-unit.ensures.settled.lits)
 
 pub returns-clause-line : goal.returns-clause-line
 returns-clause-line c = λ base lines ready.
