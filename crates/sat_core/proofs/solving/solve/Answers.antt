@@ -45,5 +45,5 @@ returns g c =
       agrees = after (g.L.Ledger.agrees now c.search-end.new.store) c.answer_of.result c.search-end.result c.answer_of.ensures.answer (ended_agrees L g.L.Ledger now c.search-end.new.store core guide c.search-end.result end.ended);
       base = end.written.base;
       limit = end.written.limit;
-      cause = grind (arith, end.cause, c.answer_of.ensures.fault);
+      cause = record { later = end.cause.later; rose = λ e. end.cause.rose (c.answer_of.ensures.fault.0 e); stays = λ other. end.cause.stays (λ e. other (c.answer_of.ensures.fault.1 e)) };
     }

@@ -1,7 +1,7 @@
-use Rattle.std.proofs.Common.{◌≡◌, sym, ap, ◌∙◌, subst, Contains, get_or, true}
+use Rattle.std.proofs.Common.{◌≡◌, refl, sym, ap, ◌∙◌, subst, Contains, get_or, true}
 use Rattle.cnf_formula.specs.Literals.{LitValue, code_of}
 use Rattle.conflict_analysis.{specs.{Met.lit_at, UnitLines.denied}, proofs.Resolved.place_read}
-use Rattle.sat_core.proofs.{Hinted.hints_names, Turning.none_by, Stated.{HasUnitLine, stating_is, stating_about}}
+use Rattle.sat_core.proofs.{Hinted.hints_names, Readiness.ready_same, Turning.none_by, Stated.{HasUnitLine, stating_is, stating_about}}
 use Rattle.sat_core.proofs.stating.line_of.Goals as goal
 
 pub named-requires : goal.named-requires
@@ -12,6 +12,15 @@ named-requires c =
 
 pub subset_of-requires : goal.subset_of-requires
 subset_of-requires c = stating_about c.args.core.now c.args.place _ _ c.trail.ensures.formed c.requires.place c.requires.guided.sleepers (c.deref.ensures.value ∙ ap (λ l. l.lits) c.line.view_is ∙ c.in_ok-line.ensures.line.lits ∙ c.in_ok-unit.ensures.settled.lits)
+
+pub returns-in_err-line-clause-ready : goal.returns-in_err-line-clause-ready
+returns-in_err-line-clause-ready c = λ base lines r. ready_same base lines c.args.core.now c.args.core.now _ _ _ r refl refl c.named.ensures.names c.named.ensures.formula c.named.ensures.held
+
+pub returns-in-Some-clause-ready : goal.returns-in-Some-clause-ready
+returns-in-Some-clause-ready c = λ base lines r. rw c.subset_of.ensures.same (ready_same base lines c.args.core.now c.args.core.now _ _ _ r refl refl c.named.ensures.names c.named.ensures.formula c.named.ensures.held)
+
+pub returns-clause-ready : goal.returns-clause-ready
+returns-clause-ready c = λ base lines r. rw c.subset_of.ensures.same (ready_same base lines c.args.core.now c.args.core.now _ _ _ r refl refl c.named.ensures.names c.named.ensures.formula c.named.ensures.held)
 
 pub returns-clause-line : goal.returns-clause-line
 returns-clause-line c = λ base lines ready.

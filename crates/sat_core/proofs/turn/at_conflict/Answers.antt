@@ -34,7 +34,7 @@ returns-then-is_empty g c =
     }
 
 pub wake_due-requires : goal.wake_due-requires
-wake_due-requires g c = let guided = c.in_ok-line.ensures.guided in let some = not_empty c.in_ok-line.line.lits c.is_empty.ensures c.if-is_empty.false (omega (arith, ap (λ l. length l.lits) c.line.view_is)) in record { above = turn_above (c.in_ok-line.ensures.turn _ _ c.requires.can.ready) some; decider = guided.decider; vars = guided.sleepers; listed = guided.listed }
+wake_due-requires g c = let guided = c.in_ok-line.ensures.guided in let some = not_empty {n = vec_len c.line.inside.lits} c.in_ok-line.line.lits c.is_empty.ensures c.if-is_empty.false (c.line.inside.lits.ok.0 ∙ ap (λ l. length l.lits) c.line.view_is) in record { above = turn_above (c.in_ok-line.ensures.turn _ _ c.requires.can.ready) some; decider = guided.decider; vars = guided.sleepers; listed = guided.listed }
 
 pub returns-in_err-woken : goal.returns-in_err-woken
 returns-in_err-woken g c = record { written = still_written (g.met.L.Ledger.moves_refl c.args.ledger.now c.args.store.now) c.requires.can.ready.written; vars = c.wake_due.ensures.vars; turned = IfOk-from_err _ _ c.from_residual-in_err-woken.ensures.0; cause = no_memory _ c.from_residual-in_err-woken.ensures.1 }
@@ -43,10 +43,10 @@ pub returns-then-woken : goal.returns-then-woken
 returns-then-woken g c = let can = c.requires.can in let guided = c.in_ok-line.ensures.guided in let woken = c.in_ok-woken.ensures in let is = ap Ok c.if-woken.true in record { written = still_written (g.met.L.Ledger.moves_refl c.args.ledger.now c.args.store.now) can.ready.written; vars = woken.vars; turned = (record { ready = woken.ready is _ _ (c.in_ok-line.ensures.turn _ _ can.ready).ready; guided = guided_more c.args.core.now _ _ guided.rested (woken.decider ∙ guided.decider) (woken.listed is) (woken.same ∙ guided.sleepers) (omega (arith, woken.fewer is, guided.few)) woken.vars; agrees = can.agrees }, inr (refl, omega (arith, woken.fewer is, ap (λ s. sleeping s) c.line_of_conflict.ensures.sleepers))); cause = answered }
 
 pub returns-then-not-room : goal.returns-then-not-room
-returns-then-not-room g c = let can = c.requires.can in let woken = c.in_ok-woken.ensures in let some = not_empty c.in_ok-line.line.lits c.is_empty.ensures c.if-is_empty.false (omega (arith, ap (λ l. length l.lits) c.line.view_is)) in record { written = still_written (g.met.L.Ledger.moves_refl c.args.ledger.now c.args.store.now) can.ready.written; vars = woken.vars; turned = record { all = no_room c.if-not-room.true c.room.ensures (g.met.L.LedgerView.within c.args.ledger.now); over = turn_over (c.in_ok-line.ensures.turn _ _ can.ready) some (woken.rest (ap Ok c.if-woken.false)); agrees = can.agrees }; cause = answered }
+returns-then-not-room g c = let can = c.requires.can in let woken = c.in_ok-woken.ensures in let some = not_empty {n = vec_len c.line.inside.lits} c.in_ok-line.line.lits c.is_empty.ensures c.if-is_empty.false (c.line.inside.lits.ok.0 ∙ ap (λ l. length l.lits) c.line.view_is) in record { written = still_written (g.met.L.Ledger.moves_refl c.args.ledger.now c.args.store.now) can.ready.written; vars = woken.vars; turned = record { all = no_room c.if-not-room.true c.room.ensures (g.met.L.LedgerView.within c.args.ledger.now); over = turn_over (c.in_ok-line.ensures.turn _ _ can.ready) some (woken.rest (ap Ok c.if-woken.false)); agrees = can.agrees }; cause = answered }
 
 pub subset_of-requires : goal.subset_of-requires
-subset_of-requires g c = let guide = c.line_of_conflict.new.guide in let some = not_empty c.in_ok-line.line.lits c.is_empty.ensures c.if-is_empty.false (omega (arith, ap (λ l. length l.lits) c.line.view_is)) in subst (IsClause guide.sleepers.vars) (sym (c.deref.ensures.value ∙ ap (λ l. l.lits) c.line.view_is)) (turn_about (c.in_ok-line.ensures.turn _ _ c.requires.can.ready) some guide.sleepers.vars c.in_ok-line.ensures.guided.sleepers)
+subset_of-requires g c = let guide = c.line_of_conflict.new.guide in let some = not_empty {n = vec_len c.line.inside.lits} c.in_ok-line.line.lits c.is_empty.ensures c.if-is_empty.false (c.line.inside.lits.ok.0 ∙ ap (λ l. length l.lits) c.line.view_is) in subst (IsClause guide.sleepers.vars) (sym (c.deref.ensures.value ∙ ap (λ l. l.lits) c.line.view_is)) (turn_about (c.in_ok-line.ensures.turn _ _ c.requires.can.ready) some guide.sleepers.vars c.in_ok-line.ensures.guided.sleepers)
 
 pub wake-requires : goal.wake-requires
 wake-requires g c = let guided = c.in_ok-line.ensures.guided in let same = c.subset_of.ensures.same in let found = c.in-Some.ensures.found in record { within = subst (λ s. c.in-Some.place < length s.clauses) (sym same) found.0; asleep = ap (λ s. get_or s.asleep c.in-Some.place false) same ∙ found.1; decider = guided.decider; vars = ap (λ s. s.vars) same ∙ guided.sleepers; listed = guided.listed }
@@ -65,7 +65,7 @@ learn-requires-clause-fresh g c =
     let line = c.in_ok-line.line in
     let guide = c.line_of_conflict.new.guide in
     let t = c.in_ok-line.ensures.turn _ _ c.requires.can.ready in
-    let some = not_empty line.lits c.is_empty.ensures c.if-is_empty.false (omega (arith, ap (λ l. length l.lits) c.line.view_is)) in
+    let some = not_empty {n = vec_len c.line.inside.lits} line.lits c.is_empty.ensures c.if-is_empty.false (c.line.inside.lits.ok.0 ∙ ap (λ l. length l.lits) c.line.view_is) in
     let eq : c.deref.result.now ≡ line.lits = c.deref.ensures.value ∙ ap (λ l. l.lits) c.line.view_is in
     turn_fresh t some (none_by guide.sleepers line.lits (λ place w a sub. c.in_default.ensures.found place w a (λ o h. subst (λ xs. Contains xs o) (sym eq) (sub o h))))
 
@@ -73,7 +73,7 @@ pub returns-in_err-learn : goal.returns-in_err-learn
 returns-in_err-learn g c = let learned = c.learn.ensures in let kept = c.in_err-learn.ensures.kept in record { written = written_to _ learned.moves learned.base learned.limit (omega (arith, kept.1)) kept.0 c.requires.can.ready.written; vars = refl; turned = IfOk-from_err _ _ c.from_residual-in_err-learn.ensures.0; cause = of_ledger _ c.in_err-learn.was c.from_residual-in_err-learn.ensures.1 learned.cause }
 
 pub go_on-requires : goal.go_on-requires
-go_on-requires g c = let guide = c.line_of_conflict.new.guide in let t = c.in_ok-line.ensures.turn _ _ c.requires.can.ready in let some = not_empty c.in_ok-line.line.lits c.is_empty.ensures c.if-is_empty.false (omega (arith, ap (λ l. length l.lits) c.line.view_is)) in record { formed = c.requires.conflict.formed; backed = turn_backed t some; above = turn_above t some; guided = subst (λ s. IsGuided c.args.core.now (record guide { sleepers = s })) (sym c.subset_of.ensures.same) c.in_ok-line.ensures.guided }
+go_on-requires g c = let guide = c.line_of_conflict.new.guide in let t = c.in_ok-line.ensures.turn _ _ c.requires.can.ready in let some = not_empty {n = vec_len c.line.inside.lits} c.in_ok-line.line.lits c.is_empty.ensures c.if-is_empty.false (c.line.inside.lits.ok.0 ∙ ap (λ l. length l.lits) c.line.view_is) in record { formed = c.requires.conflict.formed; backed = turn_backed t some; above = turn_above t some; guided = subst (λ s. IsGuided c.args.core.now (record guide { sleepers = s })) (sym c.subset_of.ensures.same) c.in_ok-line.ensures.guided }
 
 pub returns-in_err-anew : goal.returns-in_err-anew
 returns-in_err-anew g c = let t = c.in_ok-line.ensures.turn _ _ c.requires.can.ready in let learned = c.learn.ensures in let added = c.in_ok-learn.ensures in record { written = written_to _ learned.moves learned.base learned.limit (omega (arith, added.spent)) added.lines (turn_written t); vars = c.go_on.ensures.vars; turned = IfOk-from_err _ _ c.from_residual-in_err-anew.ensures.0; cause = no_memory_after _ c.in_ok-learn.was c.from_residual-in_err-anew.ensures.1 learned.cause }
@@ -85,7 +85,7 @@ rest_if_due-requires g c =
     let line = c.in_ok-line.line in
     let guide = c.line_of_conflict.new.guide in
     let t = c.in_ok-line.ensures.turn _ _ c.requires.can.ready in
-    let some = not_empty line.lits c.is_empty.ensures c.if-is_empty.false (omega (arith, ap (λ l. length l.lits) c.line.view_is)) in
+    let some = not_empty {n = vec_len c.line.inside.lits} line.lits c.is_empty.ensures c.if-is_empty.false (c.line.inside.lits.ok.0 ∙ ap (λ l. length l.lits) c.line.view_is) in
     let eq : c.deref.result.now ≡ line.lits = c.deref.ensures.value ∙ ap (λ l. l.lits) c.line.view_is in
     let fresh = turn_fresh t some (none_by guide.sleepers line.lits (λ place w a sub. c.in_default.ensures.found place w a (λ o h. subst (λ xs. Contains xs o) (sym eq) (sub o h)))) in
     let ready : IsReady (V.base old) (V.lines old) c.args.core.now guide.awake c.subset_of.new.self = subst (IsReady (V.base old) (V.lines old) c.args.core.now guide.awake) (sym c.subset_of.ensures.same) t.ready in
