@@ -64,8 +64,8 @@ module _ {base : FormulaValue} {lines : List ProofLineValue} {core : CoreValue} 
     turn_about vars e = subst (λ n. IsClause n line.lits) (sym e) (backed_within core line.lits t.conflicts.formed turn_backed)
 
 -- the clauses that sleep, of which by place none has its literals in a clause
-pub none_by : (s : SleepersValue) (clause : List LitValue) → ((place : ℕ) → place < length s.clauses → get_or s.asleep place false ≡ true → ((l : LitValue) → Contains (get_or s.clauses place []) l → Contains clause l) → ⊥) → HasNone s clause
-none_by s clause none = λ other a sub. none a.0 a.1.within a.1.asleep (λ l c. sub l (subst (λ xs. Contains xs l) a.2 c))
+pub none_by : (s : SleepersValue) (read clause : List LitValue) → read ≡ clause → ((place : ℕ) → place < length s.clauses → get_or s.asleep place false ≡ true → ((l : LitValue) → Contains (get_or s.clauses place []) l → Contains read l) → ⊥) → HasNone s clause
+none_by s read clause is none = λ other a sub. none a.0 a.1.within a.1.asleep (λ l c. subst (λ xs. Contains xs l) (sym is) (sub l (subst (λ xs. Contains xs l) a.2 c)))
 
 pub not_empty : {n : ℕ} {empty : Bool} (lits : List LitValue) → empty ≡ eqb n 0 → empty ≡ false → n ≡ length lits → 0 < length lits
 not_empty {n} lits is full len = ⊎_elim (λ w. w) (λ z. absurd (eqb-false n 0 (sym is ∙ full) (omega (arith, z, len)))) (cases_lt 0 (length lits))

@@ -1,5 +1,5 @@
-use Rattle.std.proofs.Common.{◌≡◌, sym, ap, ◌∙◌, subst, arith}
-use Rattle.sat_core.{specs.inner.Jumping.IsBacked, proofs.{Jumping.{backed_within, backed_differ, lower_levels}, backjump.go_back.Goals.{then-anew, else-anew}}}
+use Rattle.std.proofs.Common.{ap, ◌∙◌, arith}
+use Rattle.sat_core.proofs.{Jumping.{backed_within, backed_differ, lower_levels}, backjump.go_back.Goals.{then-anew, else-anew}}
 use Rattle.sat_core.proofs.backjump.go_back.Goals as goal
 
 pub add_clause-requires-clause-within : goal.add_clause-requires-clause-within
@@ -9,13 +9,4 @@ pub add_clause-requires-clause-once : goal.add_clause-requires-clause-once
 add_clause-requires-clause-once c = rw (c.as_slice-lits.ensures.value ∙ ap (λ l. l.lits) c.line.view_is) (backed_differ c.args.core.now c.args.line.now.lits c.requires.backed)
 
 pub jump-requires-clause-above : goal.jump-requires-clause-above
-jump-requires-clause-above c =
-    let core = c.args.core.now in
-    let lits = c.as_slice-lits.result.now in
-    let backed : IsBacked core lits = subst (IsBacked core) (sym (c.as_slice-lits.ensures.value ∙ ap (λ l. l.lits) c.line.view_is)) c.requires.backed in
-    elim c.if-anew.branch [
-      | then-anew b ↦ absurd (c.if-level-eq0.false b.level-is)
-      | else-anew b ↦
-          let low = lower_levels core lits b.highest-level.result c.requires.formed c.requires.above backed (b.highest-level.ensures.attained (omega (arith, b.level-is, c.if-level-eq0.false))) in
-          omega (arith, low, b.level-is)
-    ]
+jump-requires-clause-above c = grind (arith, then-anew, else-anew, lower_levels)

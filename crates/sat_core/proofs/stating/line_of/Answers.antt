@@ -1,4 +1,4 @@
-use Rattle.std.proofs.Common.{◌≡◌, refl, sym, ap, ◌∙◌, subst, Contains, get_or, true}
+use Rattle.std.proofs.Common.{◌≡◌, refl, sym, ap, ◌∙◌, get_or, true}
 use Rattle.cnf_formula.specs.Literals.{LitValue, code_of}
 use Rattle.conflict_analysis.{specs.{Met.lit_at, UnitLines.denied}, proofs.Resolved.place_read}
 use Rattle.sat_core.proofs.{Hinted.hints_names, Readiness.ready_same, Turning.none_by, Stated.{HasUnitLine, stating_is, stating_about}}
@@ -30,6 +30,5 @@ returns-clause-line c = λ base lines ready.
     let x : LitValue = c.index-trail-place.result in
     let at : x ≡ lit_at core c.args.place = place_read core c.trail.result.now c.args.place x c.trail.ensures.value c.requires.place c.index-trail-place.is in
     let t : HasUnitLine base lines core guide.awake guide.sleepers c.args.place c.in_ok-unit.unit line = record { ready = ready; formed = c.trail.ensures.formed; within = c.requires.place; is = c.in_ok-unit.ensures.settled; named = c.in_ok-line.ensures.line } in
-    let eq : c.deref.result.now ≡ line.lits = c.deref.ensures.value ∙ ap (λ l. l.lits) c.line.view_is in
-    let none = none_by guide.sleepers line.lits (λ place w a sub. c.in_default.ensures.found place w a (λ o h. subst (λ xs. Contains xs o) (sym eq) (sub o h))) in
+    let none = none_by guide.sleepers _ line.lits (c.deref.ensures.value ∙ ap (λ l. l.lits) c.line.view_is) c.in_default.ensures.found in
     stating_is base lines core guide.awake _ guide.sleepers c.args.place c.in_ok-unit.unit line c.args.stated.now t c.named.ensures.held c.requires.stated (ap (λ y. get_or c.args.stated.now (code_of y) true) (sym at) ∙ c.is_stated.ensures c.if-is_stated.false) none

@@ -1,4 +1,4 @@
-use Rattle.std.proofs.{Common.{Ok, ◌≡◌, ◌<◌, length, [], refl, sym, ap, ◌∙◌, subst, inl, inr, arith, vec_len, get_or, false, Contains}, lemmas.{Bool.eqb-true, List.nil_from_length, Result.IfOk-from_err}}
+use Rattle.std.proofs.{Common.{Ok, ◌≡◌, ◌<◌, length, [], refl, sym, ap, ◌∙◌, subst, inl, inr, arith, vec_len, get_or, false}, lemmas.{Bool.eqb-true, List.nil_from_length, Result.IfOk-from_err}}
 use Rattle.cnf_formula.specs.Formulas.{IsClause}
 use Rattle.sleeping_clauses.specs.Sleeping.{sleeping}
 use Rattle.sat_core.{specs.{inner.Guided.IsGuided, Ready.IsReady}, proofs.{Caused.{after, answered, answered_after, handed_on, no_memory, no_memory_after, of_ledger, unmoved}, Ending.{closed_few, no_room}}}
@@ -17,21 +17,13 @@ returns-in_err-close g c = let closed = c.close.ensures in record { written = wr
 pub returns-then-is_empty : goal.returns-then-is_empty
 returns-then-is_empty g c =
     let V = g.L.LedgerView in
-    let laws = g.met.L.LedgerView in
     let old = c.args.ledger.now in
     let closed = c.close.ensures in
-    let line = c.in_ok-line.line in
     let are = c.in_ok-close.ensures.lines in
     let t = c.in_ok-line.ensures.turn _ _ c.requires.can.ready in
-    let none : line.lits ≡ [] = let z : vec_len c.line.inside.lits ≡ 0 = eqb-true _ 0 (sym c.is_empty.ensures ∙ c.if-is_empty.true) in
-    nil_from_length line.lits (omega (arith, z, ap (λ l. length l.lits) c.line.view_is)) in
-    let few = closed_few (V.base old) (V.lines old) (V.lines c.close.new.self) line (V.spent old) (V.limit old) c.requires.can.ready.fresh (laws.charged old) (laws.within old) are in
-    record {
-      written = written_to _ closed.moves closed.base closed.limit (omega (arith, closed.spent)) are (turn_written t);
-      vars = refl;
-      turned = record { refutes = rw (closed.base, are) (turn_refuted t none); few = omega (arith, few, closed.limit); agrees = c.in_ok-close.ensures.agrees };
-      cause = answered_after c.in_ok-close.was closed.cause;
-    }
+    let none = nil_from_length c.in_ok-line.line.lits (sym (c.line.inside.lits.ok.0 ∙ ap (λ l. length l.lits) c.line.view_is) ∙ eqb-true (vec_len c.line.inside.lits) 0 (sym c.is_empty.ensures ∙ c.if-is_empty.true)) in
+    let few = closed_few (V.base old) (V.lines old) (V.lines c.close.new.self) c.in_ok-line.line (V.spent old) (V.limit old) c.requires.can.ready.fresh (g.met.L.LedgerView.charged old) (g.met.L.LedgerView.within old) are in
+    record { written = written_to _ closed.moves closed.base closed.limit (omega (arith, closed.spent)) are (turn_written t); vars = refl; turned = record { refutes = rw (closed.base, are) (turn_refuted t none); few = omega (arith, few, closed.limit); agrees = c.in_ok-close.ensures.agrees }; cause = answered_after c.in_ok-close.was closed.cause }
 
 pub wake_due-requires : goal.wake_due-requires
 wake_due-requires g c = let guided = c.in_ok-line.ensures.guided in let some = not_empty {n = vec_len c.line.inside.lits} c.in_ok-line.line.lits c.is_empty.ensures c.if-is_empty.false (c.line.inside.lits.ok.0 ∙ ap (λ l. length l.lits) c.line.view_is) in record { above = turn_above (c.in_ok-line.ensures.turn _ _ c.requires.can.ready) some; decider = guided.decider; vars = guided.sleepers; listed = guided.listed }
@@ -61,13 +53,7 @@ pub learn-requires-clause-implied : goal.learn-requires-clause-implied
 learn-requires-clause-implied g c = turn_accepted (c.in_ok-line.ensures.turn _ _ c.requires.can.ready)
 
 pub learn-requires-clause-fresh : goal.learn-requires-clause-fresh
-learn-requires-clause-fresh g c =
-    let line = c.in_ok-line.line in
-    let guide = c.line_of_conflict.new.guide in
-    let t = c.in_ok-line.ensures.turn _ _ c.requires.can.ready in
-    let some = not_empty {n = vec_len c.line.inside.lits} line.lits c.is_empty.ensures c.if-is_empty.false (c.line.inside.lits.ok.0 ∙ ap (λ l. length l.lits) c.line.view_is) in
-    let eq : c.deref.result.now ≡ line.lits = c.deref.ensures.value ∙ ap (λ l. l.lits) c.line.view_is in
-    turn_fresh t some (none_by guide.sleepers line.lits (λ place w a sub. c.in_default.ensures.found place w a (λ o h. subst (λ xs. Contains xs o) (sym eq) (sub o h))))
+learn-requires-clause-fresh g c = turn_fresh (c.in_ok-line.ensures.turn _ _ c.requires.can.ready) (not_empty {n = vec_len c.line.inside.lits} c.in_ok-line.line.lits c.is_empty.ensures c.if-is_empty.false (c.line.inside.lits.ok.0 ∙ ap (λ l. length l.lits) c.line.view_is)) (none_by c.line_of_conflict.new.guide.sleepers _ c.in_ok-line.line.lits (c.deref.ensures.value ∙ ap (λ l. l.lits) c.line.view_is) c.in_default.ensures.found)
 
 pub returns-in_err-learn : goal.returns-in_err-learn
 returns-in_err-learn g c = let learned = c.learn.ensures in let kept = c.in_err-learn.ensures.kept in record { written = written_to _ learned.moves learned.base learned.limit (omega (arith, kept.1)) kept.0 c.requires.can.ready.written; vars = refl; turned = IfOk-from_err _ _ c.from_residual-in_err-learn.ensures.0; cause = of_ledger _ c.in_err-learn.was c.from_residual-in_err-learn.ensures.1 learned.cause }
@@ -80,22 +66,10 @@ returns-in_err-anew g c = let t = c.in_ok-line.ensures.turn _ _ c.requires.can.r
 
 pub rest_if_due-requires : goal.rest_if_due-requires
 rest_if_due-requires g c =
-    let V = g.L.LedgerView in
-    let old = c.args.ledger.now in
-    let line = c.in_ok-line.line in
-    let guide = c.line_of_conflict.new.guide in
     let t = c.in_ok-line.ensures.turn _ _ c.requires.can.ready in
-    let some = not_empty {n = vec_len c.line.inside.lits} line.lits c.is_empty.ensures c.if-is_empty.false (c.line.inside.lits.ok.0 ∙ ap (λ l. length l.lits) c.line.view_is) in
-    let eq : c.deref.result.now ≡ line.lits = c.deref.ensures.value ∙ ap (λ l. l.lits) c.line.view_is in
-    let fresh = turn_fresh t some (none_by guide.sleepers line.lits (λ place w a sub. c.in_default.ensures.found place w a (λ o h. subst (λ xs. Contains xs o) (sym eq) (sub o h)))) in
-    let ready : IsReady (V.base old) (V.lines old) c.args.core.now guide.awake c.subset_of.new.self = subst (IsReady (V.base old) (V.lines old) c.args.core.now guide.awake) (sym c.subset_of.ensures.same) t.ready in
-    record {
-      can = record {
-        ready = ready_at V _ c.learn.ensures.base c.in_ok-learn.ensures.lines (c.in_ok-anew.ensures.ready (V.base old) (V.lines old) ready (turn_written t) fresh t.named.id);
-        guided = c.in_ok-anew.ensures.guided;
-        agrees = c.in_ok-learn.ensures.agrees;
-      };
-    }
+    let fresh = turn_fresh t (not_empty {n = vec_len c.line.inside.lits} c.in_ok-line.line.lits c.is_empty.ensures c.if-is_empty.false (c.line.inside.lits.ok.0 ∙ ap (λ l. length l.lits) c.line.view_is)) (none_by c.line_of_conflict.new.guide.sleepers _ c.in_ok-line.line.lits (c.deref.ensures.value ∙ ap (λ l. l.lits) c.line.view_is) c.in_default.ensures.found) in
+    let ready = subst (IsReady _ _ c.args.core.now c.line_of_conflict.new.guide.awake) (sym c.subset_of.ensures.same) t.ready in
+    record { can = record { ready = ready_at g.L.LedgerView _ c.learn.ensures.base c.in_ok-learn.ensures.lines (c.in_ok-anew.ensures.ready _ _ ready (turn_written t) fresh t.named.id); guided = c.in_ok-anew.ensures.guided; agrees = c.in_ok-learn.ensures.agrees } }
 
 pub returns-in_err-rest_if_due : goal.returns-in_err-rest_if_due
 returns-in_err-rest_if_due g c = let t = c.in_ok-line.ensures.turn _ _ c.requires.can.ready in let learned = c.learn.ensures in let added = c.in_ok-learn.ensures in let rested = c.rest_if_due.ensures in record { written = written_then (g.met.L.Ledger.moves_trans _ _ _ _ _ _) (written_to _ learned.moves learned.base learned.limit (omega (arith, added.spent)) added.lines (turn_written t)) rested.written; vars = rested.vars ∙ c.go_on.ensures.vars; turned = IfOk-from_err _ _ c.from_residual-in_err-rest_if_due.ensures.0; cause = after (unmoved c.in_ok-learn.was learned.cause) (handed_on _ c.in_err-rest_if_due.was c.from_residual-in_err-rest_if_due.ensures.1 rested.cause) }
