@@ -1,4 +1,4 @@
-use Rattle.std.proofs.Common.{◌≡◌, length, ap, ◌∙◌, subst, sym, arith, All, flat_map}
+use Rattle.std.proofs.Common.{length, ap, ◌∙◌, subst, sym, arith, All, flat_map}
 use Rattle.cnf_formula.specs.{Literals.IsLit, Formulas.IsClause}
 use Rattle.sat_core.{specs.inner.Loading.IsLoaded, proofs.Loaded.{clauses_own, numbered_from, ready_loaded}}
 use Rattle.sat_core.proofs.loading.load.Goals as goal

@@ -1,4 +1,4 @@
-use Rattle.std.{proofs.{Common.{◌≡◌, length, map, Result, Ok, Err, sym, ap, ◌∙◌, subst, arith}, lemmas.{Result.IfOk-at_ok, Bool.true≢false}}, specs.Result.{IsOk, OnOk}}
+use Rattle.std.{proofs.{Common.{◌≡◌, length, map, Result, Ok, Err, sym, ap, ◌∙◌, subst}, lemmas.{Result.IfOk-at_ok, Bool.true≢false}}, specs.Result.{IsOk, OnOk}}
 use Rattle.cnf_formula.specs.{Formulas.Satisfies, declared.line.LratLine.TheVariants.Addition}
 use Rattle.proof_rules.specs.{Refuting.{Refutes, SpentLog}}
 use Rattle.trail_core.specs.Meaning.{trues}

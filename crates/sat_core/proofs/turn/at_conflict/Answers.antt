@@ -1,4 +1,4 @@
-use Rattle.std.proofs.{Common.{Ok, ◌≡◌, ◌<◌, length, [], refl, sym, ap, ◌∙◌, subst, inl, inr, arith, vec_len, get_or, false}, lemmas.{Bool.eqb-true, List.nil_from_length, Result.IfOk-from_err}}
+use Rattle.std.proofs.{Common.{Ok, ◌≡◌, ◌<◌, length, refl, sym, ap, ◌∙◌, subst, inl, inr, arith, vec_len, get_or, false}, lemmas.{Bool.eqb-true, List.nil_from_length, Result.IfOk-from_err}}
 use Rattle.cnf_formula.specs.Formulas.{IsClause}
 use Rattle.sleeping_clauses.specs.Sleeping.{sleeping}
 use Rattle.sat_core.{specs.{inner.Guided.IsGuided, Ready.IsReady}, proofs.{Caused.{after, answered, answered_after, handed_on, no_memory, no_memory_after, of_ledger, unmoved}, Ending.{closed_few, no_room}}}
