@@ -48,7 +48,6 @@ pub fn wake(
 
 /// Whether a clause lets nothing follow by unit propagation: one of its literals is true, or two are
 /// open.
-#[tactic(auto, using(crate::proofs::Spent::open_rests))]
 fn rests(core: &Core, lits: &[Lit]) -> bool
     requires { All (IsAbout core.now.vars) lits.now }
     ensures { result ≡ true → IsClosed (trues core.now) (lits.now ∷ []) }
