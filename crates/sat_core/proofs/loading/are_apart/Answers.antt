@@ -1,9 +1,6 @@
-use Rattle.std.proofs.{Common.{arith, sym, ap, ◌∙◌, length, take}, lemmas.List.{length-set}}
+use Rattle.std.proofs.{Common.{ap, ◌∙◌, length, take}, lemmas.List.{length-set}}
 use Rattle.sat_core.proofs.Loaded.{keeping_new, next_taken}
 use Rattle.sat_core.proofs.loading.are_apart.Goals as goal
-
-pub marks_at-requires : goal.marks_at-requires
-marks_at-requires c = λ l. let r = c.requires.room c.lit-item.result l (c.loop-lit.lit-index, c.loop-lit-test.true, sym c.lit-item.is) in omega (arith, r, c.loop-lit.invariant.len)
 
 pub loop-lit-preserved : goal.loop-lit-preserved
 loop-lit-preserved c =

@@ -2,9 +2,6 @@ use Rattle.std.proofs.{Common.{arith, ap, ◌∙◌, length, subst, sym, take, �
 use Rattle.sat_core.{specs.inner.Holding.IsSame, proofs.{Loaded.{IsKeeping, keeping_new, keeping_old}, loading.once_each.Goals.{then-marks_at+in_ok-push, else-marks_at}}}
 use Rattle.sat_core.proofs.loading.once_each.Goals as goal
 
-pub marks_at-requires : goal.marks_at-requires
-marks_at-requires c = λ l. let r = c.requires.room c.lit-item.result l (c.loop-lit.lit-index, c.loop-lit-test.true, sym c.lit-item.is) in omega (arith, r, c.loop-lit.invariant.len)
-
 pub loop-lit-preserved : goal.loop-lit-preserved
 loop-lit-preserved c =
     let i = c.loop-lit.invariant in
