@@ -1,5 +1,5 @@
 -- The cause of a fault, from call to call, and what a fault that is handed on leaves open.
-use Rattle.std.{proofs.{Common.{◌≡◌, ℕ, Result, Ok, Err, refl, sym, ap, ◌∙◌, subst, arith, ◌≢◌, IsErrAnd, OnOk}, lemmas.{Bool.false≢true, Result.IfOk-from_err}}, specs.Result.{IsErr, is_err}}
+use Rattle.std.{proofs.{Common.{◌≡◌, ℕ, Result, Ok, Err, refl, sym, ap, ◌∙◌, subst, arith, ◌≢◌, IsErrAnd, OnOk}, lemmas.Bool.false≢true}, specs.Result.{IsErr, is_err}}
 use Rattle.outer_ports.specs.Port.{HasCause}
 use Rattle.ledger_rules.specs.declared.fault.LedgerFault.{LedgerFault}
 use Rattle.ledger_rules.specs.declared.fault.LedgerFault.TheVariants as ledger
@@ -61,6 +61,3 @@ answered_after is cause = after (unmoved is cause) answered
 -- memory ran out after a call that gave an answer
 pub no_memory_after : {A T E : Type 0} {fault : E} {before now : ℕ} {one : Result A E} {is : A} (last : Result T SolveFault) → one ≡ Ok is → IsErrAnd last (λ e. e ≡ OutOfMemory) → HasCause fault before now one → HasCause LedgerFailed before now last
 no_memory_after last is h cause = after (unmoved is cause) (no_memory last h)
-
--- what is said of an answer is said of no fault
-pub ruleset handed_steps = (IfOk-from_err)
