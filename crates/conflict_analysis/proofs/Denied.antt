@@ -65,7 +65,9 @@ pub reasoned_here : (core : CoreValue) (place : ℕ) (w : WalkValue) → IsWalke
 reasoned_here core place w d = reasoned_at core place w place d d.within d.seen
 
 resolved_at : (core : CoreValue) (place : ℕ) (w : WalkValue) (k : ℕ) → IsWalked core place w → k < length core.trail → w.stamp ≤ mark_of w (lit_at core k) → resolved_of w (step_at core k) ≡ true
-resolved_at core place w k d v seen = grind (arith, reasoned_at, reason_kept, eq-eqb, taken_at)
+resolved_at core place w k d v seen =
+    let r = reasoned_at core place w k d v seen in
+    reason_kept (step_at core k).reason (resolved_by w (step_at core k)) r.id r.reason ∙ eq-eqb (mark_of w (lit_at core k)) (w.stamp + 2) (taken_at core place w k d v seen)
 
 -- ---- the trail with the negation
 
@@ -158,4 +160,5 @@ pub walked_by : (core : CoreValue) (place : ℕ) (o : LitValue) (a b c : WalkVal
 walked_by core place o a b c w bottom e begun m h above = grind (arith, here o [], met_unresolved)
 
 pub unit_line_by : (core : CoreValue) (place : ℕ) (w : WalkValue) (line : ProofLineValue) → IsWalked core place w → line.lits ≡ lit_at core place ∷ [] → line.hints ≡ reverse w.hints → IsUnitLine core place line
-unit_line_by core place w line d lits hints = grind (arith, reasoned_here core place w d, reasoned_here, denied_analysis core place w d, denied_hints core place w d)
+unit_line_by core place w line d lits hints =
+    record { conflict = (reasoned_here core place w d).id; resolved = resolved_of w; lits = lits; analysis = rw lits (denied_analysis core place w d); hints = hints ∙ denied_hints core place w d }

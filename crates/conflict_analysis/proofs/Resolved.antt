@@ -32,7 +32,9 @@ step_read core k l r t w e c = grind (arith, get_or_default core.trail c.0 no_st
 
 -- a step that has a reason is implied
 pub reason_implied : (core : CoreValue) (k : ℕ) (l : LitValue) (id : ℕ) → AreGrounded core → IsTrail core.vars core.trail core.limits → k < length core.trail → l ≡ lit_at core k → Contains core.trail (record { lit = l; reason = Some id }) → IsImplied core.clauses (IsDue core.limits) (take k core.trail) (step_at core k)
-reason_implied core k l id g t w e c = grind (arith, step_read core k l (Some id) t w e c, ⊎_elim)
+reason_implied core k l id g t w e c =
+    let r = step_read core k l (Some id) t w e c in
+    ⊎_elim (λ d. let none = d.0 in absurd (cc)) (λ i. i) (g k no_step w)
 
 -- ---- a step is taken
 
@@ -81,7 +83,9 @@ module _ (core : CoreValue) (w w' : WalkValue) (place : ℕ) (t : IsTaken core p
   marks_from : (k : ℕ) → k < length core.trail → k ≢ place → w'.stamp ≤ mark_of w' (lit_at core k) → (mark_of w' (lit_at core k) ≡ mark_of w (lit_at core k)) ⊎ ((k < place) × (mark_of w' (lit_at core k) ≢ w'.stamp + 2))
   marks_from k v n g = ⊎_elim
       (λ seen. inl (t.met.stays (lit_at core k).var seen ∙ other_mark core w place t.step k v n))
-      (λ q. grind (arith, n, t.step.implied.unit.others q.0 q.1, same_place core k place t.step.formed v t.step.within, before_at core w place t.step k q.0 v q.2, q.3, t.met.stamp, ⊎_elim))
+      (λ q.
+      let lower = ⊎_elim (λ i. absurd (n (same_place core k place t.step.formed v t.step.within (sym q.2 ∙ ap (λ x. x.var) i)))) (λ f. before_at core w place t.step k q.0 v q.2 f) (t.step.implied.unit.others q.0 q.1) in
+      inr (lower, λ e. q.3 (omega (arith, e, t.met.stamp))))
       (t.met.new (lit_at core k).var (omega (arith, g, t.met.stamp)))
 
   marks_stay : (k : ℕ) → k < length core.trail → k ≢ place → w.stamp ≤ mark_of w (lit_at core k) → mark_of w' (lit_at core k) ≡ mark_of w (lit_at core k)
@@ -151,7 +155,9 @@ module _ (core : CoreValue) (a w b : WalkValue) (opens bottoms place : ℕ) (t :
   }
 
   pub open_on : (0 < length core.limits → level_at core.limits place < length core.limits) → HasSameOpen core a w → HasSameOpen core a b
-  open_on low p = grind (arith, taken_open core (record w { open_ = opens; zeros = bottoms }) b place t low)
+  open_on low p =
+      let q = taken_open core (record w { open_ = opens; zeros = bottoms }) b place t low in
+      record { before = λ k v e. p.before k v (q.before k v e); after = λ k v e. q.after k v (p.after k v e) }
 
   pub above_on : (from : ℕ) → place < from → HasSameAbove core from a w → HasSameAbove core from a b
   above_on from lt p = record { above = λ k v ge e. p.above k v ge (resolved_before core (record w { open_ = opens; zeros = bottoms }) b place t k v (λ h. omega (arith, h, lt, ge)) e) }

@@ -35,7 +35,6 @@ fn walk_last(core: &Core, walk: &mut Walk) -> Result<usize, OutOfMemory>
 }
 
 /// The literal of the last level whose step still waits.
-#[tactic(auto, using(trail_core::proofs::Keeping::lits_length))]
 fn point_below(core: &Core, walk: &Walk, from: usize) -> Lit
     requires sorted { IsSorted core.now (value_of walk.now) }
     requires few { walk.now.stamp ≤ 251 }

@@ -18,7 +18,6 @@ pub fn hint(id: ClauseId) -> i64
 
 /// Meets a false literal: it is kept where it became false between level 0 and the last level, and
 /// else its step waits.
-#[tactic(auto, using(std::proofs::lemmas::Bool::Decides::nat_tests, std::proofs::lemmas::Grind::common_steps, crate::proofs::Marked::unmet_by, crate::proofs::Marked::at_false))]
 pub fn meet(core: &Core, walk: &mut Walk, lit: Lit) -> Result<(), OutOfMemory>
     requires formed { IsTrail core.now.vars core.now.trail core.now.limits }
     requires sorted { IsSorted core.now (value_of walk.old) }
@@ -52,7 +51,6 @@ pub fn meet(core: &Core, walk: &mut Walk, lit: Lit) -> Result<(), OutOfMemory>
 }
 
 /// Meets the literals of a clause.
-#[tactic(auto, using(crate::proofs::Marked::met_none, crate::proofs::Marked::met_still, crate::proofs::Marked::read_stands, crate::proofs::Marked::met_whole))]
 pub fn meet_all(core: &Core, walk: &mut Walk, id: ClauseId) -> Result<(), OutOfMemory>
     requires formed { IsTrail core.now.vars core.now.trail core.now.limits }
     requires sorted { IsSorted core.now (value_of walk.old) }
@@ -120,7 +118,6 @@ pub fn met_between(walk: &Walk, from: usize, place: usize) -> Option<usize>
 }
 
 /// Takes a step for its reason.
-#[tactic(auto, using(std::proofs::lemmas::Bool::Decides::nat_tests, std::proofs::lemmas::Grind::common_steps, crate::proofs::Resolved::place_read, crate::proofs::Marked::lit_stands))]
 pub fn resolve(core: &Core, walk: &mut Walk, place: usize) -> Result<(), OutOfMemory>
     requires few { walk.old.stamp ≤ 251 }
     requires step { IsStep core.now (value_of walk.old) place }

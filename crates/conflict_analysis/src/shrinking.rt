@@ -16,7 +16,6 @@ use trail_core::Core;
 
 /// Passes a place of a level. Whether its literal is kept, has a reason, and the level has a point
 /// or others are found to imply the literal.
-#[tactic(auto, using(std::proofs::lemmas::Bool::Decides::nat_tests, std::proofs::lemmas::Grind::common_steps, crate::proofs::Resolved::place_read, crate::proofs::Marked::lit_stands))]
 fn is_spare(
     core: &Core,
     walk: &Walk,
@@ -44,7 +43,6 @@ fn is_spare(
 /// Resolves the steps of a level between level 0 and the last level whose literals are to be taken
 /// out. One that is left alone of its level stays: its reasons lead to the decision of the level, so
 /// the others do not imply it.
-#[tactic(auto, using(std::proofs::lemmas::Bool::Decides::nat_tests, std::proofs::lemmas::Grind::common_steps, crate::proofs::Levels::limits_rise, crate::proofs::Waiting::walked_none, crate::proofs::Middle::walked_lower, crate::proofs::Middle::middle_at))]
 fn walk_level(
     core: &Core,
     walk: &mut Walk,

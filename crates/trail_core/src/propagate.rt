@@ -54,7 +54,6 @@ fn another(clause: &[Lit], trail: &Trail, this: Lit, from: usize) -> Option<Stan
 /// Visits a clause that watches a literal which is false, by its entry at a place of the literal's
 /// list: watches another literal of it, or makes the only one that is left true, or returns the
 /// clause, whose literals are all false.
-#[tactic(auto, using(crate::proofs::Visits::scanned_same, crate::proofs::Watching::entry_within))]
 fn visit_clause(
     store: &mut ClauseStore,
     lists: &mut WatchLists,
@@ -100,7 +99,6 @@ fn visit_clause(
 /// literal that is left of it true, or watches another, or returns the clause, whose literals are
 /// all false. A clause that is satisfied by its blocking literal is passed over, and one of two
 /// literals is not read.
-#[tactic(auto, using(crate::proofs::Visits::scanned_same))]
 fn visit(
     store: &mut ClauseStore,
     lists: &mut WatchLists,
@@ -192,7 +190,7 @@ fn settle(store: &ClauseStore, trail: &mut Trail, id: u32) -> bool
 }
 
 /// Makes the literals of all clauses of less than two literals true, up to one that is falsified.
-#[tactic(auto, using(crate::proofs::Visits::implied_same, crate::proofs::Scans::implied_trans))]
+#[tactic(auto, using(crate::proofs::Scans::implied_trans))]
 pub(crate) fn settle_all(store: &ClauseStore, trail: &mut Trail, short: &[u32]) -> Option<u32>
     requires rows { AreRows trail.old.vars store.now }
     requires short { All (IsShort store.now) short.now }

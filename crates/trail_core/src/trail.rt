@@ -241,7 +241,6 @@ impl Trail {
     }
 
     /// Makes an open literal true on the present level, by the clause of this number.
-    #[tactic(auto, using(crate::proofs::Fields::can_push))]
     pub(crate) fn push(&mut self, lit: Lit, reason: u32)
         requires within { lit.var ≤ self.old.vars }
         requires open { IsOpen (lits_of self.old.steps) lit }

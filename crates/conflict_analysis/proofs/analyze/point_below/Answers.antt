@@ -1,7 +1,14 @@
-use Rattle.std.proofs.Common.{◌≡◌, sym, ap, ◌∙◌}
+use Rattle.std.proofs.Common.{◌≡◌, length, sym, ap, ◌∙◌, arith}
+use Rattle.trail_core.proofs.Keeping.{lits_length}
 use Rattle.cnf_formula.specs.Literals.{LitValue}
 use Rattle.conflict_analysis.{specs.Met.{value_of, WalkValue, lit_at, mark_of}, proofs.{Resolved.place_read, Waiting.point_alone}}
 use Rattle.conflict_analysis.proofs.analyze.point_below.Goals as goal
+
+pub waiting_below-requires-clause-some : goal.waiting_below-requires-clause-some
+waiting_below-requires-clause-some c = omega (arith, c.requires.sorted.open_, c.requires.one)
+
+pub bounds-trail-waiting_below : goal.bounds-trail-waiting_below
+bounds-trail-waiting_below c = omega (arith, c.waiting_below.ensures.next.within, ap length c.trail.ensures.value, lits_length c.args.core.now.trail)
 
 pub returns : goal.returns
 returns c =

@@ -1,11 +1,31 @@
-use Rattle.std.proofs.{lemmas.{Bool.Decides.nat_tests, Grind.common_steps}, Common.{◌≡◌, arith}}
-use Rattle.trail_core.specs.{Assigned.level_at}
-use Rattle.conflict_analysis.{specs.Met.value_of, proofs.{Marked.{IsUnmet, met_bottom, met_open, met_kept, unmet_by, unmet_at, level_read, level_within}, meeting.meet.Goals.{After-negated-this, After-level-level}}}
+use Rattle.std.proofs.{Common.{◌≡◌, refl, inl, arith, Contains}, lemmas.List.get_or_default}
+use Rattle.trail_core.specs.{Assigned.level_at, Meaning.trues}
+use Rattle.conflict_analysis.{specs.Met.{value_of, IsSeen}, proofs.{Members.only, Marked.{IsUnmet, met_bottom, met_open, met_kept, unmet_by, unmet_at, at_false, level_read, level_within}, meeting.meet.Goals.{After-negated-this, After-level-level}}}
 use Rattle.conflict_analysis.proofs.meeting.meet.Goals as goal
+
+pub returns-then-index-walk : goal.returns-then-index-walk
+returns-then-index-walk c =
+    let read = get_or_default c.args.walk.now.marks.items c.var-var.result c.index.result.now 0 (omega (arith, c.var-var.ensures.var, c.requires.within, c.requires.sorted.marked.len)) in
+    let seen : IsSeen (value_of c.args.walk.now) c.args.lit = rw (← c.var-var.ensures.var) (omega (arith, read, c.index.ensures, c.if-index-walk.true)) in
+    record { sorted = c.requires.sorted; stamp = refl; hints = refl; seen = λ o h. rw (← only c.args.lit o h) seen; stays = λ v g. refl; new = λ v g. inl g; more = omega arith }
+
+-- the literal's negation stands on the trail
+stands : (c : After-negated-this) → Contains (trues c.args.core.now) c.negated-this.result
+stands c =
+    let was = unmet_by c.args.core.now (value_of c.args.walk.now) c.args.lit c.var-var.result c.index.result.now c.requires.formed c.requires.sorted c.requires.within c.requires.met c.var-var.ensures.var c.index.ensures (omega (arith, c.if-index-walk.false)) in
+    rw c.negated-this.ensures (at_false c.args.core.now c.args.lit was.0 was.1.at)
+
+pub place-place-requires : goal.place-place-requires
+place-place-requires c = stands (goal.at.place-place-requires c).After-negated-this
+
+pub level-level-requires : goal.level-level-requires
+level-level-requires c = stands (goal.at.level-level-requires c).After-negated-this
 
 -- the literal was not met, and became false at this place
 unmet : (c : After-level-level) → IsUnmet c.args.core.now (value_of c.args.walk.now) c.args.lit c.place-place.result
-unmet c = grind (arith, nat_tests, common_steps, unmet_by, unmet_at)
+unmet c =
+    let was = unmet_by c.args.core.now (value_of c.args.walk.now) c.args.lit c.var-var.result c.index.result.now c.requires.formed c.requires.sorted c.requires.within c.requires.met c.var-var.ensures.var c.index.ensures (omega (arith, c.if-index-walk.false)) in
+    unmet_at c.args.core.now (value_of c.args.walk.now) c.args.lit c.negated-this.result was.0 c.place-place.result was.1 c.negated-this.ensures c.place-place.ensures.within c.place-place.ensures.is
 
 -- on this level
 level : (c : After-level-level) → c.level-level.result ≡ level_at c.args.core.now.limits c.place-place.result

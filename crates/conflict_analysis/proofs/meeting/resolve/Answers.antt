@@ -1,8 +1,14 @@
-use Rattle.std.proofs.{lemmas.{Int.to_z-of_z, Result.on_ok_weaker}, Common.{of_z, to_z, rules, w64, ◌≡◌, ◌+◌, ◌<◌, [], length, get_or, set, sym, ◌∙◌, subst, ◌⊎◌, Contains, pos}}
-use Rattle.trail_core.specs.{Assigned.IsFalse, Meaning.trues}
+use Rattle.std.proofs.{lemmas.{Int.to_z-of_z, Result.on_ok_weaker}, Common.{of_z, to_z, rules, w64, ◌≡◌, ◌+◌, ◌<◌, [], length, get_or, set, sym, ap, arith, ◌∙◌, subst, ◌⊎◌, Contains, pos}}
+use Rattle.trail_core.{specs.{Assigned.IsFalse, Meaning.trues}, proofs.Keeping.lits_length}
 use Rattle.conflict_analysis.specs.{Met.{value_of, WalkValue, lit_at, IsSorted, IsSeen, HasMet}, inner.Walks.without}
-use Rattle.conflict_analysis.proofs.{Resolved.{step_read, place_read, reason_some, without_is, without_sorted, others_met, others_within}, meeting.resolve.Goals.After-var}
+use Rattle.conflict_analysis.proofs.{Marked.lit_stands, Resolved.{step_read, place_read, reason_some, without_is, without_sorted, others_met, others_within}, meeting.resolve.Goals.After-var}
 use Rattle.conflict_analysis.proofs.meeting.resolve.Goals as goal
+
+pub bounds-trail-place : goal.bounds-trail-place
+bounds-trail-place c = omega (arith, c.requires.step.within, ap length c.trail.ensures.value, lits_length c.args.core.now.trail)
+
+pub reason-requires : goal.reason-requires
+reason-requires c = rw (place_read c.args.core.now c.trail.result.now c.args.place c.index-trail-place.result c.trail.ensures.value c.requires.step.within c.index-trail-place.is) (lit_stands c.args.core.now c.args.place c.requires.step.within)
 
 pub unwrap-reason-requires : goal.unwrap-reason-requires
 unwrap-reason-requires c =

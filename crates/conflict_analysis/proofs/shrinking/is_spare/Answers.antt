@@ -1,7 +1,14 @@
-use Rattle.std.proofs.{Common.{◌≡◌}}
+use Rattle.std.proofs.Common.{◌≡◌, length, ap, arith}
+use Rattle.trail_core.proofs.Keeping.{lits_length}
 use Rattle.cnf_formula.specs.Literals.{LitValue}
-use Rattle.conflict_analysis.{specs.{Met.{value_of, lit_at}, inner.Walks.IsStep}, proofs.{Resolved.{place_read, reason_implied}, Waiting.kept_step, shrinking.is_spare.Goals.In-Some}}
+use Rattle.conflict_analysis.{specs.{Met.{value_of, lit_at}, inner.Walks.IsStep}, proofs.{Marked.lit_stands, Resolved.{place_read, reason_implied}, Waiting.kept_step, shrinking.is_spare.Goals.In-Some}}
 use Rattle.conflict_analysis.proofs.shrinking.is_spare.Goals as goal
+
+pub bounds-trail-place : goal.bounds-trail-place
+bounds-trail-place c = omega (arith, c.requires.place, ap length c.trail.ensures.value, lits_length c.args.core.now.trail)
+
+pub reason-requires : goal.reason-requires
+reason-requires c = rw (place_read c.args.core.now c.trail.result.now c.args.place c.index-trail-place.result c.trail.ensures.value c.requires.place c.index-trail-place.is) (lit_stands c.args.core.now c.args.place c.requires.place)
 
 -- a literal that is kept and has a reason
 step : (c : In-Some) → IsStep c.args.core.now (value_of c.args.walk.now) c.args.place

@@ -1,6 +1,6 @@
-use Rattle.std.proofs.Common.{◌≡◌, [], ◌∷◌, ◌++◌, sym, ap, ◌∙◌, subst, inr, arith, Contains, reverse}
+use Rattle.std.proofs.Common.{◌≡◌, [], ◌∷◌, ◌++◌, length, sym, ap, ◌∙◌, subst, inr, arith, Contains, reverse}
 use Rattle.cnf_formula.specs.Literals.{negation}
-use Rattle.trail_core.{specs.{Meaning.trues, Assigned.IsFalse}, proofs.Keeping.negated_twice}
+use Rattle.trail_core.{specs.{Meaning.trues, Assigned.IsFalse}, proofs.Keeping.{lits_length, negated_twice}}
 use Rattle.conflict_analysis.specs.Met.{value_of, WalkValue, lit_at}
 use Rattle.conflict_analysis.proofs.{Marked.{lit_stands, lit_about}, Pointed.{IsBegun, begun_sorted}, Resolved.place_read, Denied.{met_from, walked_by, unit_line_by}, unit_line.unit_at.Goals.After-begin}
 use Rattle.conflict_analysis.proofs.unit_line.unit_at.Goals as goal
@@ -12,6 +12,9 @@ begun c = let e = c.begin.ensures in record { len = e.len ∙ c.requires.rested.
 -- the literal that is read is the step's
 read : (c : After-begin) → c.index-trail-place.result ≡ lit_at c.args.core.now c.args.place
 read c = place_read c.args.core.now c.trail.result.now c.args.place c.index-trail-place.result c.trail.ensures.value c.requires.place c.index-trail-place.is
+
+pub bounds-trail-place : goal.bounds-trail-place
+bounds-trail-place c = omega (arith, c.requires.place, ap length c.trail.ensures.value, lits_length c.args.core.now.trail)
 
 pub meet-requires-clause-sorted : goal.meet-requires-clause-sorted
 meet-requires-clause-sorted c = begun_sorted c.args.core.now (value_of c.begin.new.self) (begun (goal.at.meet-requires-clause-sorted c).After-begin)

@@ -1,6 +1,19 @@
 use Rattle.std.proofs.{Common.{◌-◌, length, take, subst, ⊎_elim, arith}, lemmas.Bool.cases_lt}
-use Rattle.trail_core.{specs.{Assigned.IsFalse, Trails.lits_of}, proofs.{Keeping.lits_length, Added.{IsOnce, recent_not_below}}}
+use Rattle.cnf_formula.specs.Literals.{negation}
+use Rattle.trail_core.{specs.{Assigned.IsFalse, Trails.lits_of}, proofs.{Keeping.{in_front, lits_length}, Added.{IsOnce, recent_not_below}}}
 use Rattle.trail_core.proofs.adding.resumed.Goals as goal
+
+pub returns-then-is_false-2-clause-below : goal.returns-then-is_false-2-clause-below
+returns-then-is_false-2-clause-below c =
+    let n = length c.args.trail.now.limits in
+    let x = c.bottom.ensures in
+    ⊎_elim (λ above. omega (arith, x.high (n - 1) (omega (arith, above)), c.requires.head (n - 1) (omega (arith, above)))) (λ low. omega (arith, x.low (omega (arith, low)))) (cases_lt 0 n)
+
+pub returns-then-is_false-2-clause-first : goal.returns-then-is_false-2-clause-first
+returns-then-is_false-2-clause-first c = λ f. ⊎_elim
+    (λ above. (c.requires.place above).0.not_false (in_front c.bottom.result (lits_of c.args.trail.now.steps) (negation c.args.first) f))
+    (λ low. absurd (let none = rw (c.bottom.ensures.low (omega (arith, low))) at f in omega (arith, none.1)))
+    (cases_lt 0 (length c.args.trail.now.limits))
 
 pub returns-then-is_false-2-clause-second : goal.returns-then-is_false-2-clause-second
 returns-then-is_false-2-clause-second c =

@@ -1,10 +1,26 @@
-use Rattle.std.proofs.{Common.{◌≡◌, ◌≤◌, List, Some, length, get_or, refl, sym, ap, ◌∙◌, subst, inl, arith, Contains}, lemmas.{List.{length-map, get_or_default}}}
-use Rattle.cnf_formula.specs.Literals.{LitValue}
-use Rattle.trail_core.{specs.{Trails.lits_of, Watching.no_row, Search.{IsUnit, Implied.{none, more}}}, proofs.Visits.{lits_at, open_by, pushed_satisfied}}
+use Rattle.std.proofs.{Common.{◌≡◌, ◌≤◌, List, Some, length, get_or, refl, sym, ap, ◌∙◌, subst, inl, arith, Contains}, lemmas.List.{length-map, get_or_default, Elements.All-contains}}
+use Rattle.cnf_formula.specs.{Literals.LitValue, Formulas.IsAbout}
+use Rattle.trail_core.{specs.{Trails.lits_of, Watching.{no_row, row_at}, Search.{IsUnit, Implied.{none, more}}}, proofs.{Visits.{lits_at, open_by, pushed_satisfied}, propagate.settle.Goals.In-len1-up}}
 use Rattle.trail_core.proofs.propagate.settle.Goals as goal
 
 single : (xs : List LitValue) (l : LitValue) → length xs ≤ 1 → l ≡ get_or xs 0 l → (o : LitValue) → Contains xs o → o ≡ l
 single xs l n e o c = grind (arith, get_or_default)
+
+-- the literal of the clause
+own : (c : In-len1-up) (l : LitValue) → l ≡ get_or c.clause.result.now 0 l → Contains (row_at c.args.store.now c.args.id).lits l
+own c l is = rw (← c.clause.ensures.lits no_row) (0, c.in-len1-up.len_at_least, sym is)
+
+about : (c : In-len1-up) (l : LitValue) → l ≡ get_or c.clause.result.now 0 l → IsAbout c.args.trail.now.vars l
+about c l is = All-contains (IsAbout c.args.trail.now.vars) (row_at c.args.store.now c.args.id).lits l (c.requires.rows c.args.id c.requires.short.within).within (own c l is)
+
+pub is_true-requires : goal.is_true-requires
+is_true-requires c = (about (goal.at.is_true-requires c).In-len1-up c.lit-item.result c.lit-item.is).within
+
+pub is_false-requires : goal.is_false-requires
+is_false-requires c = (about (goal.at.is_false-requires c).In-len1-up c.lit-item.result c.lit-item.is).within
+
+pub push-requires-clause-within : goal.push-requires-clause-within
+push-requires-clause-within c = (about (goal.at.push-requires-clause-within c).In-len1-up c.lit-item.result c.lit-item.is).within
 
 pub returns-else-is_false-clause-implied : goal.returns-else-is_false-clause-implied
 returns-else-is_false-clause-implied c =
@@ -27,4 +43,4 @@ returns-else-is_false-clause-implied c =
     }))
 
 pub returns-else-is_false-clause-settled : goal.returns-else-is_false-clause-settled
-returns-else-is_false-clause-settled c = λ h. pushed_satisfied _ _ _ _ _ _ (subst (λ xs. Contains xs c.lit-item.result) (c.clause.ensures.lits no_row) (0, c.in-len1-up.len_at_least, sym c.lit-item.is)) c.push.ensures refl
+returns-else-is_false-clause-settled c = λ h. pushed_satisfied _ _ _ _ _ _ (own (goal.at.returns-else-is_false-clause-settled c).In-len1-up c.lit-item.result c.lit-item.is) c.push.ensures refl

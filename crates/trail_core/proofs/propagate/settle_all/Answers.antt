@@ -1,6 +1,9 @@
-use Rattle.std.proofs.{Common.{◌≡◌, get_or, sym, ap, ◌∙◌, subst, ⊎_elim, arith}, lemmas.{Bool.cases_lt, List.get_or_default}}
-use Rattle.trail_core.{specs.{Trails.lits_of, Watching.{row_at, AreRows}, Search.{IsSatisfied}}, proofs.Scans.{implied_trans, implied_grows}}
+use Rattle.std.proofs.{Common.{◌≡◌, get_or, refl, sym, ap, ◌∙◌, subst, ⊎_elim, arith}, lemmas.{Bool.cases_lt, List.get_or_default}}
+use Rattle.trail_core.{specs.{Trails.lits_of, Watching.{row_at, AreRows}, Search.{IsSatisfied}}, proofs.{Visits.implied_same, Scans.{implied_trans, implied_grows}}}
 use Rattle.trail_core.proofs.propagate.settle_all.Goals as goal
+
+pub loop-id-init : goal.loop-id-init
+loop-id-init c = record { are_rows = c.requires.rows; vars = refl; limits = refl; bottom = c.requires.bottom; implied = implied_same _ _ _; settled = λ k w. absurd (omega (arith, w)) }
 
 pub loop-id-preserved : goal.loop-id-preserved
 loop-id-preserved c =

@@ -1,6 +1,6 @@
-use Rattle.std.proofs.{Common.{sym, ◌∙◌, subst, inl, inr, ⊎_elim, arith}}
+use Rattle.std.proofs.{Common.{sym, ◌∙◌, subst, inl, inr, ⊎_elim}}
 use Rattle.trail_core.specs.{Assigned.{IsFalse}, Trails.lits_of}
-use Rattle.trail_core.proofs.{Visits.{pushed_satisfied, pushed_scanned, open_by}, Blocking.{Visited, visited_by}, propagate.visit.Goals.After-clause-id}
+use Rattle.trail_core.proofs.{Visits.{pushed_satisfied, pushed_scanned, scanned_same, open_by}, Blocking.{Visited, visited_by}, propagate.visit.Goals.After-clause-id}
 use Rattle.trail_core.proofs.propagate.visit.Goals as goal
 
 -- the entry, as it is read
@@ -10,13 +10,19 @@ visited c =
     (visited_by _ c.args.lists.now c.args.trail.now c.args.falsified c.args.place _ c.requires.can c.requires.within c.entry-watch.ensures.clause c.entry-watch.ensures.stands)
 
 pub is_true-requires : goal.is_true-requires
-is_true-requires c = grind (arith, visited)
+is_true-requires c = (visited (goal.at.is_true-requires c).After-clause-id).of_vars.within
+
+pub returns-then-is_true-clause-scanned : goal.returns-then-is_true-clause-scanned
+returns-then-is_true-clause-scanned c = scanned_same c.args.falsified c.args.store.now c.args.trail.now
 
 pub returns-then-is_true-clause-handled : goal.returns-then-is_true-clause-handled
-returns-then-is_true-clause-handled c = grind (arith, visited)
+returns-then-is_true-clause-handled c = λ h. rw (← c.entry-watch.ensures.clause, ← c.clause-id.ensures) (c.blocker-blocker.result, (visited (goal.at.returns-then-is_true-clause-handled c).After-clause-id).own, c.is_true.ensures.0 c.if-is_true.true)
 
 pub is_false-requires : goal.is_false-requires
-is_false-requires c = grind (arith, visited)
+is_false-requires c = (visited (goal.at.is_false-requires c).After-clause-id).of_vars.within
+
+pub returns-then-is_false-clause-scanned : goal.returns-then-is_false-clause-scanned
+returns-then-is_false-clause-scanned c = scanned_same c.args.falsified c.args.store.now c.args.trail.now
 
 pub returns-then-is_false-clause-handled : goal.returns-then-is_false-clause-handled
 returns-then-is_false-clause-handled c =
@@ -24,7 +30,7 @@ returns-then-is_false-clause-handled c =
     (v.within, λ l h. ⊎_elim (λ e. subst (IsFalse _) (sym e) (c.is_false.ensures.0 c.if-is_false.true)) (λ e. subst (IsFalse _) (sym e) c.requires.is_false) (v.pair (sym c.is_pair.ensures ∙ c.if-not-is_pair.false) l h))
 
 pub push-requires-clause-within : goal.push-requires-clause-within
-push-requires-clause-within c = grind (arith, visited)
+push-requires-clause-within c = (visited (goal.at.push-requires-clause-within c).After-clause-id).of_vars.within
 
 pub returns-clause-scanned : goal.returns-clause-scanned
 returns-clause-scanned c =

@@ -3,12 +3,12 @@ use Rattle.std.proofs.lemmas.List.Elements.{All-contains}
 use Rattle.cnf_formula.{specs.{Literals.code_of, Formulas.IsAbout}, proofs.Codes.code_within}
 use Rattle.trail_core.specs.{Assigned.{IsFalse}, Trails.lits_of, Search.{Scanned, clauses_of}, Watching.{ListsValue, WatchValue, IsOnlyNew, AreBlocked, no_row, watch_count, row_at, list_at, IsWatched, AreRows}}
 use Rattle.trail_core.proofs.Watching.{entry_within, shifted, shifted_a, length_removed}
-use Rattle.trail_core.proofs.Visits.{Pair, IsOther, pair_is, Found, same_lit, other_lit, found_room, found_apart, rewatched, rewatched_is, rewatched_rows, rewatched_scanned, rewatched_not, removed_front, pushed_scanned, pushed_satisfied, open_by}
+use Rattle.trail_core.proofs.Visits.{Pair, IsOther, pair_is, Found, same_lit, other_lit, found_room, found_apart, rewatched, rewatched_is, rewatched_rows, rewatched_scanned, rewatched_not, removed_front, pushed_scanned, pushed_satisfied, scanned_same, open_by}
 use Rattle.trail_core.proofs.{Blocking.{watched_same, blocked_new, can_replace, long_blocked}, propagate.visit_clause.Goals.{After-clause-id, Joined-eq, In-Some, then-eq, else-eq}}
 use Rattle.trail_core.proofs.propagate.visit_clause.Goals as goal
 
 known : (c : After-clause-id) → c.clause-id.result < length c.args.store.now
-known c = grind (arith, entry_within)
+known c = entry_within c.args.store.now c.args.lists.now (code_of c.args.falsified) c.args.place c.clause-id.result c.requires.can.watched c.requires.within (c.clause-id.ensures ∙ c.requires.is)
 
 pair : (c : Joined-eq) → Pair c.args.store.now c.clause-id.result c.args.falsified c.if-eq.other
 pair c =
@@ -19,10 +19,13 @@ pair c =
     pair_is c.args.trail.now.vars c.args.store.now c.args.lists.now c.clause-id.result c.args.place c.args.falsified c.watched.result.0 c.watched.result.1 c.if-eq.other c.requires.can.are_rows c.requires.can.watched c.requires.within (c.clause-id.ensures ∙ c.requires.is) (c.watched.ensures.first no_row) (c.watched.ensures.second no_row) o
 
 about : (c : Joined-eq) → IsAbout c.args.trail.now.vars c.if-eq.other
-about c = grind (arith, pair, All-contains)
+about c = let p = pair c in All-contains (IsAbout c.args.trail.now.vars) (row_at c.args.store.now c.clause-id.result).lits c.if-eq.other (c.requires.can.are_rows c.clause-id.result p.within).within p.own
 
 found : (c : In-Some) → Found (lits_of c.args.trail.now.steps) (row_at c.args.store.now c.clause-id.result).lits c.if-eq.other c.in-Some.found.lit
 found c = record { stands = subst (λ xs. Contains xs c.in-Some.found.lit) (c.clause.ensures.lits no_row) c.in-Some.ensures.0; differs = c.in-Some.ensures.1; not_false = c.in-Some.ensures.2 }
+
+pub watched-requires : goal.watched-requires
+watched-requires c = known (goal.at.watched-requires c).After-clause-id
 
 pub is_true-requires : goal.is_true-requires
 is_true-requires c = (about (goal.at.is_true-requires c).Joined-eq).within
@@ -36,11 +39,23 @@ returns-then-is_true-clause-can c =
     can_replace c.args.store.now lists c.replace.new.self c.args.trail.now k new c.requires.can c.replace.ensures.lists c.replace.ensures.rooms c.replace.ensures.uses (subst (IsOnlyNew lists.watches c.replace.new.self.watches k) c.blocked_by.ensures c.replace.ensures.watches)
     (long_blocked c.args.store.now c.args.watch.clause k new (subst (λ n. Contains (row_at c.args.store.now n).lits c.if-eq.other) c.clause-id.ensures p.own) c.requires.long)
 
+pub returns-then-is_true-clause-scanned : goal.returns-then-is_true-clause-scanned
+returns-then-is_true-clause-scanned c = scanned_same c.args.falsified c.args.store.now c.args.trail.now
+
 pub returns-then-is_true-clause-handled : goal.returns-then-is_true-clause-handled
-returns-then-is_true-clause-handled c = grind (arith, pair)
+returns-then-is_true-clause-handled c = λ h. rw (← c.requires.is, ← c.clause-id.ensures) (c.if-eq.other, (pair (goal.at.returns-then-is_true-clause-handled c).Joined-eq).own, c.is_true.ensures.0 c.if-is_true.true)
+
+pub clause-requires : goal.clause-requires
+clause-requires c = known (goal.at.clause-requires c).After-clause-id
+
+pub next-requires : goal.next-requires
+next-requires c = known (goal.at.next-requires c).After-clause-id
 
 pub another-requires : goal.another-requires
 another-requires c = subst (All (IsAbout c.args.trail.now.vars)) (sym (c.clause.ensures.lits no_row)) (c.requires.can.are_rows c.clause-id.result (known (goal.at.another-requires c).After-clause-id)).within
+
+pub watch-requires : goal.watch-requires
+watch-requires c = known (goal.at.watch-requires c).After-clause-id
 
 pub shift-requires-clause-to_known : goal.shift-requires-clause-to_known
 shift-requires-clause-to_known c =
@@ -81,7 +96,7 @@ returns-in-Some c =
     (long_blocked store c.args.watch.clause (code_of x) entry (subst (λ m. Contains (row_at store m).lits other) c.clause-id.ensures p.own) c.requires.long) in
     record {
       can = record {
-        are_lists = grind (arith, length-set);
+        are_lists = record { lists_len = rw (lists-is, length-set, length-set) c.requires.can.are_lists.lists_len; rooms_len = rw c.shift.ensures.rooms c.requires.can.are_lists.rooms_len; uses_len = rw c.shift.ensures.uses c.requires.can.are_lists.uses_len };
         are_rows = subst (AreRows t.vars) (sym rows-is) (rewatched_rows t.vars store (lits_of t.steps) id falsified other x c.requires.can.are_rows p n);
         watched = subst (λ rows. IsWatched rows c.shift.new.self) (sym rows-is) (watched_same (rewatched store id other x) new c.shift.new.self w lists-is c.shift.ensures.rooms c.shift.ensures.uses);
         blocked = subst (λ rows. AreBlocked (clauses_of rows) c.shift.new.self.watches) (sym rows-is) (subst (λ cs. AreBlocked cs c.shift.new.self.watches) (sym scanned.same) blocked);
@@ -95,6 +110,9 @@ returns-in-Some c =
 pub is_false-requires : goal.is_false-requires
 is_false-requires c = (about (goal.at.is_false-requires c).Joined-eq).within
 
+pub returns-then-is_false-clause-scanned : goal.returns-then-is_false-clause-scanned
+returns-then-is_false-clause-scanned c = scanned_same c.args.falsified c.args.store.now c.args.trail.now
+
 pub returns-then-is_false-clause-handled : goal.returns-then-is_false-clause-handled
 returns-then-is_false-clause-handled c = (
   known (goal.at.returns-then-is_false-clause-handled c).After-clause-id,
@@ -103,6 +121,9 @@ returns-then-is_false-clause-handled c = (
 
 pub push-requires-clause-within : goal.push-requires-clause-within
 push-requires-clause-within c = (about (goal.at.push-requires-clause-within c).Joined-eq).within
+
+pub push-requires-clause-small : goal.push-requires-clause-small
+push-requires-clause-small c = let w = known (goal.at.push-requires-clause-small c).After-clause-id in omega (arith, w, c.clause.ensures.small)
 
 pub returns-clause-scanned : goal.returns-clause-scanned
 returns-clause-scanned c =
