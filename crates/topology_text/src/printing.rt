@@ -22,7 +22,6 @@ fn push_names(out: &mut Vec<u8>, names: &[Name]) -> Result<(), AllocError>
     Ok(())
 }
 
-#[tactic(auto, using(std::proofs::Common::append_assoc, std::proofs::lemmas::List::flat_map_more, std::proofs::lemmas::List::map_push, std::proofs::lemmas::List::take_more))]
 fn push_links(out: &mut Vec<u8>, names: &[Name], links: &[(u8, u8)]) -> Result<(), AllocError>
     ensures { OnOk result (out.new.items ≡ out.old.items ++ fields (map (link_word names.now) links.now)) }
 {
@@ -83,7 +82,6 @@ fn push_holders(
     Ok(())
 }
 
-#[tactic(auto, using(std::proofs::Common::append_assoc, crate::proofs::Printed::chunk_more))]
 fn push_pattern(out: &mut Vec<u8>, names: &[Name], pattern: &Pattern) -> Result<(), AllocError>
     ensures { OnOk result (out.new.items ≡ out.old.items ++ text_of (custom_lines names.now (Some pattern.now))) }
 {
