@@ -82,7 +82,6 @@ fn family_groups(alloc: Global, kind: FamilyKind, size: u8) -> Result<Vec<Group>
 /// groups in place of those, of the links that leave it (all these first) and of those that enter
 /// it; in `Boxes` the links from a box to another are one group, behind all others. An `Err` comes
 /// only where memory runs out.
-#[tactic(auto, using(crate::proofs::FamilyLaws::family_topology, crate::proofs::FamilyLaws::family_named))]
 pub fn family(alloc: Global, kind: FamilyKind, size: u8) -> Result<NamedTopology, AllocError>
     requires { IsTrue (is_allowed kind size) }
     ensures { IfOk result (λ t. t ≡ family_of kind size) }
