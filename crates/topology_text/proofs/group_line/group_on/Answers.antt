@@ -1,4 +1,4 @@
-use Rattle.std.proofs.{Common.{◌≡◌, ℕ, ◌<◌, Ok, length, arith, rules}, lemmas.{Bool.Decides.nat_tests, Grind.common_steps}}
+use Rattle.std.proofs.{Common.{◌≡◌, ◌<◌, Ok, length, arith, rules}, lemmas.{Bool.Decides.nat_tests, Grind.common_steps}}
 use Rattle.topology_text.specs.{declared.fault.TopologyCode.TheVariants.WidthRange, Reading.one_to_16}
 use Rattle.topology_text.proofs.Links.{group_valid}
 use Rattle.topology_text.proofs.group_line.group_on.Goals as goal

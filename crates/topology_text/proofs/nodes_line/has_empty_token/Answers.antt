@@ -1,5 +1,4 @@
-use Rattle.std.proofs.Common.{◌≡◌, ◌||◌, ◌∷◌, sym, ap, ◌∙◌}
-use Rattle.text_lines.specs.Text.{words_of}
+use Rattle.std.proofs.Common.{◌||◌, sym, ap, ◌∙◌}
 use Rattle.topology_text.specs.Reading.{has_empty}
 use Rattle.topology_text.proofs.nodes_line.has_empty_token.Goals as goal
 
