@@ -2,7 +2,7 @@
 use Rattle.std.specs.{Prelude.{ℕ, Bool, List, [], find, Option, is_some, option_map, unwrap_or}, Str.Parse.digits_value}
 use Rattle.candidate_order.specs.{Ranges.LimitsValue, declared.pruning.Pruning.Pruning}
 use Rattle.collective_spec.specs.{declared.kind.Kind.{Kind, TheVariants.Custom}, Kinds.{word_of, every_kind}}
-use Rattle.topology_text.specs.{declared.family_kind.FamilyKind.{FamilyKind, TheVariants.Line}, FamilyWords.{families, family_word}}
+use Rattle.topology_families.specs.{declared.family_kind.FamilyKind.{FamilyKind, TheVariants.Line}, FamilyWords.{families, family_word}}
 use Rattle.command_words.specs.{declared.{command.{JsonWhat.{JsonWhat, TheVariants.Topology}, RootWord.RootWord}, key.Key.Key}, Tables.{named, same_key, what_word, whats}}
 use Rattle.command_words.specs.declared.key.Key.TheVariants as key
 

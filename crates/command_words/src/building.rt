@@ -13,7 +13,7 @@ use crate::key::{Key, MAX_GROUP, MAX_POINT, MAX_SIZE, MAX_TRIAL, MAX_WIDTH, is_a
 use crate::verb::Verb;
 use candidate_order::Pruning;
 use collective_spec::takes_root;
-use topology_text::family_allows;
+use topology_families::family_allows;
 
 /// The keys that have to be given; programs as JSON require a point.
 fn required(verb: Verb, given: &[GivenWord<'_>]) -> &'static [Key]

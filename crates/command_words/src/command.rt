@@ -2,7 +2,8 @@
 
 use candidate_order::Limits;
 use collective_spec::Kind;
-use topology_text::{FamilyKind, Name};
+use topology_families::FamilyKind;
+use topology_text::Name;
 
 /// The value of a word `root=NAME`, and the word's index.
 #[derive(Clone, Copy, Debug, PartialEq, Eq)]

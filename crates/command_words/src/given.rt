@@ -11,7 +11,8 @@ use crate::what_word::what_of_word;
 use candidate_order::{Limits, MAX_CHUNKS, MAX_CONFLICTS, MAX_K, MAX_STEPS, Pruning};
 use collective_spec::Kind;
 use text_lines::read_number;
-use topology_text::{FamilyKind, Name};
+use topology_families::FamilyKind;
+use topology_text::Name;
 
 /// A key, its value as it is written, and the index of its word.
 #[derive(Clone, Copy)]

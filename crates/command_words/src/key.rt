@@ -7,7 +7,8 @@ use crate::kind_word::kind_of_word;
 use crate::what_word::what_of_word;
 use candidate_order::{MAX_CHUNKS, MAX_CONFLICTS, MAX_K, MAX_STEPS};
 use text_lines::read_number;
-use topology_text::{FamilyKind, Name};
+use topology_families::FamilyKind;
+use topology_text::Name;
 
 /// The greatest number of a point.
 pub const MAX_POINT: u64 = 65_535;

@@ -9,7 +9,7 @@ ghost use Rattle.command_words.specs.{Codes.word_number, Words.command_of};
 use crate::command::{Command, JsonWhat};
 use crate::fault::WordCode;
 use collective_spec::Kind;
-use topology_text::FamilyKind;
+use topology_families::FamilyKind;
 
 /// The codes in their order.
 pub fn codes_are_numbered()

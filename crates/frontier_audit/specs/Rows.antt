@@ -7,7 +7,8 @@ use Rattle.schedule.specs.{declared.hop.Hop.Hop, Placed.PlacementValue, Rows.sen
 use Rattle.candidate_order.specs.{declared.{candidate.Candidate.Candidate, mark.Mark.{Mark, TheVariants.{Optimal, Open}}, pruning.Pruning.Pruning}, Rows.at, Ranges.unpruned}
 use Rattle.candidate_order.specs.Frontiers.{QuestionValue, PointValue, UnknownValue, FrontierValue}
 use Rattle.collective_spec.specs.declared.kind.Kind.{Kind, TheVariants.{Broadcast, Custom}}
-use Rattle.topology_text.specs.{declared.family_kind.FamilyKind.TheVariants.Ring, Family.family_of, Value.NamedTopologyValue}
+use Rattle.topology_text.specs.Value.{NamedTopologyValue}
+use Rattle.topology_families.specs.{declared.family_kind.FamilyKind.TheVariants.Ring, Family.family_of}
 use Rattle.report_form.specs.{Reports.{WordsValue, ReportValue, question_of}, Rows.{point, two_nodes, relay_report, allreduce_report}}
 use Rattle.candidate_formula.specs.Files.{file_of}
 unfoldable pub use Rattle.std.specs.Fmt.{digits}

@@ -5,7 +5,8 @@ use Rattle.text_lines.specs.Check.{◌>>=◌, refuse, need}
 use Rattle.serde_json.specs.Data.{Data}
 use Rattle.collective_spec.specs.{declared.kind.Kind.{Kind, TheVariants.Allreduce}, Collectives.fits_kind}
 use Rattle.candidate_order.specs.Frontiers.{QuestionValue, PointValue}
-use Rattle.topology_text.specs.{Value.NamedTopologyValue, Answer.topology_number, Reading.{topology_of, node_of}, Family.family_of, Spelling.spelling}
+use Rattle.topology_text.specs.{Value.NamedTopologyValue, Answer.topology_number, Reading.{topology_of, node_of}, Spelling.spelling}
+use Rattle.topology_families.specs.Family.{family_of}
 use Rattle.report_form.specs.{declared.fault.ReportCode.ReportCode, Reports.{WordsValue, ReportValue, question_of}, Numbered.point_at, Reading.report_of, Answer.report_number, Spelling.report_text}
 use Rattle.round_encoding.specs.Candidates.{size_limit}
 use Rattle.candidate_formula.specs.{Sizes.size_of, Counts.chunk_counts}

@@ -2,7 +2,7 @@
 use Rattle.std.specs.Prelude.{ℕ, ◌+◌, ◌*◌, ◌/◌, ◌%◌, List, [], ◌∷◌, length, sum_by, slice_index_or, codes, decimal}
 use Rattle.collective_spec.specs.declared.kind.Kind.{Kind, TheVariants.{Broadcast, Gather, Allgather, Scatter, Alltoall, Reduce, Reducescatter, Allreduce}}
 use Rattle.candidate_order.specs.Ranges.{unpruned}
-use Rattle.topology_text.specs.{declared.family_kind.FamilyKind.{FamilyKind, TheVariants.{Line, Ring, Complete, Shared}}, FamilyWords.family_word}
+use Rattle.topology_families.specs.{declared.family_kind.FamilyKind.{FamilyKind, TheVariants.{Line, Ring, Complete, Shared}}, FamilyWords.family_word}
 use Rattle.text_lines.specs.Text.{text_of}
 use Rattle.report_form.specs.{Reports.{WordsValue, ReportValue}, Spelling.synth_words, Numbered.points_of}
 use Rattle.node_programs.specs.Runs.{operations}

@@ -1,7 +1,7 @@
 -- What is owed for a trial.
 use Rattle.std.specs.Prelude.{◌≡◌, ℕ, List}
 use Rattle.outer_ports.specs.Files.{Files}
-use Rattle.topology_text.specs.Family.{family_of}
+use Rattle.topology_families.specs.Family.{family_of}
 use Rattle.report_form.specs.Reports.{ReportValue}
 use Rattle.frontier_audit.specs.{declared.verdict.AuditVerdict.TheVariants.Verified, Rights.{IsRight, IsSearched}}
 use Rattle.run_rules.specs.{Trials.{trial_family, trial_size, trial_words, trial_text}, Claims.IsVerdict}

@@ -2,7 +2,7 @@
 
 ghost use Rattle.std.specs.Prelude.{◌≡◌, [], ◌∷◌, true, false, Ok, Err, codes};
 ghost use Rattle.candidate_order.specs.Ranges.{unpruned};
-ghost use Rattle.topology_text.specs.Family.{family_of};
+ghost use Rattle.topology_families.specs.Family.{family_of};
 ghost use Rattle.report_form.specs.{Spelling.report_text, Rows.{broadcast_report, relay_report}};
 ghost use Rattle.frontier_audit.specs.Rows.{beside_one_step, cnf_of_one_step};
 ghost use Rattle.candidate_formula.specs.Sizes.{size_of};
@@ -12,7 +12,7 @@ use crate::status::Status;
 use collective_spec::{Kind, Spec};
 use command_words::WordCode;
 use node_cuts::Sets;
-use topology_text::FamilyKind;
+use topology_families::FamilyKind;
 
 /// The size of an all-to-all on sixteen nodes, each joined to each, which is too large; and of an
 /// allgather on the cube of eight.

@@ -1,6 +1,7 @@
 -- Runs whose words ask for a family.
 use Rattle.std.{proofs.Common.{arith, ◌≡◌, ◌≢◌, ◌==◌, ℕ, suc, zero, Bool, true, false, IsTrue, List, [], ◌∷◌, length, take, inl, inr, Ok, refl, sym, subst, ap, ◌∙◌, codes, bytes_eq}, specs.Fmt.digits}
-use Rattle.topology_text.specs.{declared.family_kind.FamilyKind.TheVariants.Line, Family.family_of, Spelling.spelling}
+use Rattle.topology_text.specs.Spelling.{spelling}
+use Rattle.topology_families.specs.{declared.family_kind.FamilyKind.TheVariants.Line, Family.family_of}
 use Rattle.command_words.specs.Words.{command_of}
 use Rattle.command_words.specs.declared.command.Command.TheVariants as command
 use Rattle.report_form.specs.Reading.{report_of}

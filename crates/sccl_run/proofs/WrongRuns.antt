@@ -1,7 +1,8 @@
 -- Runs that are not right.
 use Rattle.std.{proofs.{Common.{◌≡◌, ◌+◌, ℕ, drop, false, zero, suc, Any, map, ap, arith, subst, List, [], ◌∷◌, None, Some, Ok, Err, inl, inr, refl, sym, ◌∙◌, codes, bytes_eq}, lemmas.{Option.none-some, List.drop_all}}, specs.Fmt.digits}
 use Rattle.outer_ports.specs.{declared.{part.Part.{Part, TheVariants.{Whole, Joined}}, proof_name.{FileKind.TheVariants.{Cnf, Lrat}, ProofName.ProofName}}, Files.Files}
-use Rattle.topology_text.specs.{declared.family_kind.FamilyKind.TheVariants.Line, Family.family_of, Reading.{pattern_at, topology_of, topology_at, named_at}}
+use Rattle.topology_text.specs.Reading.{pattern_at, topology_of, topology_at, named_at}
+use Rattle.topology_families.specs.{declared.family_kind.FamilyKind.TheVariants.Line, Family.family_of}
 use Rattle.collective_spec.specs.declared.kind.Kind.TheVariants.{Broadcast}
 use Rattle.command_words.specs.Words.{command_of}
 use Rattle.candidate_order.specs.{Frontiers.{FrontierValue, QuestionValue}, Ranges.unpruned, declared.mark.Mark.TheVariants.Optimal}

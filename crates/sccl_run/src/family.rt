@@ -1,12 +1,14 @@
 //! Topologies of families.
 
 ghost use Rattle.std.specs.Prelude.{IsTrue, IfOk, Ok};
-ghost use Rattle.topology_text.specs.{Family.{family_of, is_allowed}, Spelling.spelling};
+ghost use Rattle.topology_text.specs.Spelling.{spelling};
+ghost use Rattle.topology_families.specs.Family.{family_of, is_allowed};
 ghost use Rattle.run_rules.specs.{Answers.IsAnswerAlone, Tasks.Write};
 
 use run_rules::{Answer, OutOfMemory, Status};
 use std::alloc::Global;
-use topology_text::{FamilyKind, family, print_topology};
+use topology_families::{FamilyKind, family};
+use topology_text::print_topology;
 
 /// The topology of a family.
 #[tactic(auto, using(run_rules::proofs::Answered::written))]

@@ -9,8 +9,5 @@ pub mod HolderLines
 pub mod Patterns
 pub mod Laws
 pub mod Printed
-pub mod FamilyLinks
-pub mod FamilyGroups
-pub mod FamilyLaws
 pub mod SteadyParts
 pub mod FirstFault

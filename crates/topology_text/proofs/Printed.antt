@@ -16,6 +16,10 @@ appended a b c d e x y z w all hb hc hd he whole = rw (he, hd, hc, hb, sym whole
 pub appended_three : (a b c d x y z all : List ℕ) → b ≡ a ++ x → c ≡ b ++ y → d ≡ c ++ z → x ++ (y ++ z) ≡ all → d ≡ a ++ all
 appended_three a b c d x y z all hb hc hd whole = rw (hd, hc, hb, sym whole) (simp append_assoc)
 
+-- a loop that appends, at one piece more
+pub appended_more : {X : Type 0} (out so_far one all before now : List X) → before ≡ out ++ so_far → now ≡ before ++ one → all ≡ so_far ++ one → now ≡ out ++ all
+appended_more out so_far one all before now so pushed whole = pushed ∙ ap (λ b. b ++ one) so ∙ append_assoc out so_far one ∙ ap (λ r. out ++ r) (sym whole)
+
 pub group_printed : (names : List (List ℕ)) (g : GroupValue) (out a b c d : List ℕ) → a ≡ out ++ codes "group " → b ≡ a ++ decimal g.width → c ≡ b ++ fields (map (link_word names) g.links) → d ≡ c ++ codes "\n" → d ≡ out ++ line (group_words names g)
 group_printed names g out a b c d one two three four = grind (arith, join_fields, append_assoc)
 

@@ -4,6 +4,3 @@ pub mod Spelling
 pub mod Reading
 pub mod First
 pub mod Answer
-pub mod Family
-pub mod FamilyWords
-pub mod Rows

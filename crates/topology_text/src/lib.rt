@@ -1,13 +1,9 @@
 //! Topologies whose nodes have names, with the pattern of a collective where one is given: their
-//! one spelling, read and printed, and the families that are often met.
+//! one spelling, read and printed.
 #![tactic(auto)]
 
-mod families;
-mod family_kind;
-mod family_word;
 mod fault;
 mod group_line;
-mod grouping;
 mod link_word;
 mod name;
 mod named_topology;
@@ -18,10 +14,7 @@ mod pattern;
 mod pattern_lines;
 mod printing;
 mod reading;
-mod vectors;
 
-pub use families::family;
-pub use family_kind::{FamilyKind, family_allows};
 pub use fault::{TopologyCode, TopologyFault};
 pub use name::Name;
 pub use named_topology::NamedTopology;
@@ -31,4 +24,3 @@ pub use pattern::pattern_part;
 pub use printing::{print_topology, push_topology};
 pub use reading::{read_topology, topology_part};
 pub use std::alloc::AllocError as OutOfMemory;
-pub use vectors::{families_are, family_sizes_are};

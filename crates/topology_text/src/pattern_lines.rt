@@ -36,7 +36,6 @@ pub(crate) fn custom_on(text: &[u8], line: Line) -> Result<u8, TopologyCode>
 }
 
 /// Whether the word is the number in decimal.
-#[tactic(auto, using(crate::proofs::PatternLines::same_number, crate::proofs::PatternLines::no_number))]
 fn is_number(word: &[u8], number: u8) -> bool
     ensures { result ≡ bytes_eq (decimal number) word.now }
 {

@@ -22,7 +22,6 @@ fn push_names(out: &mut Vec<u8>, names: &[Name]) -> Result<(), AllocError>
     Ok(())
 }
 
-#[tactic(auto, using(std::proofs::Common::append_assoc, std::proofs::lemmas::List::flat_map_more, std::proofs::lemmas::List::map_push, std::proofs::lemmas::List::take_more))]
 fn push_links(out: &mut Vec<u8>, names: &[Name], links: &[(u8, u8)]) -> Result<(), AllocError>
     ensures { OnOk result (out.new.items ≡ out.old.items ++ fields (map (link_word names.now) links.now)) }
 {
@@ -83,7 +82,6 @@ fn push_holders(
     Ok(())
 }
 
-#[tactic(auto, using(std::proofs::Common::append_assoc, crate::proofs::Printed::chunk_more))]
 fn push_pattern(out: &mut Vec<u8>, names: &[Name], pattern: &Pattern) -> Result<(), AllocError>
     ensures { OnOk result (out.new.items ≡ out.old.items ++ text_of (custom_lines names.now (Some pattern.now))) }
 {
@@ -97,6 +95,7 @@ fn push_pattern(out: &mut Vec<u8>, names: &[Name], pattern: &Pattern) -> Result<
     Ok(())
 }
 
+/// Appends the lines of the groups.
 fn push_groups(out: &mut Vec<u8>, names: &[Name], groups: &[Group]) -> Result<(), AllocError>
     ensures { OnOk result (out.new.items ≡ out.old.items ++ text_of (map (group_words names.now) groups.now)) }
 {
@@ -106,6 +105,7 @@ fn push_groups(out: &mut Vec<u8>, names: &[Name], groups: &[Group]) -> Result<()
     Ok(())
 }
 
+/// The spelling of the topology.
 #[tactic(auto, using(crate::proofs::Printed::topology_printed, crate::proofs::Printed::plain_printed))]
 fn spelled(alloc: Global, value: &NamedTopology) -> Result<Vec<u8>, AllocError>
     ensures spelled { IfOk result (λ v. v.items ≡ spelling value.now) }
@@ -123,8 +123,7 @@ fn spelled(alloc: Global, value: &NamedTopology) -> Result<Vec<u8>, AllocError>
 }
 
 /// Appends the spelling of the topology, as a report has it among other lines. An `Err` comes only
-/// where memory runs out; then what stood there before stands in front, and some of the spelling
-/// may stand behind it.
+/// where memory runs out; then what stood there before still stands in front.
 #[tactic(auto, using(crate::proofs::Printed::kept_same))]
 pub fn push_topology(out: &mut Vec<u8>, value: &NamedTopology) -> Result<(), AllocError>
     ensures appended { OnOk result (out.new.items ≡ out.old.items ++ spelling value.now) }

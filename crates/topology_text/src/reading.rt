@@ -15,7 +15,7 @@ use text_lines::{Lines, Stop};
 
 /// Takes what follows the names: the groups end at the first line that doesn't begin `group `, and
 /// in version 2 the pattern follows.
-#[tactic(auto, using(crate::proofs::Laws::named_are), unfolding(crate::specs::Reading::named_at))]
+#[tactic(auto, unfolding(crate::specs::Reading::named_at))]
 fn named_part(
     alloc: Global,
     patterned: bool,

@@ -1,7 +1,7 @@
 -- The lines of a trial, one after the other.
 use Rattle.std.proofs.Common.{◌≡◌, ℕ, List, [], ◌∷◌, ◌++◌, codes, decimal, length, refl, ap, ◌∙◌}
 use Rattle.text_lines.specs.Text.{line}
-use Rattle.topology_text.specs.{declared.family_kind.FamilyKind.FamilyKind, FamilyWords.family_word}
+use Rattle.topology_families.specs.{declared.family_kind.FamilyKind.FamilyKind, FamilyWords.family_word}
 use Rattle.report_form.specs.{Reports.{ReportValue, WordsValue}, Spelling.synth_words}
 use Rattle.run_rules.specs.Trials.{trial_family, trial_size, trial_text}
 use Rattle.trial_command.specs.Counts.{events_in, points_in, refuted_in, replays_in, unknown_in}

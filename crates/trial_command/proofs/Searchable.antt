@@ -6,7 +6,8 @@ use Rattle.collective_spec.specs.{declared.kind.Kind.Kind, Kinds.is_custom}
 use Rattle.collective_spec.specs.declared.kind.Kind.TheVariants as kind
 use Rattle.candidate_formula.specs.Sizes.{size_of}
 use Rattle.round_encoding.specs.Candidates.{size_limit}
-use Rattle.topology_text.{specs.{declared.family_kind.FamilyKind.{FamilyKind, TheVariants.{Line, Ring, Complete, Shared}}, Value.IsNamed, Family.{family_groups, family_of, is_allowed, numbered_name}}, proofs.FamilyLaws.family_named}
+use Rattle.topology_text.specs.Value.{IsNamed}
+use Rattle.topology_families.{specs.{declared.family_kind.FamilyKind.{FamilyKind, TheVariants.{Line, Ring, Complete, Shared}}, Family.{family_groups, family_of, is_allowed, numbered_name}}, proofs.FamilyLaws.family_named}
 use Rattle.report_form.specs.Reports.{IsWords, question_of}
 use Rattle.frontier_audit.specs.Searches.{IsAsked}
 use Rattle.run_rules.specs.Trials.{trial_chunks, trial_family, trial_kind, trial_size, trial_words}

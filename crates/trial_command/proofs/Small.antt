@@ -7,8 +7,8 @@ use Rattle.collective_spec.specs.{declared.kind.Kind.Kind, Collectives.chunks_of
 use Rattle.collective_spec.specs.declared.kind.Kind.TheVariants as kind
 use Rattle.candidate_formula.{specs.Sizes.size_of, proofs.Links.few_usable}
 use Rattle.round_encoding.specs.Candidates.{group_size}
-use Rattle.topology_text.{proofs.FamilyLinks.length-pairs, specs.{declared.family_kind.FamilyKind.FamilyKind, Family.{family_groups, family_links, family_of, is_family_link, numbered_name, one_wide, pairs, single}}}
-use Rattle.topology_text.specs.declared.family_kind.FamilyKind.TheVariants as family
+use Rattle.topology_families.{proofs.FamilyLinks.length-pairs, specs.{declared.family_kind.FamilyKind.FamilyKind, Family.{family_groups, family_links, family_of, is_family_link, numbered_name, one_wide, pairs, single}}}
+use Rattle.topology_families.specs.declared.family_kind.FamilyKind.TheVariants as family
 use Rattle.report_form.specs.Reports.{WordsValue, question_of}
 use Rattle.run_rules.specs.Trials.{trial_family}
 

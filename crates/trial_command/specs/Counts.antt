@@ -1,6 +1,7 @@
 -- The topology of a trial, and what is counted in its report, as contracts of the code have them.
 use Rattle.std.specs.Prelude.{ℕ, ◌*◌, length, sum_by}
-use Rattle.topology_text.specs.{Value.NamedTopologyValue, Family.family_of}
+use Rattle.topology_text.specs.Value.{NamedTopologyValue}
+use Rattle.topology_families.specs.Family.{family_of}
 use Rattle.report_form.specs.{Reports.ReportValue, Numbered.points_of}
 use Rattle.node_programs.specs.Runs.{operations}
 use Rattle.replay_text.specs.Showing.{shown_in, machine_of}

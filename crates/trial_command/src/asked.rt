@@ -9,7 +9,8 @@ use candidate_order::Limits;
 use collective_spec::{Collective, Kind};
 use report_form::Words;
 use std::alloc::Global;
-use topology_text::{FamilyKind, NamedTopology, family};
+use topology_families::{FamilyKind, family};
+use topology_text::NamedTopology;
 
 /// The kind of the family that the search is on.
 pub(crate) fn trial_family(n: u16) -> FamilyKind

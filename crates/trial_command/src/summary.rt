@@ -2,7 +2,7 @@
 
 ghost use Rattle.std.specs.Prelude.{◌≡◌, ◌++◌, ◌∷◌, [], codes, decimal, OnOk, IfOk};
 ghost use Rattle.text_lines.specs.Text.{line};
-ghost use Rattle.topology_text.specs.FamilyWords.{family_word};
+ghost use Rattle.topology_families.specs.FamilyWords.{family_word};
 ghost use Rattle.run_rules.specs.Trials.{trial_family, trial_size, trial_text};
 ghost use Rattle.trial_command.specs.Counts.{events_in, points_in, refuted_in, replays_in, unknown_in};
 
@@ -14,7 +14,7 @@ use report_form::Report;
 use report_printing::push_synth_line;
 use std::alloc::Global;
 use text_lines::{push_number, push_word};
-use topology_text::FamilyKind;
+use topology_families::FamilyKind;
 
 /// Appends a label and a number.
 fn push_counted(out: &mut Vec<u8>, label: &[u8], count: u64) -> Result<(), OutOfMemory>

@@ -2,12 +2,12 @@
 
 ghost use Rattle.std.specs.Prelude.{◌≡◌, [], ◌∷◌, codes};
 ghost use Rattle.candidate_order.specs.Ranges.{unpruned};
-ghost use Rattle.topology_text.specs.Family.{family_of};
+ghost use Rattle.topology_families.specs.Family.{family_of};
 ghost use Rattle.run_rules.specs.Trials.{trial_text, trial_words};
 ghost use Rattle.trial_command.specs.{Counts.trial_topology, Rows.refuted_trial};
 
 use collective_spec::Kind;
-use topology_text::FamilyKind;
+use topology_families::FamilyKind;
 
 /// The searches of two trials, and the text of the first.
 pub fn trials()

@@ -4,7 +4,7 @@
 use collective_spec::{Collective, Kind, Spec, spec_instance};
 use node_cuts::{first_cut, floor_of};
 use std::test::Fail;
-use topology_text::{FamilyKind, family};
+use topology_families::{FamilyKind, family};
 
 const BROADCAST: Collective = Collective {
     kind: Kind::Broadcast,

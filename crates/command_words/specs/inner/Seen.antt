@@ -2,7 +2,7 @@
 use Rattle.std.specs.{Prelude.{◌≡◌, ◌&&◌, ℕ, ◌+◌, ◌-◌, ◌≤◌, Bool, true, false, not, List, [], length, map, take, drop, Result}, List.{AllByRecursion, list_all, list_any}}
 use Rattle.text_lines.specs.Check.{◌>>=◌}
 use Rattle.collective_spec.specs.Kinds.{takes_root}
-use Rattle.topology_text.specs.Family.{is_allowed}
+use Rattle.topology_families.specs.Family.{is_allowed}
 use Rattle.command_words.specs.{declared.{command.Command.Command, fault.WordFault.WordFault, given.GivenWord.GivenWord, key.Key.Key, verb.Verb.Verb}, Tables.{key_row, has_key, same_key, Takes, Number}, Words.{fits, is_refused, given_from}}
 use Rattle.command_words.specs.{Commands.{command_from, required}, Given.{Given, is_given, kind_at, family_at, number_at}}
 use Rattle.command_words.specs.declared.key.Key.TheVariants as key

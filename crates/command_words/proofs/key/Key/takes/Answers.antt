@@ -1,6 +1,6 @@
 use Rattle.std.proofs.Common.{◌∙◌, ap, sym, is_some}
 use Rattle.collective_spec.specs.Kinds.{word_of, every_kind}
-use Rattle.topology_text.specs.FamilyWords.{families, family_word}
+use Rattle.topology_families.specs.FamilyWords.{families, family_word}
 use Rattle.command_words.{specs.{Tables.key_row, Words.fits}, proofs.Naming.any_named}
 use Rattle.command_words.proofs.key.Key.takes.Goals as goal
 

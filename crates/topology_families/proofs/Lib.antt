@@ -1,0 +1,3 @@
+pub mod FamilyLinks
+mod FamilyGroups
+pub mod FamilyLaws
