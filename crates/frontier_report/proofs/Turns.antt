@@ -13,6 +13,10 @@ turn_taken word check most before now p q x begun read all few =
     let left : most - length before ≡ suc (most - length now) = omega (arith, some_begins word p.rows begun, ap length all, length-append before (x ∷ []), few) in
     rw (left, begun, read, all)
 
+-- each takes a line at least
+pub turn_counted : {A : Type 0} (before now : List A) (x : A) (left rest most : ℕ) → now ≡ before ++ x ∷ [] → rest < left → length before + left ≤ most → length now + rest ≤ most
+turn_counted before now x left rest most all fewer few = omega (arith, ap length all, length-append before (x ∷ []))
+
 last_behind : {A : Type 0} (xs : List A) (x : A) (o : Option A) → slice_get (x ∷ xs) (length xs) ≡ last_or o (x ∷ xs)
 last_behind [] x o = refl
 last_behind (y ∷ ys) x o = last_behind ys y (Some x)
