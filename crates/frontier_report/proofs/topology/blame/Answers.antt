@@ -1,4 +1,4 @@
-use Rattle.std.{proofs.Common.{◌≡◌, ℕ, suc, ◌+◌, ◌-◌, ◌<◌, true, List, [], ◌∷◌, drop, slice_get, Option, None, Some, IfSome, refl, ap, ◌∙◌, arith}, specs.Option.is_some}
+use Rattle.std.{proofs.Common.{◌≡◌, ℕ, suc, ◌+◌, ◌-◌, ◌<◌, true, List, [], ◌∷◌, length, drop, slice_get, Option, None, Some, IfSome, refl, ap, ◌∙◌, arith}, specs.Option.is_some}
 use Rattle.text_lines.specs.Text.{Row, Place, behind}
 use Rattle.frontier_report.proofs.topology.blame.Goals as goal
 
@@ -23,3 +23,13 @@ loop-lines-preserved c =
     let p = c.loop-lines.lines.place in
     let q = c.next.new.self.place in
     row_behind p q c.args.number (some_has c.next.result (q ≡ behind p) c.if-is_none.ensures c.next.ensures.moves) (omega arith) ∙ c.loop-lines.invariant
+
+pub loop-lines-smaller : goal.loop-lines-smaller
+loop-lines-smaller c =
+    let p = c.loop-lines.lines.place in
+    let q = c.next.new.self.place in
+    let fewer : length q.rows + 1 ≡ length p.rows = some_has c.next.result (length q.rows + 1 ≡ length p.rows) c.if-is_none.ensures c.next.ensures.fewer in
+    omega arith
+
+pub next-requires : goal.next-requires
+next-requires c = omega (arith, c.loop-lines-test.true, c.number.ensures)
