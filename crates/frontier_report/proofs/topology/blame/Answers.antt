@@ -1,4 +1,4 @@
-use Rattle.std.{proofs.Common.{◌≡◌, ℕ, suc, ◌+◌, ◌-◌, ◌<◌, true, List, [], ◌∷◌, length, drop, slice_get, Option, None, Some, IfSome, refl, ap, ◌∙◌, arith}, specs.Option.is_some}
+use Rattle.std.{proofs.Common.{◌≡◌, ℕ, suc, ◌+◌, ◌-◌, ◌^◌, ◌<◌, true, List, [], ◌∷◌, length, drop, slice_get, Option, None, Some, IfSome, refl, ◌∙◌, arith}, specs.Option.is_some}
 use Rattle.text_lines.specs.Text.{Row, Place, behind}
 use Rattle.frontier_report.proofs.topology.blame.Goals as goal
 
@@ -15,6 +15,15 @@ row_nearer (row ∷ rows) i k e = rw e refl
 row_behind : (p q : Place) (n : ℕ) → q ≡ behind p → p.number < n → slice_get q.rows (n - q.number) ≡ slice_get p.rows (n - p.number)
 row_behind p q n moved later = rw moved (row_nearer p.rows (n - (p.number + 1)) (n - p.number) (omega arith))
 
+one_fewer : (m n : ℕ) → m + 1 ≡ n → m < n
+one_fewer m n e = omega arith
+
+room_below : (k n : ℕ) → k < n → n < 2 ^ 32 → k + 1 < 2 ^ 32
+room_below k n later fits = omega arith
+
+pub next-requires : goal.next-requires
+next-requires c = room_below c.loop-lines.lines.place.number c.args.number (rw c.number.ensures at c.loop-lines-test.true) c.ranges.number.fits
+
 pub loop-lines-init : goal.loop-lines-init
 loop-lines-init c = rw c.new-lines.ensures.place refl
 
@@ -22,14 +31,10 @@ pub loop-lines-preserved : goal.loop-lines-preserved
 loop-lines-preserved c =
     let p = c.loop-lines.lines.place in
     let q = c.next.new.self.place in
-    row_behind p q c.args.number (some_has c.next.result (q ≡ behind p) c.if-is_none.ensures c.next.ensures.moves) (omega arith) ∙ c.loop-lines.invariant
+    row_behind p q c.args.number (some_has c.next.result (q ≡ behind p) c.if-is_none.ensures c.next.ensures.moves) (rw c.number.ensures at c.loop-lines-test.true) ∙ c.loop-lines.invariant
 
 pub loop-lines-smaller : goal.loop-lines-smaller
 loop-lines-smaller c =
-    let p = c.loop-lines.lines.place in
-    let q = c.next.new.self.place in
-    let fewer : length q.rows + 1 ≡ length p.rows = some_has c.next.result (length q.rows + 1 ≡ length p.rows) c.if-is_none.ensures c.next.ensures.fewer in
-    omega arith
-
-pub next-requires : goal.next-requires
-next-requires c = omega (arith, c.loop-lines-test.true, c.number.ensures)
+    let m = length c.next.new.self.place.rows in
+    let n = length c.loop-lines.lines.place.rows in
+    one_fewer m n (some_has c.next.result (m + 1 ≡ n) c.if-is_none.ensures c.next.ensures.fewer)
