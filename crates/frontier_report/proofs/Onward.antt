@@ -6,6 +6,7 @@ use Rattle.collective_spec.specs.Patterns.{PatternValue}
 use Rattle.topology_text.{specs.{Spelling.{group_words, custom_lines}, Reading.{groups_at, nodes_line, pattern_at}}, proofs.{Groups.groups_give, Patterns.pattern_gives}}
 use Rattle.report_form.specs.{SynthLine.{AskedValue, asked_line}, Reading.version_line}
 use Rattle.report_lines.specs.Room.{HasRoom, Onward}
+use Rattle.frontier_report.specs.inner.Header.{HasMuchRoom}
 
 -- a line that was there was taken
 part_onward : {A C : Type 0} (check : Option Row → Result A C) (p : Place) (x : A × Place) (code : C) → check None ≡ Err code → line_part check p ≡ Ok x → Onward p x.1
@@ -62,8 +63,25 @@ room_at_first text p few first =
     let rows : length p.rows ≡ length (rows_of text) = ap (λ (x : Place). length x.rows) first in
     omega (arith, number, rows, few)
 
+-- and so has what follows
+pub room_kept : (p q : Place) → HasRoom p → Onward p q → HasRoom q
+room_kept p q room onward = omega arith
+
 -- behind the line of the version and that of what was asked stands the third line
 pub third_line : (text : List ℕ) (patterned : Bool) (asked : AskedValue) (p p1 p2 : Place) → p ≡ start text → line_part version_line p ≡ Ok (patterned, p1) → line_part (asked_line patterned) p1 ≡ Ok (asked, p2) → p2.number ≡ 3
 third_line text patterned asked p p1 p2 at_first version words =
     let number : p.number ≡ 1 = ap (λ (x : Place). x.number) at_first in
     omega (arith, number, part_number version_line p (patterned, p1) version, part_number (asked_line patterned) p1 (asked, p2) words)
+
+-- from there on there is room for a topology's lines
+pub header_room : (p : Place) → p.number ≡ 3 → HasMuchRoom p
+header_room p third = omega arith
+
+pub names_room : (p q : Place) → p.number ≡ 3 → q.number ≤ p.number + 1 → HasMuchRoom q
+names_room p q third header = omega arith
+
+pub groups_room : (p q r : Place) → p.number ≡ 3 → q.number ≤ p.number + 1 → r.number ≤ q.number + 1 → HasMuchRoom r
+groups_room p q r third header names = omega arith
+
+pub pattern_room : (p q r s : Place) → p.number ≡ 3 → q.number ≤ p.number + 1 → r.number ≤ q.number + 1 → s.number ≤ r.number + 256 → HasMuchRoom s
+pattern_room p q r s third header names groups = omega arith

@@ -1,5 +1,5 @@
 -- Parts that repeat, turn by turn, and the last of those that were read.
-use Rattle.std.{proofs.Common.{◌≡◌, ℕ, suc, ◌+◌, ◌-◌, ◌<◌, ◌≤◌, ◌&&◌, ◌==◌, Bool, true, false, if◌then◌else◌, List, [], ◌∷◌, ◌++◌, length, map, slice_get, Option, None, Some, Result, Ok, ap, refl, arith, length-append, sub-one}, proofs.lemmas.Bool.Decides.nat_tests, specs.{List.last_or, Option.option_map}}
+use Rattle.std.{proofs.Common.{◌≡◌, ℕ, suc, ◌+◌, ◌-◌, ◌<◌, ◌≤◌, ◌&&◌, ◌==◌, Bool, true, false, if◌then◌else◌, List, [], ◌∷◌, ◌++◌, length, map, slice_get, Option, None, Some, Result, Ok, ap, refl, sym, arith, length-append, sub-one}, proofs.lemmas.Bool.Decides.nat_tests, specs.{List.last_or, Option.option_map}}
 use Rattle.text_lines.specs.{Text.{Row, Place}, Check.first, Repeated.{row_begins, parts_from}}
 
 some_begins : (word : List ℕ) (rows : List Row) → row_begins word (first rows) ≡ true → 0 < length rows
@@ -7,11 +7,15 @@ some_begins word [] e = absurd (cc)
 some_begins word (row ∷ rows) e = omega arith
 
 -- behind a part go on those that may still come
-pub turn_taken : {A C : Type 0} (word : List ℕ) (check : List A → Place → Result (A × Place) (C × ℕ)) (most : ℕ) (before now : List A) (p q : Place) (x : A) → row_begins word (first p.rows) ≡ true → check before p ≡ Ok (x, q) → now ≡ before ++ x ∷ [] → length before + length p.rows ≤ most
+pub turn_taken : {A C : Type 0} (word : List ℕ) (check : List A → Place → Result (A × Place) (C × ℕ)) (most : ℕ) (before now : List A) (p q : Place) (x : A) → true ≡ row_begins word (first p.rows) → check before p ≡ Ok (x, q) → now ≡ before ++ x ∷ [] → length before + length p.rows ≤ most
     → parts_from word check (most - length now) now q ≡ parts_from word check (most - length before) before p
 turn_taken word check most before now p q x begun read all few =
-    let left : most - length before ≡ suc (most - length now) = omega (arith, some_begins word p.rows begun, ap length all, length-append before (x ∷ []), few) in
-    rw (left, begun, read, all)
+    let left : most - length before ≡ suc (most - length now) = omega (arith, some_begins word p.rows (sym begun), ap length all, length-append before (x ∷ []), few) in
+    rw (left, sym begun, read, all)
+
+-- each takes a line at least
+pub turn_counted : {A : Type 0} (before now : List A) (x : A) (left rest most : ℕ) → now ≡ before ++ x ∷ [] → rest < left → length before + left ≤ most → length now + rest ≤ most
+turn_counted before now x left rest most all fewer few = omega (arith, ap length all, length-append before (x ∷ []))
 
 last_behind : {A : Type 0} (xs : List A) (x : A) (o : Option A) → slice_get (x ∷ xs) (length xs) ≡ last_or o (x ∷ xs)
 last_behind [] x o = refl

@@ -20,8 +20,15 @@ use text_lines::{Line, Lines, Tokens};
 #[derive(Clone, Copy)]
 pub struct Refuted<'a>(pub &'a Question<'a>);
 
-/// The candidate, where it is within the limits and stands behind those before it.
+/// The last candidate, if there is one.
 #[tactic(auto, using(crate::proofs::Turns::last_of))]
+fn last_refuted(refuted: &[Candidate]) -> Option<Candidate>
+    ensures { result ≡ last_or None refuted.now }
+{
+    refuted.last().copied()
+}
+
+/// The candidate, where it is within the limits and stands behind those before it.
 fn refuted_behind(
     question: &Question<'_>,
     before: &[Candidate],
@@ -29,7 +36,7 @@ fn refuted_behind(
 ) -> Option<Candidate>
     ensures { result ≡ (if is_within (asks question.now) (candidate_of x) && comes_next (last_or None before.now) (candidate_of x) then Some (candidate_of x) else None) }
 {
-    candidate_behind(question, before.last().copied(), x)
+    candidate_behind(question, last_refuted(before), x)
 }
 
 /// A refuted candidate, behind those before it.

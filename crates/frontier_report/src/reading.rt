@@ -1,19 +1,21 @@
 //! The reader of reports.
 
-ghost use Rattle.std.specs.Prelude.{◌≡◌, ◌≢◌, ◌+◌, ◌<◌, ◌^◌, Ok, length, IfOk, IfErr};
+ghost use Rattle.std.specs.Prelude.{◌≡◌, ◌≢◌, ◌+◌, ◌<◌, ◌≤◌, ◌^◌, Ok, length, IfOk, IfErr};
 ghost use Rattle.text_lines.specs.Text.{rows_of};
-ghost use Rattle.report_form.specs.{Reports.{ReportValue, IsReport}, Spelling.report_text, Reading.report_of, Answer.Answers, First.FailsFirstAt};
+ghost use Rattle.report_form.specs.{Reports.{ReportValue, IsReport}, Spelling.report_text, Reading.{body_of, report_of}, Answer.Answers, First.FailsFirstAt};
+ghost use Rattle.report_lines.specs.Room.{HasRoom};
 ghost use Rattle.frontier_report.specs.inner.{Bodies.parts_value, Gives.Reads};
 
 use crate::frontiers::{Body, body_part};
 use crate::report_stop::ReportStop;
 use crate::topology::{groups_in, header_at, names_at, pattern_in, root_at};
 use collective_spec::Collective;
+use indexmap::IndexSet;
 use report_form::{Report, ReportCode, ReportFault, Words};
 use report_lines::{asked_part, version_part};
 use std::alloc::Global;
 use text_lines::Lines;
-use topology_text::NamedTopology;
+use topology_text::{Name, NamedTopology};
 
 /// What was read of a report.
 #[derive(Drop)]
@@ -21,6 +23,28 @@ struct Parts {
     words: Words,
     topology: NamedTopology,
     body: Body,
+}
+
+/// What stands behind the topology, with the words and the topology.
+fn parts_behind(
+    alloc: Global,
+    lines: &mut Lines<'_>,
+    names: &IndexSet<Name>,
+    words: Words,
+    topology: NamedTopology,
+) -> Result<Parts, ReportStop>
+    requires room { HasRoom lines.old.place }
+    requires few { length names.now.keys ≤ 16 }
+    requires names { names.now.keys ≡ topology.names }
+    requires nodes { length names.now.keys ≡ topology.topology.nodes }
+    ensures { Reads parts_value result (body_of words topology lines.old.place) }
+{
+    let body = body_part(alloc, lines, names, words, &topology)?;
+    Ok(Parts {
+        words,
+        topology,
+        body,
+    })
 }
 
 #[tactic(auto, unfolding(report_form::specs::Reading::report_of))]
@@ -43,12 +67,7 @@ fn parts_of(alloc: Global, text: &[u8]) -> Result<Parts, ReportStop>
         root,
     };
     let words = Words::new(collective, asked.limits);
-    let body = body_part(alloc, &mut lines, &names, words, &topology)?;
-    Ok(Parts {
-        words,
-        topology,
-        body,
-    })
+    parts_behind(alloc, &mut lines, &names, words, topology)
 }
 
 fn answered(alloc: Global, bytes: &[u8]) -> Result<Report, ReportFault>

@@ -28,7 +28,6 @@ pub trait Repeats {
 }
 
 /// Takes the parts that begin with the word, up to the first line that doesn't.
-#[tactic(auto, using(crate::proofs::Turns::turn_taken, std::proofs::lemmas::Grind::common_steps))]
 pub fn repeated<R: Repeats>(
     alloc: Global,
     lines: &mut Lines<'_>,

@@ -6,10 +6,11 @@ ghost use Rattle.run_rules.specs.{Answers.IsAnswerAlone, Tasks.{json_asked, json
 
 use crate::OutOfMemory;
 use command_words::{JsonWhat, PointWord, WordCode};
+use given_reports::{ReportText, report_of_text};
 use json_exchange::{programs_json, report_json, topology_json};
 use replay_text::point_programs;
 use report_form::{Report, point_at};
-use run_rules::{Answer, ReportText, Status, bad_topology, refused_word, report_of_text};
+use run_rules::{Answer, Status, bad_topology, refused_word};
 use std::alloc::Global;
 use topology_text::read_topology;
 

@@ -5,9 +5,10 @@ ghost use Rattle.outer_ports.specs.{Port.{HasCause, Tells}, Shelf.FilesStay};
 ghost use Rattle.run_rules.specs.{Answers.{IsAnswer, LeavesOff}, Commands.IsRefusal, Refusals.Refusal, Tasks.{audit_asked, limit}, Steps.audit_in};
 
 use frontier_audit::audit;
+use given_reports::{ReportText, report_of_text};
 use outer_ports::Shelf;
 use report_form::Report;
-use run_rules::{Answer, Halt, ReportText, report_of_text, search_refusal, verdict_answer};
+use run_rules::{Answer, Halt, search_refusal, verdict_answer};
 use std::alloc::Global;
 
 /// The audit of a report that was read, where its search could be done.

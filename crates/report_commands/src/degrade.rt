@@ -16,9 +16,10 @@ use crate::fault::{LinkFault, fault_refusal};
 use crate::old_refuted::old_refuted;
 use degraded_links::narrow;
 use frontier_audit::{AuditVerdict, audit};
+use given_reports::{ReportText, report_of_text};
 use outer_ports::{Part, Shelf};
 use report_form::{Report, spec_of_part};
-use run_rules::{Answer, Halt, ReportText, Status, report_of_text, search_refusal, verdict_answer};
+use run_rules::{Answer, Halt, Status, search_refusal, verdict_answer};
 use std::alloc::Global;
 
 /// The answer to a fault of a report that is right: its search done anew. The only error is

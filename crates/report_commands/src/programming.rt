@@ -5,9 +5,10 @@ ghost use Rattle.run_rules.specs.{Answers.IsAnswerAlone, Tasks.{limit, programs_
 
 use crate::OutOfMemory;
 use command_words::{PointWord, WordCode};
+use given_reports::{ReportText, report_of_text};
 use replay_text::print_point_programs;
 use report_form::{Report, point_at};
-use run_rules::{Answer, ReportText, Status, refused_word, report_of_text};
+use run_rules::{Answer, Status, refused_word};
 use std::alloc::Global;
 
 /// The programs of a point of this report, where it has a point of that number.

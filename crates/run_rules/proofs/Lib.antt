@@ -1,5 +1,4 @@
 pub mod SizeAndCounts
-pub mod ReadReports
 pub mod Sought
 pub mod Claimed
 pub mod OneVerdict

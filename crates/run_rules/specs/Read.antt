@@ -1,9 +1,9 @@
--- What is read of a text or asked of a search, or the answer of its refusal, as the code has it.
+-- What is asked of a search, or the answer of its refusal, as the code has it.
 use Rattle.std.specs.Prelude.{◌≡◌, Option, None, Some, Result, Ok, Err}
 use Rattle.topology_text.specs.Value.{NamedTopologyValue}
-use Rattle.report_form.specs.Reports.{WordsValue, ReportValue}
+use Rattle.report_form.specs.Reports.{WordsValue}
 use Rattle.frontier_audit.specs.Searches.{IsAsked}
-use Rattle.run_rules.specs.{declared.{answer.Answer.Answer, report_text.ReportText.{ReportText, TheVariants.{Spelled, Refused}}, search_text.SearchText.SearchText}, Answers.Says, Refusals.{Refusal, refusal_line}}
+use Rattle.run_rules.specs.{declared.{answer.Answer.Answer, search_text.SearchText.SearchText}, Answers.Says, Refusals.{Refusal, refusal_line}}
 use Rattle.run_rules.specs.declared.search_text.SearchText.TheVariants as search
 
 -- this is refused, and the answer says so
@@ -11,11 +11,6 @@ pub record IsRefused {A : Type 0} (asked : Result A Refusal) (answer : Answer) :
   pub refusal : Refusal
   pub is : asked ≡ Err refusal
   pub says : Says refusal.status (refusal_line refusal) answer.status answer.text.items
-
--- the report that was read, or the answer of its refusal
-abbrev pub IsReadAs : Result ReportValue Refusal → ReportText → Type 0
-IsReadAs read (Spelled report) = read ≡ Ok report
-IsReadAs read (Refused answer) = IsRefused read answer
 
 -- nothing refuses it, or this is the answer of its refusal
 abbrev pub IsSearchableAs : Result (Unit {0}) Refusal → Option Answer → Type 0

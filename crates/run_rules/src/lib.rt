@@ -6,7 +6,6 @@ mod answer;
 mod halt;
 mod laws;
 mod reading;
-mod report_text;
 mod search_text;
 mod searchable;
 mod status;
@@ -20,7 +19,6 @@ pub use laws::{
     faults_are_answered_by_the_checks, trials_are_proved,
 };
 pub use reading::reads_source;
-pub use report_text::{ReportText, report_of_text};
 pub use search_text::{Search, SearchText, bad_topology, search_of_text};
 pub use searchable::search_refusal;
 pub use status::Status;

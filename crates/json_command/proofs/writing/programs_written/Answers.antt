@@ -1,7 +1,8 @@
 use Rattle.std.proofs.Common.{◌≡◌, Some, Result, Ok, IfOk, sym, ap, subst}
 use Rattle.text_lines.specs.Check.{◌>>=◌}
 use Rattle.command_words.specs.declared.command.JsonWhat.TheVariants as what
-use Rattle.run_rules.{specs.{Read.IsReadAs, Tasks.{Task, json_asked, json_programs_in, read_report}, Answers.IsAnswerAlone, Refusals.Refusal}, proofs.Answered.{refused_alone, refused_behind}}
+use Rattle.run_rules.{specs.{Tasks.{Task, json_asked, json_programs_in, read_report}, Answers.IsAnswerAlone, Refusals.Refusal}, proofs.Answered.{refused_alone, refused_behind}}
+use Rattle.given_reports.specs.Read.{IsReadAs}
 use Rattle.json_command.proofs.writing.programs_written.Goals as goal
 
 pub returns-in-Refused : goal.returns-in-Refused

@@ -4,7 +4,8 @@ use Rattle.command_words.specs.declared.command.JsonWhat.TheVariants as what
 use Rattle.report_form.specs.Reports.{ReportValue}
 use Rattle.json_values.specs.Json.{printed}
 use Rattle.json_rules.specs.ReportForm.{report as report_form}
-use Rattle.run_rules.{specs.{Read.IsReadAs, Refusals.Refusal, Tasks.{Task, Write, json_asked, read_report}}, proofs.Answered.{refused_alone, refused_behind, written_as}}
+use Rattle.run_rules.{specs.{Refusals.Refusal, Tasks.{Task, Write, json_asked, read_report}}, proofs.Answered.{refused_alone, refused_behind, written_as}}
+use Rattle.given_reports.specs.Read.{IsReadAs}
 use Rattle.json_command.proofs.writing.report_written.Goals as goal
 
 abbrev written : ReportValue → Result Task Refusal

@@ -1,6 +1,7 @@
 use Rattle.std.proofs.Common.{arith, ◌≡◌, Ok, IfOk, ap, subst, sym}
 use Rattle.text_lines.specs.Check.{◌>>=◌}
-use Rattle.run_rules.{specs.{Answers.IsAnswer, Read.IsReadAs, Tasks.read_report, Steps.audit_in}, proofs.Answered.{refused_alone, refused_behind}}
+use Rattle.run_rules.{specs.{Answers.IsAnswer, Tasks.read_report, Steps.audit_in}, proofs.Answered.{refused_alone, refused_behind}}
+use Rattle.given_reports.specs.Read.{IsReadAs}
 use Rattle.report_commands.proofs.check.check_answer.Goals as goal
 
 pub returns-in-Spelled-clause-answers : goal.returns-in-Spelled-clause-answers

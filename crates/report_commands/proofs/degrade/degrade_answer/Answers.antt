@@ -1,5 +1,6 @@
 use Rattle.std.proofs.Common.{refl, subst}
-use Rattle.run_rules.{specs.{Read.IsReadAs, Tasks.{degrade_asked, read_report}, Steps.degrade_in}, proofs.Answered.{refused_alone, refused_behind}}
+use Rattle.run_rules.{specs.{Tasks.{degrade_asked, read_report}, Steps.degrade_in}, proofs.Answered.{refused_alone, refused_behind}}
+use Rattle.given_reports.specs.Read.{IsReadAs}
 use Rattle.report_commands.proofs.degrade.degrade_answer.Goals as goal
 
 pub returns-in-Refused-clause-answers : goal.returns-in-Refused-clause-answers

@@ -1,6 +1,7 @@
 use Rattle.std.proofs.Common.{arith, ◌≡◌, Ok, IfOk, ap, subst, sym}
 use Rattle.text_lines.specs.Check.{◌>>=◌}
-use Rattle.run_rules.{specs.{Answers.IsAnswerAlone, Read.IsReadAs, Tasks.read_report, Steps.programs_in}, proofs.Answered.{refused_alone, refused_behind}}
+use Rattle.run_rules.{specs.{Answers.IsAnswerAlone, Tasks.read_report, Steps.programs_in}, proofs.Answered.{refused_alone, refused_behind}}
+use Rattle.given_reports.specs.Read.{IsReadAs}
 use Rattle.report_commands.proofs.programming.programs_answer.Goals as goal
 
 pub returns-in-Spelled : goal.returns-in-Spelled

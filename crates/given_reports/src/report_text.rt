@@ -2,13 +2,12 @@
 
 ghost use Rattle.std.specs.Prelude.{◌≢◌, ◌≤◌, length, IfOk};
 ghost use Rattle.report_form.specs.Answer.{report_number};
-ghost use Rattle.run_rules.specs.{Answers.Says, Read.IsReadAs, Refusals.{refusal_line, refused_at}, Tasks.{limit, read_report}};
+ghost use Rattle.run_rules.specs.{Answers.Says, Refusals.{refusal_line, refused_at}, Tasks.{limit, read_report}};
+ghost use Rattle.given_reports.specs.Read.{IsReadAs};
 
-use crate::OutOfMemory;
-use crate::answer::{Answer, refusal};
-use crate::status::Status;
 use frontier_report::read_report;
 use report_form::{Report, ReportCode, ReportFault};
+use run_rules::{Answer, OutOfMemory, Status, refusal};
 use std::alloc::Global;
 
 /// A report, or the answer that refuses its text.

@@ -1,7 +1,7 @@
 use Rattle.std.proofs.Common.{arith}
 use Rattle.frontier_report.proofs.Onward.{lines_of_short}
-use Rattle.run_rules.proofs.ReadReports.{read_refused}
-use Rattle.run_rules.proofs.report_text.report_of_text.Goals as goal
+use Rattle.given_reports.proofs.ReadReports.{read_refused}
+use Rattle.given_reports.proofs.report_text.report_of_text.Goals as goal
 
 pub read_report-requires : goal.read_report-requires
 read_report-requires c = lines_of_short c.args.bytes.now (omega (arith, c.requires))
