@@ -15,6 +15,9 @@ const WORD_ROOM: usize = 22;
 /// How many bytes the text of a formula has room for at first, for each of its clauses.
 const CLAUSE_ROOM: usize = 16;
 
+/// How many bytes the text of a line has room for at first, for each of its numbers.
+const NUMBER_ROOM: usize = 8;
+
 /// A number and a space, where there is room for any number.
 fn push_plain(out: &mut Vec<u8>, number: u64)
     requires { vec_len out.old + 21 ≤ vec_capacity out.old }
@@ -145,7 +148,9 @@ pub fn print_line(out: &mut Vec<u8>, line: &ProofLine) -> Result<(), OutOfMemory
     ensures printed { OnOk result (out.new.items ≡ out.old.items ++ text_of_line (line_words (LratLine.Addition line.now))) }
     ensures unchanged { OnErr result (out.new.items ≡ out.old.items) }
 {
-    let mut text = Vec::new(*out.allocator());
+    let numbers = line.lits.len().saturating_add(line.hints.len());
+    let room = numbers.saturating_mul(NUMBER_ROOM);
+    let mut text = Vec::with_capacity(*out.allocator(), room)?;
     push_line(&mut text, line)?;
     push_word(out, &text)
 }
