@@ -7,6 +7,9 @@ use Rattle.proof_rules.{specs.{Accepting.{Conflicts, Implied, leading}, Refuting
 abbrev pub Keeps : List Entry → List Entry → Type 0
 Keeps held more = (id : ℕ) (clause : List LitValue) → clause_at held id ≡ Some clause → clause_at more id ≡ Some clause
 
+pub keeps_append : (held more : List Entry) → Keeps held (held ++ more)
+keeps_append held more = kept held more
+
 pub conflict_kept : (held more : List Entry) → Keeps held more → (falses : List LitValue) (ids : List ℕ) → Conflicts held falses ids → Conflicts more falses ids
 conflict_kept held more k falses (id ∷ next ∷ ids) c = grind (arith, conflict_kept held more k (negation c.0 ∷ falses) (next ∷ ids) c.2)
 conflict_kept held more k falses ids c = grind arith
