@@ -2,16 +2,13 @@
 use Rattle.std.proofs.Common.{◌≡◌, ℕ, zero, suc, ◌+◌, ◌-◌, ◌<◌, ◌≤◌, ⊎_elim, Bool, true, false, ◌&&◌, eqb, List, [], length, map, refl, sym, ap, ◌∙◌, subst, arith, filter, fold, not}
 use Rattle.std.{proofs.lemmas.{Bool.{and_parts, and_from, eqb-true, eq-eqb, or_cases}, List.Elements.recursion_from_All}, specs.List.{AllByRecursion, list_any}}
 use Rattle.schedule.specs.{declared.hop.Hop.Hop, Sends.{ScheduleValue, IsSchedule, IsInRange, IsStep}, Placed.{PlacementValue, holds, same_pair}, Solving.Tight, Running.{after, brings}}
-use Rattle.schedule.specs.{Bags.{Bag, Bags, added, contributions, is_empty, one_of_each}, Summing.{bags_after, goes_to}, JoinedRuns.{filled_senders, joined_after}}
+use Rattle.schedule.specs.{Bags.{Bags, added, contributions, is_empty, one_of_each}, Summing.{bags_after, goes_to}, JoinedRuns.{filled_senders, joined_after}}
 use Rattle.schedule.proofs.{First.{Among, among_each, among_map, among_right, each_among, map_among, any_found, filter_among, among_kept}, Inverting.steps_of}
 use Rattle.bag_runs.proofs.JoinedSteps.{replaced_has, step_adds, step_copies}
 use Rattle.inversion.proofs.Reaching.{below_of, holds_next}
 use Rattle.allreduce_join.{specs.Joins.one_after, proofs.{Paired.append_among, Parts.sends_first, Later.later}}
 
 -- ---- the steps that add
-
-fold_alike : (a b : Bags) (hops : List Hop) (x y : Bag) → ((pair : ℕ × ℕ) → a pair ≡ b pair) → x ≡ y → fold added x (map (λ h. a (h.chunk, h.from)) hops) ≡ fold added y (map (λ h. b (h.chunk, h.from)) hops)
-fold_alike a b hops x y same is = λ i. fold added (is i) (map (λ h. same (h.chunk, h.from) i) hops)
 
 -- in its first part a join runs as the first schedule
 pub first_part : (start : Bags) (p q : ScheduleValue) → IsSchedule q → (n : ℕ) → n ≤ length p.rounds → (pair : ℕ × ℕ) → joined_after start (one_after (length p.rounds) p q) (length p.rounds) n pair ≡ bags_after start p.sends n pair
@@ -22,7 +19,7 @@ first_part start p q valid (suc n) small pair =
     let so_far : (other : ℕ × ℕ) → before other ≡ bags_after start p.sends n other = λ other. first_part start p q valid n (omega (arith, small)) other in
     ap (λ (after : Bags). after pair) (step_adds start all (length p.rounds) n (omega (arith, small)))
     ∙ (ap (λ hops. fold added (before pair) (map (λ h. before (h.chunk, h.from)) hops)) (sends_first p q (n + 1) pair valid (omega (arith, small)))
-    ∙ fold_alike before (bags_after start p.sends n) (filter (goes_to (n + 1) pair) p.sends) (before pair) (bags_after start p.sends n pair) so_far (so_far pair))
+    ∙ (λ i. fold added (so_far pair i) (map (λ h. so_far (h.chunk, h.from) i) (filter (goes_to (n + 1) pair) p.sends))))
 
 -- ---- the steps that copy
 

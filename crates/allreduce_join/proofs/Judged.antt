@@ -18,14 +18,11 @@ module _ (t : TopologyValue) (chunks : ℕ) (s : ScheduleValue) (adding : ℕ) (
   pub fault_misfit : (v : SumVerdict) → Some v ≡ misfit_of t s → v ≡ judged
   fault_misfit v found = judged_misfit t s last (first_clash chunks t.nodes s adding) due v found
 
-  clash_fitting : (clash : Option (ℕ × ℕ × ℕ)) (nodes : ℕ) → nodes ≡ t.nodes → None ≡ misfit_of t s → clash ≡ first_clash chunks nodes s adding → sum_judged t s last None None clash due ≡ judged
-  clash_fitting clash nodes same none found = grind (arith, judged_fitting)
-
   pub fault_clash : (nodes : ℕ) (clash : ℕ × ℕ × ℕ) → nodes ≡ t.nodes → None ≡ misfit_of t s → Some clash ≡ first_clash chunks nodes s adding → verdict.Clash clash.1 clash.2 clash.0 ≡ judged
-  fault_clash nodes clash same none found = clash_fitting (Some clash) nodes same none found
+  fault_clash nodes clash same none found = grind (arith, judged_fitting)
 
   pub fault_none : (nodes : ℕ) → nodes ≡ t.nodes → None ≡ misfit_of t s → None ≡ first_clash chunks nodes s adding → counts_judged last due ≡ judged
-  fault_none nodes same none fine = clash_fitting None nodes same none fine
+  fault_none nodes same none fine = grind (arith, judged_fitting)
 
 -- ---- the counts
 

@@ -22,8 +22,7 @@ arrivals_more : (step : ℕ) (pair : ℕ × ℕ) (hops : List Hop) (h : Hop) →
 arrivals_more step pair hops h now = grind (arith, sum_by-cons, eq-eqb, sum_by-append)
 
 once_more : (comes : Bool) (least n m : ℕ) → m ≡ n + cond comes 1 0 → (comes ≡ true → leb least n ≡ true) → (comes || leb (suc least) n) ≡ leb (suc least) m
-once_more true least n m is often = let mine = often refl in grind (arith, nat_tests)
-once_more false least n m is often = grind (arith, nat_tests)
+once_more comes least n m is often = grind (arith, nat_tests)
 
 -- where the send's pair is met so often, it is met once more
 pub met_added : (least chunks nodes step : ℕ) (hops : List Hop) (h : Hop) → h.step ≡ step → leb least (arrivals step (h.chunk, h.to) hops) ≡ true → with_pair (met_by (suc least) chunks nodes step hops) (h.chunk, h.to) ≡ met_by (suc least) chunks nodes step (hops ++ h ∷ [])
@@ -37,8 +36,7 @@ met_added least chunks nodes step hops h now met =
         (λ same. subst (λ (p : ℕ × ℕ). leb least (arrivals step p hops) ≡ true) (pair_is (h.chunk, h.to) pair same) met)
 
 unchanged : (comes : Bool) (least n m : ℕ) → m ≡ n + cond comes 1 0 → (comes ≡ true → leb least n ≡ true → leb (suc least) n ≡ true) → leb (suc least) n ≡ leb (suc least) m
-unchanged true least n m is already = let mine = already refl in grind (arith, nat_tests)
-unchanged false least n m is already = grind (arith, nat_tests)
+unchanged comes least n m is already = grind (arith, nat_tests)
 
 -- where the send's pair is met that often already, or not nearly, nothing changes
 pub met_kept : (least chunks nodes step : ℕ) (hops : List Hop) (h : Hop) → h.step ≡ step → (leb least (arrivals step (h.chunk, h.to) hops) ≡ true → leb (suc least) (arrivals step (h.chunk, h.to) hops) ≡ true) → met_by (suc least) chunks nodes step hops ≡ met_by (suc least) chunks nodes step (hops ++ h ∷ [])
@@ -55,9 +53,6 @@ met_kept least chunks nodes step hops h now settled = placed-alike chunks nodes 
 pub record IsMet (chunks nodes step : ℕ) (hops : List Hop) (met twice : PlacementValue) : Type 0 where
   pub met_is : met ≡ met_by 1 chunks nodes step hops
   pub twice_is : twice ≡ met_by 2 chunks nodes step hops
-
-at_least_none : (n : ℕ) → leb 0 n ≡ true
-at_least_none n = grind (arith, nat_tests)
 
 -- one more whose pair is met already
 pub again : (chunks nodes step : ℕ) (all sends : List Hop) (i : ℕ) (d : Hop) (met twice more : PlacementValue) → sends ≡ filter (λ h. eqb h.step step) all → i < length sends → (get_or sends i d).chunk < chunks → (get_or sends i d).to < nodes
@@ -85,7 +80,7 @@ first_time chunks nodes step all sends i d met twice more mine inside c n so_far
     let never : leb 1 (arrivals step target hops) ≡ false = sym (ap (λ p. holds p target) so_far.met_is ∙ holds-placed chunks nodes (λ p. leb 1 (arrivals step p hops)) target c n) ∙ lacks in
     let longer : hops ++ h ∷ [] ≡ take (i + 1) sends = sym (take_more sends i d inside) in
     record {
-      met_is = is ∙ (ap (λ p. with_pair p target) so_far.met_is ∙ (met_added 0 chunks nodes step hops h now (at_least_none (arrivals step target hops)) ∙ ap (met_by 1 chunks nodes step) longer));
+      met_is = is ∙ (ap (λ p. with_pair p target) so_far.met_is ∙ (met_added 0 chunks nodes step hops h now (grind (arith, nat_tests)) ∙ ap (met_by 1 chunks nodes step) longer));
       twice_is = so_far.twice_is ∙ (met_kept 1 chunks nodes step hops h now (λ once. absurd (both_ways _ never once)) ∙ ap (met_by 2 chunks nodes step) longer);
     }
 

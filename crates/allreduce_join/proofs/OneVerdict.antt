@@ -1,5 +1,5 @@
 -- The verdict on a schedule that adds up, where every step adds, and where every chunk is demanded at every node.
-use Rattle.std.{proofs.{Common.{◌≡◌, ℕ, zero, suc, ◌+◌, ◌≤◌, true, List, length, map, None, refl, sym, ap, ◌∙◌, arith}, lemmas.List.Folds.find-append}, specs.{List.{find, flat_map, range_with_len}, Option.{option_map, option_or}}}
+use Rattle.std.{proofs.{Common.{◌≡◌, ℕ, zero, suc, ◌+◌, ◌≤◌, true, length, map, None, refl, arith}, lemmas.List.Folds.find-append}, specs.List.{find, flat_map, range_with_len}}
 use Rattle.list_laws.proofs.Tests.{find-map}
 use Rattle.schedule.specs.{Links.TopologyValue, Sends.ScheduleValue, Placed.{PlacementValue, all_pairs, placed}, JoinedRuns.is_clash}
 use Rattle.bag_runs.proofs.JoinedSteps.{adding_throughout}
@@ -13,12 +13,7 @@ none_adding : (chunks nodes : ℕ) (s : ScheduleValue) (adding n a : ℕ) → a 
     → find (is_clash s adding) (flat_map (λ step. map (λ pair. (step, pair.0, pair.1)) (all_pairs chunks nodes)) (range_with_len a n)) ≡ None
 none_adding chunks nodes s adding zero a le = refl
 none_adding chunks nodes s adding (suc n) a le =
-    let rest : List (ℕ × ℕ × ℕ) = flat_map (λ step. map (λ pair. (step, pair.0, pair.1)) (all_pairs chunks nodes)) (range_with_len (a + 1) n) in
-    find-append (is_clash s adding) (map (λ pair. (a, pair.0, pair.1)) (all_pairs chunks nodes)) rest
-    ∙ ap (λ first. option_or first (find (is_clash s adding) rest))
-    (find-map (is_clash s adding) (λ (pair : ℕ × ℕ). (a, pair.0, pair.1)) (all_pairs chunks nodes)
-    ∙ ap (option_map (λ (pair : ℕ × ℕ). (a, pair.0, pair.1))) (sym (clash_adding chunks nodes s adding a (omega (arith, le)))))
-    ∙ none_adding chunks nodes s adding n (a + 1) (omega (arith, le))
+    grind (arith, find-append, find-map, clash_adding chunks nodes s adding a, none_adding chunks nodes s adding n (a + 1))
 
 -- the verdict is that on a sum
 pub judged_adding : (t : TopologyValue) (demand : PlacementValue) (s : ScheduleValue) (adding : ℕ) → length s.rounds ≤ adding → sum_verdict_of t demand s ≡ summed_verdict_of t demand s adding

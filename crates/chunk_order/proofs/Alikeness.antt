@@ -16,7 +16,7 @@ range_all p a (suc n) each = grind (arith, each, range_all p (a + 1) n)
 
 pub find_alike : (p q : ℕ → Bool) (a n : ℕ) → ((k : ℕ) → a ≤ k → k < a + n → p k ≡ q k) → find p (range_with_len a n) ≡ find q (range_with_len a n)
 find_alike p q a zero same = refl
-find_alike p q a (suc n) same = grind (arith, same a (omega arith) (omega arith), find_alike p q (a + 1) n (λ k low high. same k (omega (arith, low)) (omega (arith, high))))
+find_alike p q a (suc n) same = grind (arith, same a, find_alike p q (a + 1) n (λ k low high. same k (omega (arith, low)) (omega (arith, high))))
 
 find_below : (p : ℕ → Bool) (a n k : ℕ) → find p (range_with_len a n) ≡ Some k → k < a + n
 find_below p a zero k found = absurd cc

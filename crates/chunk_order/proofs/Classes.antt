@@ -1,6 +1,6 @@
 -- Classes of chunks that are alike: each has a least chunk, and its chunks ascend.
-use Rattle.std.proofs.Common.{◌≡◌, ℕ, zero, suc, ◌+◌, ◌-◌, ◌<◌, ◌≤◌, Bool, true, false, ltb, List, [], ◌∷◌, get_or, refl, sym, ap, ◌∙◌, subst, ⊎_elim, arith, filter}
-use Rattle.std.proofs.lemmas.{Bool.{false≢true, cases_Bool, cases_eq, false_from_ne_true, not_from_false, ltb-true, lt-ltb}, List.FromFn.{length-range_with_len, get_or-range_with_len}}
+use Rattle.std.proofs.Common.{◌≡◌, ℕ, zero, suc, ◌+◌, ◌-◌, ◌<◌, ◌≤◌, Bool, true, false, ltb, List, [], ◌∷◌, get_or, refl, ◌∙◌, ⊎_elim, arith, filter}
+use Rattle.std.proofs.lemmas.{Bool.{cases_Bool, cases_eq, false_from_ne_true, not_from_false, ltb-true, lt-ltb}, List.FromFn.{length-range_with_len, get_or-range_with_len}}
 use Rattle.std.specs.List.{list_any, range_with_len, AllByRecursion}
 use Rattle.schedule.{specs.Placed.PlacementValue, proofs.First.{among_each, among_kept, Among-from_Contains, InOrder, InOrder-filter, each_weaker, each_filter, each_passes}}
 use Rattle.chunk_order.{specs.{Alike.is_alike, Ordering.{is_least, class_of, next_pairs}}, proofs.{Alikeness.{alike_itself, alike_back, alike_both}, Firsts.{first_from, first_no_later, first_passes}}}
@@ -96,12 +96,8 @@ later_at R p a (suc n) c d later low less high first second =
     ⊎_elim
     (λ (passes : p a ≡ true).
     let all : Later R (a ∷ filter p (range_with_len (a + 1) n)) = rw passes at later in
-    ⊎_elim
-    (λ (here : c ≡ a). subst (λ x. R x d) (sym here) (filter_at p (R a) (a + 1) n d all.0 (omega (arith, here, less)) (omega (arith, high)) second))
-    (λ (past : c ≡ a → ⊥). later_at R p (a + 1) n c d all.1 (omega (arith, low, past)) less (omega (arith, high)) first second)
-    (cases_eq c a))
+    grind (arith, cases_eq c a, filter_at p (R a) (a + 1) n d all.0, later_at R p (a + 1) n c d all.1))
     (λ (fails : p a ≡ false).
     let rest : Later R (filter p (range_with_len (a + 1) n)) = rw fails at later in
-    let past : c ≡ a → ⊥ = λ same. false≢true (sym fails ∙ ap p (sym same) ∙ first) in
-    later_at R p (a + 1) n c d rest (omega (arith, low, past)) less (omega (arith, high)) first second)
+    grind (arith, cases_eq c a, later_at R p (a + 1) n c d rest))
     (cases_Bool (p a))

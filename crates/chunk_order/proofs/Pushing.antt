@@ -10,13 +10,11 @@ use Rattle.chunk_order.{specs.{Alike.is_alike, Ordering.{class_of, next_pairs}, 
 
 shifted : {X : Type 0} (f h : ℕ → List X) (a m : ℕ) → ((k : ℕ) → a ≤ k → f (k + 1) ≡ h k) → flat_map f (range_with_len (a + 1) m) ≡ flat_map h (range_with_len a m)
 shifted f h a zero same = refl
-shifted f h a (suc m) same =
-    ap (λ xs. xs ++ flat_map f (range_with_len (a + 1 + 1) m)) (same a (omega arith))
-    ∙ ap (λ xs. h a ++ xs) (shifted f h (a + 1) m (λ k low. same k (omega (arith, low))))
+shifted f h a (suc m) same = grind (arith, same a, shifted f h (a + 1) m (λ k low. same k (omega (arith, low))))
 
 pub nexts_by_place : {X : Type 0} (g : ℕ × ℕ → List X) (cs : List ℕ) (n : ℕ) → n ≡ length cs - 1 → flat_map g (next_pairs cs) ≡ flat_map (λ k. g (get_or cs (k - 1) 0, get_or cs k 0)) (range_with_len 1 n)
-nexts_by_place g [] n is = let none : n ≡ 0 = omega (arith, is) in sym (ap (λ m. flat_map (λ k. g (get_or [] (k - 1) 0, get_or [] k 0)) (range_with_len 1 m)) none)
-nexts_by_place g (c ∷ []) n is = let none : n ≡ 0 = omega (arith, is) in sym (ap (λ m. flat_map (λ k. g (get_or (c ∷ []) (k - 1) 0, get_or (c ∷ []) k 0)) (range_with_len 1 m)) none)
+nexts_by_place g [] n is = grind arith
+nexts_by_place g (c ∷ []) n is = grind arith
 nexts_by_place {X = X} g (c ∷ d ∷ ds) n is =
     let whole : List ℕ = c ∷ d ∷ ds in
     let f : ℕ → List X = λ k. g (get_or whole (k - 1) 0, get_or whole k 0) in

@@ -1,6 +1,6 @@
 -- Chunks that are renamed: a schedule that solves still does, where each chunk gets the name of one that is alike.
 use Rattle.std.proofs.Common.{◌≡◌, ℕ, zero, suc, ◌+◌, ◌<◌, ◌≤◌, ◌*◌, Bool, true, false, ◌||◌, cond, eqb, ltb, List, [], ◌∷◌, length, get_or, map, refl, sym, ap, ◌∙◌, ⊎_elim, arith, ◌≢◌, ◌&&◌, IsPermutation}
-use Rattle.std.proofs.lemmas.{Bool.{and_parts, and_from, cases_Bool, eqb-true, eq-eqb, ltb-true, lt-ltb}, List.{Folds.list_any_at, Elements.{All-from_recursion, recursion_from_All}, Sums.sum_by-cons}}
+use Rattle.std.proofs.lemmas.{Bool.{and_parts, cases_Bool, Decides.nat_tests, eqb-true, eq-eqb, ltb-true}, List.{Folds.list_any_at, Elements.{All-from_recursion, recursion_from_All}, Sums.sum_by-cons}}
 use Rattle.std.{proofs.lemmas.List.Sorted.{IsPermutation-refl, IsPermutation-cons, IsPermutation-append_comm, IsPermutation-append_left, IsPermutation-trans, sum_by-IsPermutation, list_any-IsPermutation}, specs.List.list_any}
 use Rattle.list_laws.proofs.{Tests.same_test, Each.each_map}
 use Rattle.schedule.specs.{declared.hop.Hop.Hop, Links.{GroupValue, TopologyValue, has_link, is_usable}, Placed.{PlacementValue, IsPlacement, holds, same_pair}}
@@ -67,9 +67,7 @@ module _ (pre post : PlacementValue) (f : ℕ → ℕ) (exchange : IsExchange pr
       }
 
   below_renamed : (h : Hop) → is_hop_below pre.chunks pre.nodes h ≡ true → is_hop_below pre.chunks pre.nodes (renamed_hop f h) ≡ true
-  below_renamed h it =
-      let parts = and_parts (ltb h.chunk pre.chunks) (ltb h.from pre.nodes && ltb h.to pre.nodes) it in
-      and_from (ltb (f h.chunk) pre.chunks) (ltb h.from pre.nodes && ltb h.to pre.nodes) (lt-ltb (f h.chunk) pre.chunks (exchange.keeps h.chunk (ltb-true h.chunk pre.chunks parts.0))) parts.1
+  below_renamed h it = grind (arith, nat_tests, exchange.keeps h.chunk)
 
   pub range_renamed : (s : ScheduleValue) → IsInRange pre.chunks pre.nodes s → IsInRange pre.chunks pre.nodes (renamed f s)
   range_renamed s range =

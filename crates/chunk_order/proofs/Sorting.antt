@@ -10,7 +10,7 @@ use Rattle.chunk_order.proofs.Firsts.{first_from, first_no_later, first_passes, 
 
 -- what is held stays held
 kept_on : (pre : PlacementValue) (s : ScheduleValue) (c n k more : ℕ) → c < pre.chunks → n < pre.nodes → holds (after pre s k) (c, n) ≡ true → holds (after pre s (k + more)) (c, n) ≡ true
-kept_on pre s c n k zero cl nl held = let none : k + 0 ≡ k = omega arith in subst (λ v. holds (after pre s v) (c, n) ≡ true) (sym none) held
+kept_on pre s c n k zero cl nl held = grind arith
 kept_on pre s c n k (suc more) cl nl held =
     let before = after pre s (k + more) in
     let up : k + suc more ≡ suc (k + more) = omega arith in
@@ -30,12 +30,9 @@ comes pre s c (Some node) = arrives pre s c node
 abbrev pub turn : PlacementValue → PlacementValue → ScheduleValue → ℕ → ℕ
 turn pre post s c = comes pre s c (watch_node pre post c)
 
--- where a number changes places with one that is no less, those below it stay, and the others stay above
+-- where a number changes places with one that is no less, those below it stay
 stays_below : (n b d : ℕ) → n ≤ b → d < n → exchanged n b d ≡ d
 stays_below n b d up low = grind (arith, nat_tests)
-
-stays_above : (n b d : ℕ) → n ≤ b → n ≤ d → n ≤ exchanged n b d
-stays_above n b d up low = grind (arith, nat_tests)
 
 -- what comes no later is there where the other is
 earlier_is_there : (pre : PlacementValue) (s : ScheduleValue) (c d node step : ℕ) → c < pre.chunks → node < pre.nodes → arrives pre s c node ≤ arrives pre s d node → step ≤ length s.rounds → holds (after pre s step) (d, node) ≡ true → holds (after pre s step) (c, node) ≡ true
@@ -92,7 +89,7 @@ module _ (t : TopologyValue) (pre post : PlacementValue) (steps rounds : ℕ) (p
       let cc_low : c < pre.chunks = omega (arith, less, dl) in
       let to : f d < pre.chunks = exchange.keeps d dl in
       let still : is_alike pre post c (f d) ≡ true = alike_both pre post c d (f d) alike (exchange.alike d) in
-      let above : n ≤ d → n ≤ f d = λ up. stays_above n b d first.from up in
+      let above : n ≤ d → n ≤ f d = λ up. grind (arith, nat_tests, first.from, up) in
       ⊎_elim
       (λ (here : c ≡ n).
       let mine : f c ≡ b = grind (arith, nat_tests, here) in

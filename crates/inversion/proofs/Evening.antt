@@ -25,20 +25,15 @@ uneven_told s chunk node nodes counts same is = ap (uneven_node counts) same ∙
 
 -- ---- a count held at 2 is 0, and is 1, where the count is
 
-capped_one : (n : ℕ) → eqb (min n 2) 1 ≡ eqb n 1
-capped_one n = grind (arith, nat_tests)
-
 held_at : (bag : Bag) (node : ℕ) → get_or (held_at_2 bag) node 0 ≡ min (get_or bag node 0) 2
 held_at [] node = refl
 held_at (x ∷ bag) zero = refl
 held_at (x ∷ bag) (suc node) = held_at bag node
 
-find_alike : {X : Type 0} (p q : X → Bool) → ((x : X) → p x ≡ q x) → (xs : List X) → find p xs ≡ find q xs
-find_alike p q same xs = λ i. find (λ x. same x i) xs
-
 node_alike : (bag : Bag) (nodes : ℕ) → uneven_node (held_at_2 bag) nodes ≡ uneven_node bag nodes
 node_alike bag nodes =
-    find_alike (λ of. not (eqb (get_or (held_at_2 bag) of 0) 1)) (λ of. not (eqb (get_or bag of 0) 1)) (λ of. ap not (ap (λ n. eqb n 1) (held_at bag of) ∙ capped_one (get_or bag of 0))) (range_with_len 0 nodes)
+    let same : (of : ℕ) → not (eqb (get_or (held_at_2 bag) of 0) 1) ≡ not (eqb (get_or bag of 0) 1) = λ of. grind (arith, nat_tests, held_at bag of) in
+    λ i. find (λ of. same of i) (range_with_len 0 nodes)
 
 -- a pair of a chunk and a node of the store
 pub record IsPair (s : StoreValue) (pair : ℕ × ℕ) : Type 0 where
@@ -81,22 +76,16 @@ dues_inside s [] each = tt
 dues_inside s (pair ∷ pairs) each =
     each_append (IsDue s) (map (λ node. (pair.0, pair.1, node)) (range_with_len 0 s.nodes)) (counts_due s.nodes pairs) (dues_of_pair s pair 0 s.nodes each.0 (omega arith)) (dues_inside s pairs each.1)
 
-due_inside : (s : StoreValue) (bags : Bags) (pairs : List (ℕ × ℕ)) (due : ℕ × ℕ × ℕ) → AllByRecursion (IsPair s) pairs → Some due ≡ first_uneven bags s.nodes pairs → IsDue s due
-due_inside s bags pairs due each found = found_has (IsDue s) (λ due. not (eqb (count_of bags due) 1)) (counts_due s.nodes pairs) due (dues_inside s pairs each) found
-
--- the pairs of a placement of the store's size are pairs of the store
-pairs_inside : (s : StoreValue) (demand : PlacementValue) → IsPlacement demand → demand.chunks ≡ s.chunks → demand.nodes ≡ s.nodes → AllByRecursion (IsPair s) demand.pairs
-pairs_inside s demand is chunks_are nodes_are = grind (arith, each_filter, each_weaker, all_below)
-
 -- ---- what is said of it
 
 module _ (s : StoreValue) (demand : PlacementValue) (placement : IsPlacement demand) (chunks_are : demand.chunks ≡ s.chunks) (nodes_are : demand.nodes ≡ s.nodes) where
+  -- the pairs of a placement of the store's size are pairs of the store
   inside : AllByRecursion (IsPair s) demand.pairs
-  inside = pairs_inside s demand placement chunks_are nodes_are
+  inside = grind (arith, placement, chunks_are, nodes_are, each_filter, each_weaker, all_below)
 
   -- the place of the first uneven count is one of the store's
   pub first_due : (due : ℕ × ℕ × ℕ) → Some due ≡ first_uneven (bags_in s) s.nodes demand.pairs → IsDue s due
-  first_due due found = due_inside s (bags_in s) demand.pairs due inside found
+  first_due due found = found_has (IsDue s) (λ due. not (eqb (count_of (bags_in s) due) 1)) (counts_due s.nodes demand.pairs) due (dues_inside s demand.pairs inside) found
 
   module _ (bags : Bags) (kept : s ≡ stored s.chunks s.nodes bags) where
     -- none is uneven

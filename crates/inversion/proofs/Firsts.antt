@@ -1,5 +1,5 @@
 -- Of the sends of one chunk to one node, the first: what stands among them, in which order, and how many.
-use Rattle.std.proofs.{Common.{◌≡◌, ℕ, zero, suc, ◌+◌, ◌≤◌, inl, inr, Bool, true, false, cond, List, [], ◌∷◌, refl, ap, ◌∙◌, arith, count_by, filter}, lemmas.{Bool.{cases_Bool, not-true, not-false}, List.Elements.All-from_recursion}}
+use Rattle.std.proofs.{Common.{◌≡◌, zero, suc, ◌≤◌, inl, inr, Bool, true, false, cond, List, [], ◌∷◌, refl, ap, ◌∙◌, arith, count_by, filter}, lemmas.{Bool.{cases_Bool, not-true, not-false}, List.Elements.All-from_recursion}}
 use Rattle.std.{proofs.lemmas.List.Sums.sum_by-cons, specs.List.{AllByRecursion, AllPairs}}
 use Rattle.schedule.{specs.{declared.hop.Hop.Hop, Placed.same_pair}, proofs.{First.{Among, InOrder, InOrder-filter, among_each, each_among, each_filter, among_kept, each_passes}, Placing.pair_is, Wasting.to_pair}}
 use Rattle.inversion.specs.Reductions.{firsts, is_other}
@@ -8,12 +8,7 @@ use Rattle.inversion.specs.Reductions.{firsts, is_other}
 
 pub counted_kept : {X : Type 0} (p q : X → Bool) (xs : List X) → count_by p (filter q xs) ≤ count_by p xs
 counted_kept p q [] = omega arith
-counted_kept {X} p q (x ∷ xs) =
-    let rest : count_by p (filter q xs) ≤ count_by p xs = counted_kept p q xs in
-    let whole : count_by p (x ∷ xs) ≡ cond {A = ℕ} (p x) 1 0 + count_by p xs = sum_by-cons (λ y. cond (p y) 1 0) x xs in
-    let kept : count_by p (x ∷ filter q xs) ≡ cond {A = ℕ} (p x) 1 0 + count_by p (filter q xs) = sum_by-cons (λ y. cond (p y) 1 0) x (filter q xs) in
-    elim (q x) as (λ b. count_by p (cond b (x ∷ filter q xs) (filter q xs)) ≤ count_by p (x ∷ xs))
-    [ true ↦ omega (arith, rest, whole, kept) | false ↦ omega (arith, rest, whole) ]
+counted_kept p q (x ∷ xs) = grind (arith, counted_kept p q xs, sum_by-cons (λ y. cond (p y) 1 0) x xs, sum_by-cons (λ y. cond (p y) 1 0) x (filter q xs))
 
 -- ---- the first sends
 
@@ -41,10 +36,9 @@ apart_firsts (h ∷ hops) = (each_passes (is_other h) (firsts hops), InOrder-fil
 
 once_apart : (hops : List Hop) → InOrder is_other hops → AllPairs (λ a b. same_pair (a.chunk, a.to) (b.chunk, b.to) ≡ false) hops
 once_apart [] order i j d low high = absurd (omega arith)
-once_apart (h ∷ hops) order zero zero d low high = absurd (omega arith)
 once_apart (h ∷ hops) order zero (suc j) d low high = not-true _ (All-from_recursion (λ y. is_other h y ≡ true) hops order.0 j d (omega arith))
-once_apart (h ∷ hops) order (suc i) zero d low high = absurd (omega arith)
 once_apart (h ∷ hops) order (suc i) (suc j) d low high = once_apart hops order.1 i j d (omega arith) (omega arith)
+once_apart (h ∷ hops) order i zero d low high = absurd (omega arith)
 
 -- no two of them bring one chunk to one node
 pub once_firsts : (hops : List Hop) → AllPairs (λ a b. same_pair (a.chunk, a.to) (b.chunk, b.to) ≡ false) (firsts hops)

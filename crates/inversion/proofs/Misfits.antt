@@ -1,31 +1,21 @@
 -- The first part of a schedule that does not fit, and the verdict where there is one and where there is none.
-use Rattle.std.proofs.Common.{arith, ◌≡◌, ℕ, ◌≤◌, length, Option, Some, None, refl, ◌↔◌, sum}
-use Rattle.schedule.specs.{declared.hop.Hop.Hop, Links.{GroupValue, TopologyValue}, Sends.ScheduleValue, Fitting.load, Placed.PlacementValue, Summing.Sums, Judging.{first_unlinked, first_overfull, group_at}, Bags.{Bags, contributions}}
+use Rattle.std.proofs.Common.{arith, ◌≡◌, ℕ, ◌≤◌, length, Option, Some, None, ◌↔◌, sum}
+use Rattle.schedule.specs.{Links.{GroupValue, TopologyValue}, Sends.ScheduleValue, Fitting.load, Placed.PlacementValue, Summing.Sums, Judging.{first_unlinked, first_overfull, group_at}, Bags.{Bags, contributions}}
 use Rattle.schedule.specs.JoinedRuns.{joined_after}
 use Rattle.bag_runs.proofs.JoinedSteps.{adding_throughout}
-use Rattle.inversion.{specs.{declared.verdict.SumVerdict.SumVerdict, Judging.{counts_judged, first_uneven, misfit_at, misfit_of, sum_judged, sum_verdict_of}}, proofs.Told.sums_exactly}
+use Rattle.inversion.{specs.{declared.verdict.SumVerdict.SumVerdict, Judging.{counts_judged, first_uneven, misfit_of, sum_judged, sum_verdict_of}}, proofs.Told.sums_exactly}
 use Rattle.inversion.specs.declared.verdict.SumVerdict.TheVariants as verdict
 
 pub misfit_overfull : (t : TopologyValue) (s : ScheduleValue) (step group count : ℕ) (carrier : GroupValue) → None ≡ first_unlinked t s → Some (step, group) ≡ first_overfull t s → carrier ≡ group_at t group → count ≡ load carrier step s.sends → Some (verdict.Overfull step group count) ≡ misfit_of t s
 misfit_overfull t s step group count carrier none found is loaded = grind arith
 
-at_misfit : (t : TopologyValue) (s : ScheduleValue) (last : Bags) (h : Option Hop) (turn : Option (ℕ × ℕ)) (clash due : Option (ℕ × ℕ × ℕ)) (v : SumVerdict) → Some v ≡ misfit_at t s h turn → v ≡ sum_judged t s last h turn clash due
-at_misfit t s last (Some h) turn clash due v is = cc
-at_misfit t s last None (Some turn) clash due v is = cc
-at_misfit t s last None None clash due v is = absurd cc
-
 -- where something does not fit, that is said
 pub judged_misfit : (t : TopologyValue) (s : ScheduleValue) (last : Bags) (clash due : Option (ℕ × ℕ × ℕ)) (v : SumVerdict) → Some v ≡ misfit_of t s → v ≡ sum_judged t s last (first_unlinked t s) (first_overfull t s) clash due
-judged_misfit t s last clash due v is = at_misfit t s last (first_unlinked t s) (first_overfull t s) clash due v is
-
-at_fitting : (t : TopologyValue) (s : ScheduleValue) (last : Bags) (h : Option Hop) (turn : Option (ℕ × ℕ)) (clash due : Option (ℕ × ℕ × ℕ)) → None ≡ misfit_at t s h turn → sum_judged t s last None None clash due ≡ sum_judged t s last h turn clash due
-at_fitting t s last (Some h) turn clash due none = absurd cc
-at_fitting t s last None (Some turn) clash due none = absurd cc
-at_fitting t s last None None clash due none = refl
+judged_misfit t s last clash due v is = grind arith
 
 -- where all fits, the clashes and the counts are judged
 pub judged_fitting : (t : TopologyValue) (s : ScheduleValue) (last : Bags) (clash due : Option (ℕ × ℕ × ℕ)) → None ≡ misfit_of t s → sum_judged t s last None None clash due ≡ sum_judged t s last (first_unlinked t s) (first_overfull t s) clash due
-judged_fitting t s last clash due none = at_fitting t s last (first_unlinked t s) (first_overfull t s) clash due none
+judged_fitting t s last clash due none = grind arith
 
 -- where all fits and every step adds, the counts are judged
 pub verdict_counts : (t : TopologyValue) (demand : PlacementValue) (s : ScheduleValue) (adding : ℕ) (v : SumVerdict) → length s.rounds ≤ adding → None ≡ misfit_of t s

@@ -1,7 +1,7 @@
 -- The questions of a reduction and of the collective that copies fit, over links turned round.
 use Rattle.std.proofs.{Common.{◌≡◌, ℕ, ◌*◌, ◌<◌, true, refl, sym, ap, ◌∙◌, arith, ◌≢◌, ◌%◌, filter}, Math.Nat.mod-lt, lemmas.Bool.{eqb-true, eq-eqb}}
-use Rattle.schedule.specs.{Links.{TopologyValue, reversed_of}, Sends.{ScheduleValue, IsSchedule, IsInRange}, Placed.{HeldByOne, all_pairs, holds}, Solving.{Solvable, Solves, Tight}, Summing.{SummedSolvable, Sums}, Inverse.inverse_of}
-use Rattle.schedule.{specs.Rows.everywhere, proofs.{First.{among_each, each_passes}, Inverted.inverse_sums, Inverting.{inverse_in_range, valid_inverse}, Ordered.among_from_any, Placing.{holds-placed, placement-placed}}}
+use Rattle.schedule.specs.{Links.{TopologyValue}, Placed.{HeldByOne, all_pairs, holds}}
+use Rattle.schedule.proofs.{First.{among_each, each_passes}, Inverted.inverse_sums, Inverting.{inverse_in_range, valid_inverse}, Ordered.among_from_any, Placing.{holds-placed, placement-placed}}
 use Rattle.inversion.{specs.{Reductions.HeldBySome, Inverted.inverted_frontier}, proofs.{Delivering.solvable_back, Inverted.{Inverts, right_inverted, searched_inverted}}}
 use Rattle.collective_spec.specs.{declared.{layout.Layout.{Layout, TheVariants.{Root, Scattered}}, kind.Kind.Kind, spec.Spec.Spec}, Layouts.{laid_out, stands}, Collectives.{IsSpec, adds_up, reduces}}
 use Rattle.collective_spec.specs.declared.kind.Kind.TheVariants as kind
@@ -37,17 +37,6 @@ scattered_some chunks nodes some chunk c =
 abbrev pub question : Kind → ℕ → TopologyValue → LimitsValue → QuestionValue
 question k root t limits = record { topology = t; spec = spec.Standard (record { kind = k; root = root }); limits = limits }
 
-module _ (layout : Layout) (chunks : ℕ) (t : TopologyValue) (steps rounds : ℕ) where
-  abbrev at_demand : Type 0
-  at_demand = HeldByOne (laid_out layout chunks t.nodes)
-
-  inverse_adds : (s : ScheduleValue) → at_demand → IsSchedule s → IsInRange chunks t.nodes s → Tight (laid_out layout chunks t.nodes) s → Solves (reversed_of t) (laid_out layout chunks t.nodes) (everywhere chunks t.nodes) s steps rounds → Sums t (laid_out layout chunks t.nodes) (inverse_of s) steps rounds
-  inverse_adds s alone valid in_range tight solves =
-      inverse_sums t (laid_out layout chunks t.nodes) s steps rounds (placement-placed chunks t.nodes (stands layout t.nodes)) refl alone valid in_range tight solves
-
-  copies_back : HeldBySome (laid_out layout chunks t.nodes) → SummedSolvable t (laid_out layout chunks t.nodes) steps rounds → Solvable (reversed_of t) (laid_out layout chunks t.nodes) (everywhere chunks t.nodes) steps rounds
-  copies_back some summed = solvable_back t (laid_out layout chunks t.nodes) steps rounds refl some summed
-
 reduce_inverts : (root : ℕ) (t : TopologyValue) (limits : LimitsValue) → root < t.nodes → Inverts (question kind.Reduce root t limits) (copied_question (question kind.Reduce root t limits))
 reduce_inverts root t limits below = record {
   single = λ is. cc;
@@ -57,9 +46,9 @@ reduce_inverts root t limits below = record {
   solved = λ a by tight. record {
     valid = valid_inverse a.schedule by.valid;
     in_range = inverse_in_range a.candidate.c t.nodes a.schedule by.in_range;
-    achieves = inverse_adds (Root root) a.candidate.c t a.candidate.s a.candidate.r a.schedule (root_alone root a.candidate.c t.nodes) by.valid by.in_range tight by.achieves;
+    achieves = inverse_sums t (laid_out (Root root) a.candidate.c t.nodes) a.schedule a.candidate.s a.candidate.r (placement-placed a.candidate.c t.nodes (stands (Root root) t.nodes)) refl (root_alone root a.candidate.c t.nodes) by.valid by.in_range tight by.achieves;
   };
-  solvable = λ x some. solvable_by_one (copied_question (question kind.Reduce root t limits)) x (copies_back (Root root) x.c t x.s x.r (root_some root x.c t.nodes below) (achieved (question kind.Reduce root t limits) x some));
+  solvable = λ x some. solvable_by_one (copied_question (question kind.Reduce root t limits)) x (solvable_back t (laid_out (Root root) x.c t.nodes) x.s x.r refl (root_some root x.c t.nodes below) (achieved (question kind.Reduce root t limits) x some));
   wastes = λ a by tight. (a.schedule, (by.valid, (by.in_range, (tight, refl))));
 }
 
@@ -72,32 +61,22 @@ reducescatter_inverts root t limits below = record {
   solved = λ a by tight. record {
     valid = valid_inverse a.schedule by.valid;
     in_range = inverse_in_range (t.nodes * a.candidate.c) t.nodes a.schedule by.in_range;
-    achieves = inverse_adds Scattered (t.nodes * a.candidate.c) t a.candidate.s a.candidate.r a.schedule (scattered_alone (t.nodes * a.candidate.c) t.nodes) by.valid by.in_range tight by.achieves;
+    achieves = inverse_sums t (laid_out Scattered (t.nodes * a.candidate.c) t.nodes) a.schedule a.candidate.s a.candidate.r (placement-placed (t.nodes * a.candidate.c) t.nodes (stands Scattered t.nodes)) refl (scattered_alone (t.nodes * a.candidate.c) t.nodes) by.valid by.in_range tight by.achieves;
   };
-  solvable = λ x some. solvable_by_one (copied_question (question kind.Reducescatter root t limits)) x (copies_back Scattered (t.nodes * x.c) t x.s x.r (scattered_some (t.nodes * x.c) t.nodes (omega (arith, below))) (achieved (question kind.Reducescatter root t limits) x some));
+  solvable = λ x some. solvable_by_one (copied_question (question kind.Reducescatter root t limits)) x (solvable_back t (laid_out Scattered (t.nodes * x.c) t.nodes) x.s x.r refl (scattered_some (t.nodes * x.c) t.nodes (omega (arith, below))) (achieved (question kind.Reducescatter root t limits) x some));
   wastes = λ a by tight. (a.schedule, (by.valid, (by.in_range, (tight, refl))));
 }
 
 -- the question of a reduction to one node for each chunk
 inverts : (k : Kind) (root : ℕ) (t : TopologyValue) (limits : LimitsValue) → reduces k ≡ true → k ≢ kind.Allreduce → root < t.nodes → Inverts (question k root t limits) (copied_question (question k root t limits))
-inverts kind.Broadcast root t limits adds single below = absurd cc
-inverts kind.Gather root t limits adds single below = absurd cc
-inverts kind.Allgather root t limits adds single below = absurd cc
-inverts kind.Scatter root t limits adds single below = absurd cc
-inverts kind.Alltoall root t limits adds single below = absurd cc
 inverts kind.Reduce root t limits adds single below = reduce_inverts root t limits below
 inverts kind.Reducescatter root t limits adds single below = reducescatter_inverts root t limits below
 inverts kind.Allreduce root t limits adds single below = absurd (single refl)
-inverts kind.Custom root t limits adds single below = absurd cc
-
--- a frontier of an allreduce is none, whichever way it is asked
-single_kind : (k : Kind) (root : ℕ) (t : TopologyValue) (limits : LimitsValue) (f : FrontierValue) → RightFrontier (copied_question (question k root t limits)) f → k ≢ kind.Allreduce
-single_kind k root t limits f right is = right.single (ap copied_kind is)
+inverts k root t limits adds single below = absurd (grind arith)
 
 -- the question of any reduction, where a frontier of its copy is right
 pub spec_inverts : (t : TopologyValue) (asked : Spec) (limits : LimitsValue) (f : FrontierValue) → adds_up asked ≡ true → IsSpec t.nodes asked → RightFrontier (copied_question (record { topology = t; spec = asked; limits = limits })) f → Inverts (record { topology = t; spec = asked; limits = limits }) (copied_question (record { topology = t; spec = asked; limits = limits }))
-spec_inverts t (spec.Standard collective) limits f adds is right =
-    inverts collective.kind collective.root t limits adds (single_kind collective.kind collective.root t limits f right) is.1
+spec_inverts t (spec.Standard collective) limits f adds is right = inverts collective.kind collective.root t limits adds (λ allreduce. right.single (ap copied_kind allreduce)) is.1
 spec_inverts t (spec.Custom p) limits f adds is right = absurd cc
 
 pub reduction_right : (q : QuestionValue) (f : FrontierValue) → adds_up q.spec ≡ true → IsSpec q.topology.nodes q.spec → RightFrontier (copied_question q) f → Searched (copied_question q) f → RightFrontier q (inverted_frontier f)

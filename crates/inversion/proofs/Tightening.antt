@@ -1,5 +1,5 @@
 -- A schedule without its wasted sends holds the same after each step, and wastes none.
-use Rattle.std.proofs.{Common.{◌≡◌, ℕ, zero, suc, ◌+◌, ◌-◌, ◌<◌, Bool, true, false, ◌&&◌, ◌||◌, eqb, refl, sym, ap, ◌∙◌, subst, arith, filter, not}, lemmas.Bool.{and_parts, and_from, eqb-true, eq-eqb, false≢true, not-true}}
+use Rattle.std.proofs.{Common.{◌≡◌, ℕ, zero, suc, ◌+◌, ◌-◌, ◌<◌, Bool, true, false, ◌&&◌, ◌||◌, eqb, refl, sym, ap, ◌∙◌, subst, arith, filter, not}, lemmas.Bool.{and_parts, and_from, eqb-true, both_ways, eq-eqb, not-true}}
 use Rattle.std.specs.List.{AllByRecursion, list_any}
 use Rattle.schedule.specs.{declared.hop.Hop.Hop, Sends.{ScheduleValue, IsSchedule, IsInRange}, Placed.{PlacementValue, holds, same_pair}, Running.{after, brings, step_of}}
 use Rattle.schedule.proofs.{First.{Among, among_each, each_among, each_filter, any_found, any_among, among_kept, each_passes}, Wasting.to_pair, Placing.{pair_is, pair_itself, placed-alike}, Inverting.step_is}
@@ -9,9 +9,6 @@ use Rattle.inversion.{specs.Reductions.{is_useful, tightened}, proofs.{Firsts.{e
 pub held_until : (pre : PlacementValue) (s : ScheduleValue) (k n j : ℕ) (pair : ℕ × ℕ) → k + j ≡ n → pair.0 < pre.chunks → pair.1 < pre.nodes → holds (after pre s k) pair ≡ true → holds (after pre s n) pair ≡ true
 held_until pre s k n zero pair is c v held = let same : k ≡ n = omega (arith, is) in subst (λ m. holds (after pre s m) pair ≡ true) same held
 held_until pre s k n (suc j) pair is c v held = held_until pre s (suc k) n j pair (omega (arith, is)) c v (still_held pre s k pair c v held)
-
-pub true_not_false : (b : Bool) → b ≡ true → b ≡ false → ⊥
-true_not_false b is is_not = false≢true (sym is_not ∙ is)
 
 -- what a useful send says
 pub record IsUsefulSend (pre : PlacementValue) (s : ScheduleValue) (h : Hop) : Type 0 where
@@ -30,10 +27,7 @@ never_earlier pre s a b valid in_range among first second same less =
     let from : 0 < a.step = (step_is s a valid among).from in
     let brought : holds (after pre s (suc (a.step - 1))) (a.chunk, a.to) ≡ true = send_brings pre s (a.step - 1) a in_range among (omega (arith, from)) first.sender in
     let later : holds (after pre s (b.step - 1)) (a.chunk, a.to) ≡ true = held_until pre s (suc (a.step - 1)) (b.step - 1) (b.step - 1 - a.step) (a.chunk, a.to) (omega (arith, from, less)) below.chunk below.to brought in
-    true_not_false (holds (after pre s (b.step - 1)) (b.chunk, b.to)) (subst (λ pair. holds (after pre s (b.step - 1)) pair ≡ true) same later) second.receiver
-
-level : (a b : ℕ) → (a < b → ⊥) → (b < a → ⊥) → a ≡ b
-level a b not_less not_more = grind arith
+    both_ways _ second.receiver (subst (λ pair. holds (after pre s (b.step - 1)) pair ≡ true) same later)
 
 or_alike : (a b c : Bool) → (b ≡ true → c ≡ true) → (a ≡ false → c ≡ true → b ≡ true) → (a || b) ≡ (a || c)
 or_alike a b c there back = grind arith
@@ -65,7 +59,7 @@ kept_brings pre s n pair valid in_range lacked some =
     let o_among : Among o s.sends = kept_among pre s o first.1 in
     let o_useful : IsUsefulSend pre s o = useful_is pre s o (among_each (λ h. is_useful pre s h ≡ true) o (tightened pre s).sends (kept_useful pre s) first.1) in
     let h_useful : IsUsefulSend pre s h = record { sender = sender; receiver = receiver } in
-    let steps : o.step ≡ h.step = level o.step h.step (never_earlier pre s o h valid in_range o_among o_useful h_useful first.2) (never_earlier pre s h o valid in_range found.1 h_useful o_useful (sym first.2)) in
+    let steps : o.step ≡ h.step = omega (arith, never_earlier pre s o h valid in_range o_among o_useful h_useful first.2, never_earlier pre s h o valid in_range found.1 h_useful o_useful (sym first.2)) in
     let o_before : o.step - 1 ≡ n = omega (arith, steps, now) in
     let o_sender : holds (after pre s n) (o.chunk, o.from) ≡ true = subst (λ m. holds (after pre s m) (o.chunk, o.from) ≡ true) o_before o_useful.sender in
     let o_target : same_pair (o.chunk, o.to) pair ≡ true = subst (λ p. same_pair (o.chunk, o.to) p ≡ true) (first.2 ∙ aim) (pair_itself (o.chunk, o.to)) in

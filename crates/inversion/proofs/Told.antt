@@ -1,20 +1,12 @@
 -- The verdict is that it sums exactly where nothing fails.
-use Rattle.std.proofs.Common.{arith, ◌≡◌, ℕ, Bool, true, false, eqb, Option, Some, None, refl, length, ◌↔◌, cond, sum}
+use Rattle.std.proofs.Common.{arith, ◌≡◌, ℕ, Option, None, length, ◌↔◌, sum}
 use Rattle.schedule.{specs.{declared.hop.Hop.Hop, Links.TopologyValue, Sends.ScheduleValue, Placed.PlacementValue, Bags.Bags, Summing.Sums}, proofs.{Verdicts.fits_exactly, Bagging.counted_after}}
 use Rattle.inversion.specs.declared.verdict.SumVerdict.TheVariants as verdict
-use Rattle.inversion.{specs.Judging.{count_of, sum_judged, sum_verdict_of}, proofs.Counts.{even_everywhere, none_uneven}}
-
-never_even : (chunk node giver : ℕ) (lacking : Bool) → cond lacking (verdict.Missing chunk node giver) (verdict.Twice chunk node giver) ≡ verdict.Sums → ⊥
-never_even chunk node giver true is = cc
-never_even chunk node giver false is = cc
+use Rattle.inversion.{specs.Judging.{sum_judged, sum_verdict_of}, proofs.Counts.{even_everywhere, none_uneven}}
 
 -- where it sums, no part has failed
 pub judged_sums : (t : TopologyValue) (s : ScheduleValue) (last : Bags) (h : Option Hop) (turn : Option (ℕ × ℕ)) (clash due : Option (ℕ × ℕ × ℕ)) → sum_judged t s last h turn clash due ≡ verdict.Sums → (h ≡ None) × (turn ≡ None) × (clash ≡ None) × (due ≡ None)
-judged_sums t s last (Some h) turn clash due is = absurd cc
-judged_sums t s last None (Some turn) clash due is = absurd cc
-judged_sums t s last None None (Some clash) due is = absurd cc
-judged_sums t s last None None None (Some due) is = absurd (never_even due.0 due.1 due.2 (eqb (count_of last due) 0) is)
-judged_sums t s last None None None None is = (refl, refl, refl, refl)
+judged_sums t s last h turn clash due is = grind arith
 
 pub sums_exactly : (t : TopologyValue) (demand : PlacementValue) (s : ScheduleValue) → (sum_verdict_of t demand s ≡ verdict.Sums) ↔ Sums t demand s (length s.rounds) (sum s.rounds)
 sums_exactly t demand s = grind (arith, judged_sums, fits_exactly, even_everywhere, counted_after, none_uneven)

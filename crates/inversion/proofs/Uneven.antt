@@ -1,5 +1,5 @@
 -- The first uneven count, row by row and node by node.
-use Rattle.std.proofs.{Common.{arith, ◌≡◌, ℕ, ◌+◌, ◌-◌, ◌<◌, ◌≤◌, Bool, true, false, not, cond, eqb, List, ◌∷◌, map, get_or, Option, None, refl, sym, ap, ◌∙◌}, lemmas.List.{Elements.filter-append, Concat.flat_map-append, Folds.find-append}}
+use Rattle.std.proofs.{Common.{arith, ◌≡◌, ℕ, ◌+◌, ◌-◌, ◌<◌, ◌≤◌, Bool, not, cond, eqb, List, ◌∷◌, map, get_or, Option, None, ap}, lemmas.List.{Elements.filter-append, Concat.flat_map-append, Folds.find-append}}
 use Rattle.std.specs.{List.{filter, find, flat_map, range_with_len}, Option.{option_map, option_or}}
 use Rattle.list_laws.proofs.Tests.{find-map}
 use Rattle.schedule.{specs.{Placed.{PlacementValue, IsPlacement, holds}, Bags.{Bag, Bags}}, proofs.Grids.{range_more, range_none, rows_from, rows_start}}
@@ -25,12 +25,7 @@ uneven_here bags nodes held pair = cond (held pair) (uneven_node (bags pair) nod
 -- what is said of it is said of the row, if it is the first
 pub row_on : (bags : Bags) (nodes : ℕ) (held : ℕ × ℕ → Bool) (chunk node : ℕ) (first : Option ℕ) → node < nodes → first ≡ uneven_here bags nodes held (chunk, node)
     → row_from bags nodes held chunk node ≡ option_or (option_map (λ of. (chunk, node, of)) first) (row_from bags nodes held chunk (node + 1))
-row_on bags nodes held chunk node first below is =
-    let rest : List (ℕ × ℕ) = map (λ n. (chunk, n)) (range_with_len (node + 1) (nodes - (node + 1))) in
-    ap (λ ns. first_uneven bags nodes (filter held (map (λ n. (chunk, n)) ns))) (range_more node nodes below)
-    ∙ (elim (held (chunk, node)) as (λ b. first_uneven bags nodes (cond b ((chunk, node) ∷ filter held rest) (filter held rest)) ≡ option_or (option_map (λ of. (chunk, node, of)) (cond b (uneven_node (bags (chunk, node)) nodes) None)) (first_uneven bags nodes (filter held rest)))
-    [ true ↦ uneven_cons bags nodes (chunk, node) (filter held rest) | false ↦ refl ])
-    ∙ ap (λ o. option_or (option_map (λ of. (chunk, node, of)) o) (row_from bags nodes held chunk (node + 1))) (sym is)
+row_on bags nodes held chunk node first below is = grind (arith, range_more, uneven_cons)
 
 pub row_past : (bags : Bags) (nodes : ℕ) (held : ℕ × ℕ → Bool) (chunk node : ℕ) → nodes ≤ node → row_from bags nodes held chunk node ≡ None
 row_past bags nodes held chunk node past = ap (λ ns. first_uneven bags nodes (filter held (map (λ n. (chunk, n)) ns))) (range_none node nodes past)

@@ -13,9 +13,6 @@ pub record Calm (c : CheckerValue) : Type 0 where
   pub calm : c.refuted ≡ false
   pub numbered : Numbered c.held (max (length c.formula.clauses) c.greatest + 1)
 
-some_literal : (v : ℕ → Bool) (clause : List LitValue) → holds v clause ≡ true → has_none clause ≡ false
-some_literal v clause h = grind arith
-
 with_clause : (c : CheckerValue) (line : ProofLineValue) (v : ℕ → Bool) → IsNew c line → Calm c → All (Holds v) c.held → holds v line.lits ≡ true → Calm (with_line c line)
 with_clause c line v n q all h =
     let old = max (length c.formula.clauses) c.greatest in
@@ -25,7 +22,7 @@ with_clause c line v n q all h =
     record {
       values = v;
       all = All-push (Holds v) c.held (line.id, line.lits) all h;
-      calm = or_from c.refuted (has_none line.lits) q.calm (some_literal v line.lits h);
+      calm = or_from c.refuted (has_none line.lits) q.calm (grind arith);
       numbered = subst (λ k. Numbered (c.held ++ (line.id, line.lits) ∷ []) (k + 1)) (sym is) more;
     }
 

@@ -1,16 +1,13 @@
 -- The groups of a line have no fault exactly where each closes its clause, and no clause has two.
-use Rattle.std.{proofs.{Common.{◌≡◌, ℕ, ◌+◌, Bool, false, List, [], ◌∷◌, Some, None, Ok, refl, arith, ◌≢◌, ◌==◌, All, AllPairs}, lemmas.List.{Elements.{All-nil, All-head, All-tail}, Kept.AllPairs-cons}}, specs.List.list_any}
+use Rattle.std.{proofs.{Common.{◌≡◌, ℕ, ◌+◌, Bool, false, List, [], ◌∷◌, None, refl, arith, ◌≢◌, ◌==◌, All, AllPairs}, lemmas.List.{Elements.{All-nil, All-head, All-tail}, Kept.AllPairs-cons}}, specs.List.list_any}
 use Rattle.list_laws.proofs.Pairs.{pairs_head, pairs_tail}
 use Rattle.cnf_formula.specs.Literals.{LitValue}
-use Rattle.proof_rules.{specs.{Held.{Entry, clause_at}, Judging.{led_to, assumed, closing_fault, group_fault, groups_fault}, Accepting.{Group, without_negated, Closes, Answers}}, proofs.Hints.{conflicts, leads_to_conflict}}
+use Rattle.proof_rules.{specs.{Held.{Entry, clause_at}, Judging.{assumed, closing_fault, group_fault, groups_fault}, Accepting.{Group, without_negated, Closes, Answers}}, proofs.Hints.{conflicts, leads_to_conflict}}
 
 -- ---- one group
 
-ends : (held : List Entry) (group : Group) (falses : List LitValue) → closing_fault held group (Some falses) ≡ None → led_to held falses (group.place + 1) group.hints ≡ Ok None
-ends held group falses h = grind arith
-
 pub closes : (held : List Entry) (group : Group) (falses ls : List LitValue) → closing_fault held group (assumed falses ls) ≡ None → Closes held group.hints falses ls
-closes held group falses [] h = conflicts held falses (group.place + 1) group.hints (ends held group falses h)
+closes held group falses [] h = conflicts held falses (group.place + 1) group.hints (grind arith)
 closes held group falses (l ∷ ls) h = grind (arith, closes held group (l ∷ falses) ls)
 
 pub closing : (held : List Entry) (group : Group) (falses ls : List LitValue) → Closes held group.hints falses ls → closing_fault held group (assumed falses ls) ≡ None

@@ -1,8 +1,8 @@
 -- Hints in a row lead to a conflict, or to literals that are false, exactly where they are taken so.
-use Rattle.std.{specs.List.list_all, proofs.Common.{arith, ◌≡◌, ℕ, ◌+◌, true, List, [], ◌∷◌, Option, Some, None, Result, Ok, Err, refl, ap, ◌∙◌}}
+use Rattle.std.{specs.List.list_all, proofs.Common.{arith, ◌≡◌, ℕ, ◌+◌, true, List, [], ◌∷◌, Option, Some, None, Result, Ok, ap, ◌∙◌}}
 use Rattle.cnf_formula.specs.Literals.{LitValue, negation, same_literal}
-use Rattle.proof_rules.specs.{declared.verdict.LineCode.{LineCode, TheVariants.HintsAfterConflict}, Held.{Entry, clause_at, open_literals}, Judging.{Fault, given_by, given_by_clause, after_conflict, led_to}}
-use Rattle.proof_rules.{specs.Accepting.{Takes, Falsifies, LeadsTo, Conflicts}, proofs.Taking.{none_open, open_none, rest_is, first_open, gives_some, given_one, all_same}}
+use Rattle.proof_rules.specs.{declared.verdict.LineCode.{LineCode}, Held.{Entry, clause_at, open_literals}, Judging.{Fault, given_by, given_by_clause, led_to}}
+use Rattle.proof_rules.{specs.Accepting.{Takes, Falsifies, LeadsTo, Conflicts}, proofs.Taking.{none_open, open_none, rest_is, first_open, gives_some, given_one, same_itself}}
 
 -- ---- one hint
 
@@ -23,7 +23,7 @@ takes held falses id l h =
     let n = named held falses id (Some l) h in
     let s = gives_some (open_literals falses n.0) l n.2 in
     let first = first_open falses n.0 l s.0 s.1 in
-    let all : list_all (same_literal l) (open_literals falses n.0) ≡ true = cc (all_same l s.0 s.2) in
+    let all : list_all (same_literal l) (open_literals falses n.0) ≡ true = grind (arith, same_itself l, s.1, s.2) in
     record { clause = n.0; names = n.1; stands = first.0; not_false = first.1; others = rest_is falses n.0 l all }
 
 pub given_some : (held : List Entry) (falses : List LitValue) (id : ℕ) (l : LitValue) → Takes held falses id l → given held falses id ≡ Ok (Some l)
@@ -35,31 +35,16 @@ abbrev pub Led : Type 0
 Led = Result (Option (List LitValue)) Fault
 
 pub conflicts : (held : List Entry) (falses : List LitValue) (place : ℕ) (ids : List ℕ) → led_to held falses place ids ≡ Ok None → Conflicts held falses ids
-conflicts held falses place (id ∷ next ∷ ids) h = go (λ l v. conflicts held (negation l ∷ falses) (place + 1) (next ∷ ids) v) (given held falses id) refl
-  where
-    go : ((l : LitValue) → led_to held (negation l ∷ falses) (place + 1) (next ∷ ids) ≡ Ok None → Conflicts held (negation l ∷ falses) (next ∷ ids))
-        → (r : Result (Option LitValue) LineCode) → given held falses id ≡ r → Conflicts held falses (id ∷ next ∷ ids)
-    go more (Err code) e = let none : Led = Ok None in let bad : Err (code, place) ≡ none = rw (e, led_to) at h in absurd (cc)
-    go more (Ok None) e = let none : Led = Ok None in let bad : Err (HintsAfterConflict, place + 1) ≡ none = rw (e, led_to) at h in absurd (cc)
-    go more (Ok (Some l)) e = (l, takes held falses id l e, more l (rw (e, led_to) at h))
+conflicts held falses place (id ∷ next ∷ ids) h = grind (arith, takes, λ (l : LitValue). conflicts held (negation l ∷ falses) (place + 1) (next ∷ ids))
 conflicts held falses place ids h = grind (arith, falsifies)
 
 pub leads_to_conflict : (held : List Entry) (falses : List LitValue) (place : ℕ) (ids : List ℕ) → Conflicts held falses ids → led_to held falses place ids ≡ Ok None
 leads_to_conflict held falses place (id ∷ next ∷ ids) c = rw (given_some held falses id c.0 c.1, led_to) (leads_to_conflict held (negation c.0 ∷ falses) (place + 1) (next ∷ ids) c.2)
 leads_to_conflict held falses place ids c = grind (arith, given_none)
 
-never_leads : (place : ℕ) (ids : List ℕ) (last : List LitValue) → after_conflict place ids ≡ Ok (Some last) → ⊥
-never_leads place ids last h = grind arith
-
 pub leads : (held : List Entry) (falses : List LitValue) (place : ℕ) (ids : List ℕ) (last : List LitValue) → led_to held falses place ids ≡ Ok (Some last) → LeadsTo last held falses ids
 leads held falses place [] last h = cc
-leads held falses place (id ∷ ids) last h = go (λ l v. leads held (negation l ∷ falses) (place + 1) ids last v) (given held falses id) refl
-  where
-    go : ((l : LitValue) → led_to held (negation l ∷ falses) (place + 1) ids ≡ Ok (Some last) → LeadsTo last held (negation l ∷ falses) ids)
-        → (r : Result (Option LitValue) LineCode) → given held falses id ≡ r → LeadsTo last held falses (id ∷ ids)
-    go more (Err code) e = let some : Led = Ok (Some last) in let bad : Err (code, place) ≡ some = rw (e, led_to) at h in absurd (cc)
-    go more (Ok None) e = absurd (never_leads (place + 1) ids last (rw (e, led_to) at h))
-    go more (Ok (Some l)) e = (l, takes held falses id l e, more l (rw (e, led_to) at h))
+leads held falses place (id ∷ ids) last h = grind (arith, takes, λ (l : LitValue). leads held (negation l ∷ falses) (place + 1) ids last)
 
 pub led_by : (held : List Entry) (falses : List LitValue) (place : ℕ) (ids : List ℕ) (last : List LitValue) → LeadsTo last held falses ids → led_to held falses place ids ≡ Ok (Some last)
 led_by held falses place [] last h = ap (λ ls. Ok (Some ls)) h

@@ -2,14 +2,13 @@
 use Rattle.std.proofs.{lemmas.Bool.and_from, Math.Logic.∥∥₁_elim, Common.{◌≡◌, ℕ, suc, max, List, [], ◌∷◌, ◌++◌, length, Some, refl, subst, arith, true, map}}
 use Rattle.cnf_formula.specs.{Literals.{LitValue, negation}, Formulas.FormulaValue, Lines.ProofLineValue, declared.line.LratLine.{LratLine, TheVariants.Addition}}
 use Rattle.proof_rules.specs.{declared.verdict.LineVerdict.TheVariants.Accepted as AcceptedVerdict, Held.{Entry, CheckerValue, start_of, clause_at}, Testing.accepts, Judging.{verdict_of, is_accepted, verdict_on}}
-use Rattle.proof_rules.{specs.{Accepting.{Conflicts, Implied, leading}, Refuting.{with_line, with_accepted, all_accepted, after_lines, IsChecker, Exhaustion, Exhausted}}, proofs.{Verdicts.implied_by, Tested.{by_rup, acceptance_said}}}
+use Rattle.proof_rules.{specs.{Accepting.{Conflicts, Implied, leading}, Refuting.{with_line, with_accepted, all_accepted, after_lines, IsChecker, Exhaustion, Exhausted}}, proofs.{Numbered.kept, Verdicts.implied_by, Tested.{by_rup, acceptance_said}}}
 
 abbrev pub Keeps : List Entry → List Entry → Type 0
 Keeps held more = (id : ℕ) (clause : List LitValue) → clause_at held id ≡ Some clause → clause_at more id ≡ Some clause
 
 pub keeps_append : (held more : List Entry) → Keeps held (held ++ more)
-keeps_append [] more id clause h = absurd (cc)
-keeps_append (entry ∷ held) more id clause h = grind (arith, keeps_append held more id clause)
+keeps_append held more = kept held more
 
 pub conflict_kept : (held more : List Entry) → Keeps held more → (falses : List LitValue) (ids : List ℕ) → Conflicts held falses ids → Conflicts more falses ids
 conflict_kept held more k falses (id ∷ next ∷ ids) c = grind (arith, conflict_kept held more k (negation c.0 ∷ falses) (next ∷ ids) c.2)
@@ -17,7 +16,7 @@ conflict_kept held more k falses ids c = grind arith
 
 pub additions_keep : (lines : List ProofLineValue) (c : CheckerValue) → Keeps c.held (after_lines c (map Addition lines)).held
 additions_keep [] c id clause h = h
-additions_keep (line ∷ lines) c id clause h = additions_keep lines (with_line c line) id clause (keeps_append c.held ((line.id, line.lits) ∷ []) id clause h)
+additions_keep (line ∷ lines) c id clause h = additions_keep lines (with_line c line) id clause (kept c.held ((line.id, line.lits) ∷ []) id clause h)
 
 no_exhaustion : (f : FormulaValue) (line : ProofLineValue) (n : ℕ) → line.lits ≡ [] → verdict_of (start_of f) line ≡ AcceptedVerdict true → Exhaustion f n → ⊥
 no_exhaustion f line n e v x =
@@ -48,7 +47,7 @@ after_more (l ∷ lines) c line = after_more lines (with_accepted c l) line
 pub starts_as_checker : (f : FormulaValue) → IsChecker (start_of f)
 starts_as_checker f = record { lines = []; accepted = refl; is = refl }
 
-pub same_formula : (c : CheckerValue) (line : LratLine) → (with_accepted c line).formula ≡ c.formula
+same_formula : (c : CheckerValue) (line : LratLine) → (with_accepted c line).formula ≡ c.formula
 same_formula c line = grind arith
 
 pub stays_checker : (c : CheckerValue) (line : LratLine) → IsChecker c → is_accepted (verdict_on c line) ≡ true → IsChecker (with_accepted c line)

@@ -32,19 +32,16 @@ below n (clause ∷ clauses) =
 pub here : (held : List Entry) (id : ℕ) (clause : List LitValue) → clause_at ((id, clause) ∷ held) id ≡ Some clause
 here held id clause = rw (eq-eqb id id refl) refl
 
-later : (held : List Entry) (entry other : Entry) → (entry.0 ≡ other.0 → ⊥) → Found held other → Found (entry ∷ held) other
-later held entry other apart f = rw (ne_eqb entry.0 other.0 apart) f
-
 start_found : (n : ℕ) (clauses : List (List LitValue)) → All (Found (enumerate_from n clauses)) (enumerate_from n clauses)
 start_found n [] = All-nil (Found [])
-start_found n (clause ∷ clauses) = grind (arith, above (n + 1) clauses, start_found (n + 1) clauses)
+start_found n (clause ∷ clauses) = grind (arith, ne_eqb, above (n + 1) clauses, start_found (n + 1) clauses)
 
 pub start_numbered : (clauses : List (List LitValue)) → Numbered (enumerate_from 1 clauses) (length clauses + 1)
 start_numbered clauses = grind (arith, below, start_found)
 
 -- ---- one more
 
-kept : (held more : List Entry) (id : ℕ) (clause : List LitValue) → clause_at held id ≡ Some clause → clause_at (held ++ more) id ≡ Some clause
+pub kept : (held more : List Entry) (id : ℕ) (clause : List LitValue) → clause_at held id ≡ Some clause → clause_at (held ++ more) id ≡ Some clause
 kept [] more id clause h = absurd (cc)
 kept (entry ∷ held) more id clause h = grind (arith, kept held more id clause)
 

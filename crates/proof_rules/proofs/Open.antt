@@ -21,17 +21,14 @@ none_falsified [] t f = false≢true t
 none_falsified (x ∷ clause) t f = false≢true (All-head (IsFalse []) x clause f)
 
 none_taken : (clause : List LitValue) (l : LitValue) → has_two clause ≡ true → All (FalseOrIs [] l) clause → ⊥
-none_taken [] l t o = false≢true t
-none_taken (x ∷ []) l t o = false≢true t
 none_taken (x ∷ y ∷ clause) l t o =
     grind (arith, All-head (FalseOrIs [] l) y clause (All-tail (FalseOrIs [] l) x (y ∷ clause) o), All-head (FalseOrIs [] l) x (y ∷ clause) o)
+none_taken clause l t o = grind arith
 
 no_conflict_at_once : (held : List Entry) (ids : List ℕ) → all_two held ≡ true → Conflicts held [] ids → ⊥
 no_conflict_at_once held [] a c = c
 no_conflict_at_once held (id ∷ []) a c = none_falsified c.clause (found held id c.clause a c.names) c.each
-no_conflict_at_once held (id ∷ next ∷ ids) a c =
-    let t = c.1 in
-    none_taken t.clause c.0 (found held id t.clause a t.names) t.others
+no_conflict_at_once held (id ∷ next ∷ ids) a c = none_taken c.1.clause c.0 (found held id c.1.clause a c.1.names) c.1.others
 
 pub nothing_falls : (c : CheckerValue) → all_two c.held ≡ true → (line : ProofLineValue) → line.lits ≡ [] → is_rup c line ≡ true → ⊥
 nothing_falls c a line e v = no_conflict_at_once c.held (leading line.hints) a (subst (λ lits. Conflicts c.held lits (leading line.hints)) e (rup_by c line v).conflict)

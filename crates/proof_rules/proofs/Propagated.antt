@@ -1,8 +1,8 @@
 -- Propagation by tests is that of the verdicts without their faults, so it is as the relations say.
-use Rattle.std.proofs.{lemmas.Bool.{false≢true, or_cases}, Common.{arith, ◌≡◌, ℕ, ◌+◌, Bool, true, false, List, [], ◌∷◌, Option, Some, None, Result, Ok, Err, refl, sym, ap, ◌∙◌, inl, inr, ⊎_elim, if◌then◌else◌, option_map}}
+use Rattle.std.proofs.{lemmas.Bool.{or_cases}, Common.{arith, ◌≡◌, ℕ, ◌+◌, true, List, [], ◌∷◌, Option, Some, None, Result, Ok, Err, refl, ap, ◌∙◌, inl, inr, ⊎_elim, if◌then◌else◌, option_map}}
 use Rattle.std.specs.List.{list_all}
 use Rattle.cnf_formula.specs.Literals.{LitValue, negation, same_literal}
-use Rattle.proof_rules.specs.{declared.verdict.LineCode.{LineCode, TheVariants.HintNotUnit}, Held.{Entry, clause_at, open_literals, has_none}, Judging.{given_by, given_by_clause, after_conflict, led_to}}
+use Rattle.proof_rules.specs.{declared.verdict.LineCode.{LineCode}, Held.{Entry, clause_at, open_literals, has_none}, Judging.{given_by, given_by_clause, after_conflict, led_to}}
 use Rattle.proof_rules.{specs.{Testing.{propagated, is_conflict, closes, closes_one}, Accepting.{Group, without_negated, is_made_true, LeadsTo, Conflicts, Closes, Answers}}, proofs.Hints.{Led, conflicts, leads_to_conflict, leads, led_by}}
 
 abbrev Propagated : Type 0
@@ -32,12 +32,8 @@ at_end : (place : ℕ) (ids : List ℕ) → (if has_none ids then Some None else
 at_end place ids = grind arith
 
 module _ (held : List Entry) (falses : List LitValue) (place : ℕ) (ids : List ℕ) (more : (l : LitValue) → propagated held (negation l ∷ falses) ids ≡ plain (led_to held (negation l ∷ falses) (place + 1) ids)) where
-  by_unit : (l : LitValue) (b : Bool) → (if b then propagated held (negation l ∷ falses) ids else None) ≡ plain (judged held falses place ids (if b then Ok (Some l) else Err HintNotUnit))
-  by_unit l true = more l
-  by_unit l false = refl
-
   by_left : (left : List LitValue) → tested held falses ids (Some left) ≡ plain (judged held falses place ids (given_by left))
-  by_left left = grind (arith, at_end (place + 1) ids, by_unit)
+  by_left left = grind (arith, at_end (place + 1) ids, more)
 
   by_clause : (found : Option (List LitValue)) → tested held falses ids (option_map (open_literals falses) found) ≡ plain (judged held falses place ids (given_by_clause falses found))
   by_clause found = grind (arith, by_left)
@@ -49,22 +45,13 @@ propagated_plain held falses place (id ∷ ids) = by_clause held falses place id
 -- ---- all hints
 
 pub conflict_by : (held : List Entry) (falses : List LitValue) (ids : List ℕ) → is_conflict (propagated held falses ids) ≡ true → Conflicts held falses ids
-conflict_by held falses ids h = conflicts held falses 0 ids (go (led_to held falses 0 ids) (sym (ap is_conflict (propagated_plain held falses 0 ids)) ∙ h))
-  where
-    go : (r : Led) → is_conflict (plain r) ≡ true → r ≡ Ok None
-    go (Err fault) e = absurd (false≢true e)
-    go (Ok None) e = refl
-    go (Ok (Some last)) e = absurd (false≢true e)
+conflict_by held falses ids h = conflicts held falses 0 ids (grind (arith, propagated_plain held falses 0 ids))
 
 pub by_conflict : (held : List Entry) (falses : List LitValue) (ids : List ℕ) → Conflicts held falses ids → is_conflict (propagated held falses ids) ≡ true
 by_conflict held falses ids c = ap is_conflict (propagated_plain held falses 0 ids) ∙ ap (λ (r : Led). is_conflict (plain r)) (leads_to_conflict held falses 0 ids c)
 
 pub leads_by : (held : List Entry) (falses : List LitValue) (ids : List ℕ) (last : List LitValue) → propagated held falses ids ≡ Some (Some last) → LeadsTo last held falses ids
-leads_by held falses ids last h = leads held falses 0 ids last (go (led_to held falses 0 ids) (sym (propagated_plain held falses 0 ids) ∙ h))
-  where
-    go : (r : Led) → plain r ≡ Some (Some last) → r ≡ Ok (Some last)
-    go (Err fault) e = absurd (cc)
-    go (Ok end) e = let same : end ≡ Some last = cc in ap (λ o. Ok o) same
+leads_by held falses ids last h = leads held falses 0 ids last (grind (arith, propagated_plain held falses 0 ids))
 
 pub by_leading : (held : List Entry) (falses : List LitValue) (ids : List ℕ) (last : List LitValue) → LeadsTo last held falses ids → propagated held falses ids ≡ Some (Some last)
 by_leading held falses ids last h = propagated_plain held falses 0 ids ∙ ap plain (led_by held falses 0 ids last h)

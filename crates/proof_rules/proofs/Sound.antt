@@ -1,7 +1,7 @@
 -- Where some assignment satisfies a formula, some assignment satisfies all that is held after any accepted lines, and no line refutes it.
-use Rattle.std.proofs.{Common.{arith, ◌≡◌, ℕ, Bool, true, false, cond, List, [], ◌∷◌, Some, refl, sym, ap, ◌∙◌, subst, ⊎_elim, ◌==◌, All}, lemmas.List.{Elements.{All-nil, All-cons, All-head, All-tail}, Folds.list_any_none}}
-use Rattle.std.{proofs.lemmas.Bool.{false≢true, or_cases, cases_Bool, eqb-true}, specs.List.list_any}
-use Rattle.cnf_formula.{specs.Literals.{LitValue, same_sign, same_literal, has_literal, negation}, proofs.Clauses.same_is}
+use Rattle.std.proofs.{Common.{arith, ◌≡◌, ℕ, Bool, true, false, cond, List, [], ◌∷◌, Some, refl, sym, ◌∙◌, subst, ⊎_elim, ◌==◌, All}, lemmas.List.{Elements.{All-nil, All-cons, All-head, All-tail}, Folds.list_any_none}}
+use Rattle.std.{proofs.lemmas.Bool.{false≢true, eqb-true}, specs.List.list_any}
+use Rattle.cnf_formula.{specs.Literals.{LitValue, same_sign, has_literal, negation}, proofs.Clauses.same_is}
 use Rattle.proof_rules.{specs.{Held.{Entry, clause_at}, Accepting.{IsFalse, Takes, LeadsTo, Conflicts, Group, has_negated, without_negated, is_made_true, Closes, Answers, is_answered}}, proofs.Taking.FalseOrIs}
 
 pub none_any : {X : Type 0} (p : X → Bool) (xs : List X) → list_any p xs ≡ false → All (λ x. p x ≡ false) xs
@@ -26,28 +26,17 @@ module _ (v : ℕ → Bool) where
   pub found_holds : (held : List Entry) (id : ℕ) (clause : List LitValue) → All Holds held → clause_at held id ≡ Some clause → holds clause ≡ true
   found_holds [] id clause a h = absurd (cc)
   found_holds (entry ∷ held) id clause a h =
-      ⊎_elim (λ e.
-      let here : Some (entry.1) ≡ Some clause = rw e at h in
-      let is : entry.1 ≡ clause = cc in
-      subst (λ c. holds c ≡ true) is (All-head Holds entry held a))
-      (λ e. found_holds held id clause (All-tail Holds entry held a) (rw e at h))
-      (cases_Bool (entry.0 == id))
+      grind (arith, All-head Holds entry held a, found_holds held id clause (All-tail Holds entry held a))
 
   pub false_is_untrue : (falses : List LitValue) (l : LitValue) → All Untrue falses → IsFalse falses l → Untrue l
   false_is_untrue [] l a h = absurd (false≢true h)
   false_is_untrue (x ∷ falses) l a h =
-      ⊎_elim (λ s. subst (λ y. is_so y ≡ false) (sym (same_is l x s)) (All-head Untrue x falses a))
-      (λ r. false_is_untrue falses l (All-tail Untrue x falses a) r)
-      (or_cases (same_literal l x) (has_literal falses l) h)
+      grind (arith, same_is l x, All-head Untrue x falses a, false_is_untrue falses l (All-tail Untrue x falses a))
 
   one_is_so : (falses clause : List LitValue) (l : LitValue) → All Untrue falses → All (FalseOrIs falses l) clause → holds clause ≡ true → is_so l ≡ true
   one_is_so falses [] l a o h = absurd (false≢true h)
   one_is_so falses (x ∷ clause) l a o h =
-      ⊎_elim (λ t.
-      ⊎_elim (λ f. absurd (false≢true (sym (false_is_untrue falses x a f) ∙ t))) (λ is. subst (λ y. is_so y ≡ true) is t)
-      (All-head (FalseOrIs falses l) x clause o))
-      (λ r. one_is_so falses clause l a (All-tail (FalseOrIs falses l) x clause o) r)
-      (or_cases (is_so x) (holds clause) h)
+      grind (arith, false_is_untrue falses x a, All-head (FalseOrIs falses l) x clause o, one_is_so falses clause l a (All-tail (FalseOrIs falses l) x clause o))
 
   negation_so : (l : LitValue) → Untrue (negation l) → is_so l ≡ true
   negation_so l h = grind arith
@@ -113,14 +102,8 @@ module _ (v : ℕ → Bool) (p : LitValue) where
     by_group : (gs : List Group) → All (Answers held p start) gs → (entry : Entry) → clause_at held entry.0 ≡ Some (entry.1) → list_any (λ group. group.named == entry.0) gs ≡ true → list_any (is_so v) (without_negated p entry.1) ≡ true
     by_group [] r entry found t = absurd (false≢true t)
     by_group (g ∷ gs) r entry found t =
-        ⊎_elim (λ here.
         let one = All-head (Answers held p start) g gs r in
-        let same : g.named ≡ entry.0 = eqb-true g.named entry.0 here in
-        let both : Some one.clause ≡ Some (entry.1) = sym one.names ∙ ap (clause_at held) same ∙ found in
-        let is : one.clause ≡ entry.1 = cc in
-        closed_so g.hints entry.1 (subst (λ c. Closes held g.hints start (without_negated p c)) is one.closes))
-        (λ later. by_group gs (All-tail (Answers held p start) g gs r) entry found later)
-        (or_cases (g.named == entry.0) (list_any (λ group. group.named == entry.0) gs) t)
+        grind (arith, eqb-true g.named entry.0, one.names, closed_so g.hints one.clause one.closes, by_group gs (All-tail (Answers held p start) g gs r) entry found)
 
     pub entry_holds : (entry : Entry) → clause_at held entry.0 ≡ Some (entry.1) → Holds v entry → is_answered p start groups entry ≡ true → Holds w entry
     entry_holds entry found so answered = grind (arith, other_holds, without_it, by_group, some_so)

@@ -1,14 +1,10 @@
 -- What a clause gives, by its literals that are not false.
-use Rattle.std.{proofs.{lemmas.{Bool.{false≢true, and_from, eq-eqb}, List.Elements.{All-nil, All-head, All-tail}}, Common.{arith, ◌≡◌, Bool, true, false, List, [], ◌∷◌, Some, Ok, refl, eqb, ◌⊎◌, All}}, specs.List.list_all}
-use Rattle.cnf_formula.specs.Literals.{LitValue, same_sign, same_literal, has_literal}
+use Rattle.std.{proofs.{lemmas.{Bool.{false≢true, eq-eqb}, List.Elements.{All-nil, All-head, All-tail}}, Common.{arith, ◌≡◌, true, false, List, [], ◌∷◌, Some, Ok, refl, ◌⊎◌, All}}, specs.List.list_all}
+use Rattle.cnf_formula.specs.Literals.{LitValue, same_literal, has_literal}
 use Rattle.proof_rules.specs.{Held.open_literals, Judging.given_by, Accepting.IsFalse}
 
-pub same_sign_itself : (b : Bool) → same_sign b b ≡ true
-same_sign_itself true = refl
-same_sign_itself false = refl
-
 pub same_itself : (l : LitValue) → same_literal l l ≡ true
-same_itself l = and_from (eqb l.var l.var) (same_sign l.positive l.positive) (eq-eqb l.var l.var refl) (same_sign_itself l.positive)
+same_itself l = grind (arith, eq-eqb l.var l.var)
 
 abbrev pub FalseOrIs : List LitValue → LitValue → LitValue → Type 0
 FalseOrIs falses l other = IsFalse falses other ⊎ (other ≡ l)
@@ -52,6 +48,3 @@ given_one falses clause l s o h = go (open_literals falses clause) refl (is_rest
     go : (ls : List LitValue) → open_literals falses clause ≡ ls → list_all (same_literal l) ls ≡ true → given_by ls ≡ Ok (Some l)
     go [] e h = absurd (some_open falses clause l s o e)
     go (x ∷ xs) e h = grind arith
-
-pub all_same : (l : LitValue) (ls : List LitValue) → list_all (same_literal l) ls ≡ true → list_all (same_literal l) (l ∷ ls) ≡ true
-all_same l ls h = and_from (same_literal l l) (list_all (same_literal l) ls) (same_itself l) h

@@ -1,11 +1,11 @@
 -- The tests of a line say what the relations say, and so whether its verdict is that it is accepted.
 use Rattle.std.proofs.lemmas.{Bool.Decides.nat_tests, List.Elements.{All-nil, All-head, All-tail}}
-use Rattle.std.proofs.Common.{◌≡◌, ℕ, Bool, true, false, List, [], ◌∷◌, map, Option, Some, None, refl, sym, ap, ⊎_elim, arith, ◌↔◌, ◌==◌, ◌≢◌, ◌&&◌, ◌||◌, not, if◌then◌else◌, All, AllPairs, nat_le, nat_lt}
+use Rattle.std.proofs.Common.{◌≡◌, ℕ, Bool, true, false, List, [], ◌∷◌, map, Option, Some, None, refl, ap, ⊎_elim, arith, ◌↔◌, ◌==◌, ◌≢◌, ◌&&◌, ◌||◌, All, AllPairs, nat_le, nat_lt}
 use Rattle.std.{proofs.lemmas.{List.Sums.{AllPass-from_list_all, list_all-from_AllPass}, Bool.{false≢true, or_cases, or_left, or_right, or_from, ne_eqb}}, specs.List.list_any}
-use Rattle.list_laws.proofs.Pairs.{no_pairs, pairs_head, pairs_tail}
+use Rattle.list_laws.proofs.{Pairs.{no_pairs, pairs_head, pairs_tail}, Tests.same_test}
 use Rattle.cnf_formula.specs.{Literals.LitValue, Lines.ProofLineValue, declared.line.LratLine.{LratLine, TheVariants.{Addition, Deletion}}}
-use Rattle.proof_rules.specs.{Testing.{propagated, closes_one, has_number_twice, is_new, is_rup, are_resolved, is_rat, are_held, accepts}, Held.{CheckerValue, has_none}}
-use Rattle.proof_rules.specs.{declared.verdict.{LineVerdict.TheVariants.{Accepted as AcceptedVerdict, Refused}, LineCode.TheVariants.UnknownDeletion}, Accepting.{Group, leading, groups_of, is_answered, IsNew, Implied, Redundant}}
+use Rattle.proof_rules.specs.{Testing.{propagated, closes_one, has_number_twice, is_new, is_rup, are_resolved, is_rat, accepts}, Held.{CheckerValue, has_none}}
+use Rattle.proof_rules.specs.{declared.verdict.LineVerdict.TheVariants.{Accepted as AcceptedVerdict, Refused}, Accepting.{Group, leading, groups_of, is_answered, IsNew, Implied, Redundant}}
 use Rattle.proof_rules.specs.{declared.verdict.LineVerdict.LineVerdict, Judging.{verdict_of, verdict_on, is_accepted, is_implied}}
 use Rattle.proof_rules.proofs.{Propagated.{conflict_by, by_conflict, leads_by, by_leading, answers_by, by_answering}, Verdicts.{implied_by, by_implied, redundant_by, by_redundant}}
 
@@ -21,10 +21,7 @@ module _ {X : Type 0} (number : X → ℕ) where
 
   same_none : (n : ℕ) (xs : List X) → All (λ x. n ≢ number x) xs → list_any (λ other. other == n) (map number xs) ≡ false
   same_none n [] all = refl
-  same_none n (x ∷ xs) all =
-      or_from (number x == n) (list_any (λ other. other == n) (map number xs))
-      (ne_eqb (number x) n (λ e. All-head (λ x. n ≢ number x) x xs all (sym e)))
-      (same_none n xs (All-tail (λ x. n ≢ number x) x xs all))
+  same_none n (x ∷ xs) all = grind (arith, ne_eqb, All-head (λ x. n ≢ number x) x xs all, same_none n xs (All-tail (λ x. n ≢ number x) x xs all))
 
   apart_by : (xs : List X) → has_number_twice (map number xs) ≡ false → AllPairs Apart xs
   apart_by [] h = no_pairs Apart
@@ -88,17 +85,12 @@ rat_exactly c line = (rat_by c line, by_rat c line)
 
 -- ---- verdicts
 
-same_tests : (a b : Bool) → (a ≡ true → b ≡ true) → (b ≡ true → a ≡ true) → a ≡ b
-same_tests true b there back = sym (there refl)
-same_tests false true there back = back refl
-same_tests false false there back = refl
-
 pub rup_said : (c : CheckerValue) (line : ProofLineValue) → is_rup c line ≡ is_implied (verdict_of c line)
 rup_said c line = grind (arith, nat_tests, by_implied, rup_by, by_rup, implied_by)
 
 accepted_said : (c : CheckerValue) (line : ProofLineValue) → (is_rup c line || is_rat c line) ≡ is_accepted (verdict_of c line)
 accepted_said c line =
-    same_tests (is_rup c line || is_rat c line) (is_accepted (verdict_of c line))
+    same_test (is_rup c line || is_rat c line) (is_accepted (verdict_of c line))
     (λ h. ⊎_elim (λ e. ap is_accepted (by_implied c line (rup_by c line e))) (λ e. ap is_accepted (by_redundant c line (rat_by c line e))) (or_cases (is_rup c line) (is_rat c line) h))
     (λ h. go (verdict_of c line) refl h)
   where
@@ -107,14 +99,9 @@ accepted_said c line =
     go (AcceptedVerdict false) e a = or_right (is_rup c line) (is_rat c line) (by_rat c line (redundant_by c line e))
     go (Refused code hint) e a = absurd (false≢true a)
 
-deleted_said : (held twice : Bool) → (held && not twice) ≡ is_accepted (if not held || twice then Refused UnknownDeletion 0 else AcceptedVerdict false)
-deleted_said true true = refl
-deleted_said true false = refl
-deleted_said false twice = refl
-
 pub acceptance_said : (c : CheckerValue) (line : LratLine) → accepts c line ≡ is_accepted (verdict_on c line)
 acceptance_said c (Addition line) = accepted_said c line
-acceptance_said c (Deletion deletion) = deleted_said (are_held c.held deletion.ids) (has_number_twice deletion.ids)
+acceptance_said c (Deletion deletion) = grind arith
 
 -- where no line of some literals has the verdict that it is implied, none is RUP
 pub not_rup : (c : CheckerValue) (lits : List LitValue) → ((line : ProofLineValue) → line.lits ≡ lits → verdict_of c line ≡ AcceptedVerdict true → ⊥) → (line : ProofLineValue) → line.lits ≡ lits → is_rup c line ≡ true → ⊥

@@ -1,10 +1,10 @@
 -- An addition has the verdict that it is implied, or that it is accepted without being so, exactly by the definitions.
 use Rattle.std.proofs.lemmas.{Grind.common_steps, List.{Folds.list_any_none, Sums.list_all-from_AllPass}}
-use Rattle.std.proofs.{Common.{◌≡◌, ℕ, Bool, true, false, List, [], ◌∷◌, Some, None, Ok, Err, refl, arith, ◌↔◌, ◌==◌, ◌≢◌, if◌then◌else◌, All, AllPairs, nat_le, nat_lt}, lemmas.Bool.{le-ltb, lt-leb, ne_eqb, or_from}}
+use Rattle.std.proofs.{Common.{◌≡◌, ℕ, Bool, true, false, List, [], ◌∷◌, Some, Ok, refl, arith, ◌↔◌, ◌==◌, ◌≢◌, if◌then◌else◌, All, AllPairs, nat_le, nat_lt}, lemmas.Bool.{le-ltb, lt-leb, ne_eqb, or_from}}
 use Rattle.list_laws.proofs.Pairs.{pairs_head, pairs_tail}
 use Rattle.cnf_formula.specs.{Literals.LitValue, Formulas.IsAbout, Lines.ProofLineValue}
 use Rattle.proof_rules.specs.{declared.verdict.{LineCode.TheVariants.{IdNotGreater, VariableRange, VariableTwice}, LineVerdict.{LineVerdict, TheVariants.{Accepted as AcceptedVerdict, Refused}}}, Held.{Entry, CheckerValue}}
-use Rattle.proof_rules.specs.{Judging.{is_foreign, led_to, implied_verdict, pivotless_verdict, redundant_verdict, has_variable_twice, led_verdict, verdict_of}, Accepting.{Group, leading, groups_of, is_answered, IsNew, Implied, Redundant}}
+use Rattle.proof_rules.specs.{Judging.{is_foreign, led_to, redundant_verdict, has_variable_twice, led_verdict, verdict_of}, Accepting.{Group, leading, groups_of, is_answered, IsNew, Implied, Redundant}}
 use Rattle.proof_rules.proofs.{Hints.{Led, conflicts, leads_to_conflict, leads, led_by}, Groups.{AreRight, right, no_fault}, Sound.none_any}
 
 -- ---- tests of lists
@@ -28,13 +28,6 @@ variable_own vars l a = or_from (l.var == 0) (nat_lt vars l.var) (ne_eqb l.var 0
 checks : Bool → Bool → Bool → LineVerdict → LineVerdict
 checks a b c v = if a then Refused IdNotGreater 0 else if b then Refused VariableRange 0 else if c then Refused VariableTwice 0 else v
 
-all_pass : (i a b c : Bool) (v : LineVerdict) → checks a b c v ≡ AcceptedVerdict i → (a ≡ false) × (b ≡ false) × (c ≡ false) × (v ≡ AcceptedVerdict i)
-unfolding checks
-all_pass i true b c v h = absurd (cc)
-all_pass i false true c v h = absurd (cc)
-all_pass i false false true v h = absurd (cc)
-all_pass i false false false v h = (refl, refl, refl, h)
-
 pass_all : (i a b c : Bool) (v : LineVerdict) → a ≡ false → b ≡ false → c ≡ false → v ≡ AcceptedVerdict i → checks a b c v ≡ AcceptedVerdict i
 unfolding checks
 pass_all i a b c v ha hb hc hv = rw (ha, hb, hc) hv
@@ -49,13 +42,6 @@ new_is i c line a v = grind (arith, pass_all, nat_le, lt-leb, list_any_none, var
 
 -- ---- the hints
 
--- whether it is implied says which of the two ways it was
-implied_way : (groups : List Group) (i : Bool) → implied_verdict groups ≡ AcceptedVerdict i → (groups ≡ []) × (i ≡ true)
-implied_way groups i h = grind arith
-
-pivotless : (groups : List Group) (i : Bool) → pivotless_verdict groups ≡ AcceptedVerdict i → ⊥
-pivotless groups i h = grind arith
-
 -- what the way without a conflict needs
 record Stands (held : List Entry) (start : List LitValue) (groups : List Group) (lits : List LitValue) (i : Bool) : Type 0 where
   is : i ≡ false
@@ -66,7 +52,7 @@ record Stands (held : List Entry) (start : List LitValue) (groups : List Group) 
   each : All (λ entry. is_answered pivot start groups entry ≡ true) held
 
 redundant_way : (held : List Entry) (start : List LitValue) (groups : List Group) (lits : List LitValue) (i : Bool) → redundant_verdict held start groups lits ≡ AcceptedVerdict i → Stands held start groups lits i
-redundant_way held start groups [] i h = absurd (pivotless groups i h)
+redundant_way held start groups [] i h = absurd (grind arith)
 redundant_way held start groups (pivot ∷ rest) i h = grind (arith, common_steps, right)
 
 pub implied_by : (c : CheckerValue) (line : ProofLineValue) → verdict_of c line ≡ AcceptedVerdict true → Implied c line
@@ -81,9 +67,8 @@ redundant_by c line h =
     go n.0 n.1 (led_to c.held line.lits 0 (leading line.hints)) refl
   where
     go : IsNew c line → led_verdict c.held line ≡ AcceptedVerdict false → (r : Led) → led_to c.held line.lits 0 (leading line.hints) ≡ r → Redundant c line
-    go n v (Err fault) e = let bad : Refused fault.0 fault.1 ≡ AcceptedVerdict false = rw (e, led_verdict) at v in absurd (cc)
-    go n v (Ok None) e = let bad : false ≡ true = (implied_way (groups_of line.hints) false (rw (e, led_verdict) at v)).1 in absurd (cc)
     go n v (Ok (Some start)) e = grind (arith, redundant_way c.held start (groups_of line.hints) line.lits false, leads c.held line.lits 0 (leading line.hints) start e)
+    go n v r e = absurd (grind arith)
 
 pub by_redundant : (c : CheckerValue) (line : ProofLineValue) → Redundant c line → verdict_of c line ≡ AcceptedVerdict false
 by_redundant c line r = grind (arith, no_fault, list_all-from_AllPass, new_is, led_by)

@@ -10,34 +10,22 @@ pub loop-hop-init : goal.loop-hop-init
 loop-hop-init c = record { met_is = c.in_ok-met.ensures ∙ met_none 0 c.args.chunks c.args.nodes c.args.step; twice_is = c.in_ok-twice.ensures ∙ met_none 1 c.args.chunks c.args.nodes c.args.step }
 
 pub holds-requires-clause-chunk : goal.holds-requires-clause-chunk
-holds-requires-clause-chunk c =
-    let below : IsHopBelow c.args.chunks c.args.nodes (get_or c.sends_of-hop-items.result.now c.loop-hop.hop-index no_hop) = step_below c.args.chunks c.args.nodes c.args.step c.args.schedule.now c.sends_of-hop-items.result.now c.requires c.sends_of-hop-items.ensures.sends c.loop-hop.hop-index no_hop c.loop-hop-test.true in
-    omega (arith, below.chunk, ap (λ (p : PlacementValue). p.chunks) c.loop-hop.invariant.met_is)
+holds-requires-clause-chunk c = omega (arith, (step_below _ _ _ c.args.schedule.now _ c.requires c.sends_of-hop-items.ensures.sends _ no_hop c.loop-hop-test.true).chunk, ap (λ (p : PlacementValue). p.chunks) c.loop-hop.invariant.met_is)
 
 pub holds-requires-clause-node : goal.holds-requires-clause-node
-holds-requires-clause-node c =
-    let below : IsHopBelow c.args.chunks c.args.nodes (get_or c.sends_of-hop-items.result.now c.loop-hop.hop-index no_hop) = step_below c.args.chunks c.args.nodes c.args.step c.args.schedule.now c.sends_of-hop-items.result.now c.requires c.sends_of-hop-items.ensures.sends c.loop-hop.hop-index no_hop c.loop-hop-test.true in
-    omega (arith, below.to, ap (λ (p : PlacementValue). p.nodes) c.loop-hop.invariant.met_is)
+holds-requires-clause-node c = omega (arith, (step_below _ _ _ c.args.schedule.now _ c.requires c.sends_of-hop-items.ensures.sends _ no_hop c.loop-hop-test.true).to, ap (λ (p : PlacementValue). p.nodes) c.loop-hop.invariant.met_is)
 
 pub insert-requires-clause-chunk : goal.insert-requires-clause-chunk
-insert-requires-clause-chunk c =
-    let below : IsHopBelow c.args.chunks c.args.nodes (get_or c.sends_of-hop-items.result.now c.loop-hop.hop-index no_hop) = step_below c.args.chunks c.args.nodes c.args.step c.args.schedule.now c.sends_of-hop-items.result.now c.requires c.sends_of-hop-items.ensures.sends c.loop-hop.hop-index no_hop c.loop-hop-test.true in
-    omega (arith, below.chunk, ap (λ (p : PlacementValue). p.chunks) c.loop-hop.invariant.twice_is)
+insert-requires-clause-chunk c = omega (arith, (step_below _ _ _ c.args.schedule.now _ c.requires c.sends_of-hop-items.ensures.sends _ no_hop c.loop-hop-test.true).chunk, ap (λ (p : PlacementValue). p.chunks) c.loop-hop.invariant.twice_is)
 
 pub insert-requires-clause-node : goal.insert-requires-clause-node
-insert-requires-clause-node c =
-    let below : IsHopBelow c.args.chunks c.args.nodes (get_or c.sends_of-hop-items.result.now c.loop-hop.hop-index no_hop) = step_below c.args.chunks c.args.nodes c.args.step c.args.schedule.now c.sends_of-hop-items.result.now c.requires c.sends_of-hop-items.ensures.sends c.loop-hop.hop-index no_hop c.loop-hop-test.true in
-    omega (arith, below.to, ap (λ (p : PlacementValue). p.nodes) c.loop-hop.invariant.twice_is)
+insert-requires-clause-node c = omega (arith, (step_below _ _ _ c.args.schedule.now _ c.requires c.sends_of-hop-items.ensures.sends _ no_hop c.loop-hop-test.true).to, ap (λ (p : PlacementValue). p.nodes) c.loop-hop.invariant.twice_is)
 
 pub insert-requires-else-holds-clause-chunk : goal.insert-requires-else-holds-clause-chunk
-insert-requires-else-holds-clause-chunk c =
-    let below : IsHopBelow c.args.chunks c.args.nodes (get_or c.sends_of-hop-items.result.now c.loop-hop.hop-index no_hop) = step_below c.args.chunks c.args.nodes c.args.step c.args.schedule.now c.sends_of-hop-items.result.now c.requires c.sends_of-hop-items.ensures.sends c.loop-hop.hop-index no_hop c.loop-hop-test.true in
-    omega (arith, below.chunk, ap (λ (p : PlacementValue). p.chunks) c.loop-hop.invariant.met_is)
+insert-requires-else-holds-clause-chunk c = omega (arith, (step_below _ _ _ c.args.schedule.now _ c.requires c.sends_of-hop-items.ensures.sends _ no_hop c.loop-hop-test.true).chunk, ap (λ (p : PlacementValue). p.chunks) c.loop-hop.invariant.met_is)
 
 pub insert-requires-else-holds-clause-node : goal.insert-requires-else-holds-clause-node
-insert-requires-else-holds-clause-node c =
-    let below : IsHopBelow c.args.chunks c.args.nodes (get_or c.sends_of-hop-items.result.now c.loop-hop.hop-index no_hop) = step_below c.args.chunks c.args.nodes c.args.step c.args.schedule.now c.sends_of-hop-items.result.now c.requires c.sends_of-hop-items.ensures.sends c.loop-hop.hop-index no_hop c.loop-hop-test.true in
-    omega (arith, below.to, ap (λ (p : PlacementValue). p.nodes) c.loop-hop.invariant.met_is)
+insert-requires-else-holds-clause-node c = omega (arith, (step_below _ _ _ c.args.schedule.now _ c.requires c.sends_of-hop-items.ensures.sends _ no_hop c.loop-hop-test.true).to, ap (λ (p : PlacementValue). p.nodes) c.loop-hop.invariant.met_is)
 
 pub loop-hop-preserved : goal.loop-hop-preserved
 loop-hop-preserved c =
