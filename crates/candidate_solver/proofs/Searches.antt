@@ -23,5 +23,5 @@ pub answer_cause : {A T : Type 0} (answer : A) (found : T) (one : Result A Solve
 answer_cause answer found one last before now is ended cause = record { later = cause.later; rose = λ e. absurd (cc); stays = λ _. cause.stays (λ e. absurd (cc)) }
 
 -- what it did to the files it did as the ledger that it was
-pub moves_as_was : (a b : LedgerState) → ShelfMoves a b → ShelfMoves a (record a { told = b.told; files = b.files })
-moves_as_was a b m = record { same_base = refl; same_lrat = refl; same_partial = refl; tells = m.tells; others = m.others; whole_log = m.whole_log; learned_log = m.learned_log }
+pub moves_as_was : {a b : LedgerState} → ShelfMoves a b → ShelfMoves a (record a { told = b.told; files = b.files })
+moves_as_was m = record { same_base = refl; same_lrat = refl; same_partial = refl; tells = m.tells; others = m.others; whole_log = m.whole_log; learned_log = m.learned_log }

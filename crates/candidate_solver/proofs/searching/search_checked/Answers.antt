@@ -1,5 +1,5 @@
 use Rattle.std.proofs.Common.{◌≡◌, refl, sym, ap, ◌∙◌, subst, Ok, Err}
-use Rattle.conflict_ledger.specs.{Beside.beside, Shelved.ShelfMoves}
+use Rattle.conflict_ledger.specs.Beside.{beside}
 use Rattle.candidate_solver.{specs.Trying.IsSearch, proofs.Searches.{answer_cause, fault_cause, moves_as_was, same_files}}
 use Rattle.candidate_solver.proofs.searching.search_checked.Goals as goal
 
@@ -37,22 +37,10 @@ pub returns-in-Err-clause-cause : goal.returns-in-Err-clause-cause
 returns-in-Err-clause-cause g c = fault_cause c.in-Err.fault c.solve.result _ _ _ c.in-Err.is (ap Err c.engine_fault.ensures) c.solve.ensures.cause
 
 pub returns-in-Ok-clause-moves : goal.returns-in-Ok-clause-moves
-returns-in-Ok-clause-moves g c =
-    let T = g.H.Shelf.tells in
-    let F = g.H.Shelf.file in
-    let start = c.args.store.now in
-    let now = c.solve.new.ledger.second in
-    let end = c.solve.new.store in
-    moves_as_was (beside c.args.ledger (T start) (F start)) (beside now (T end) (F end)) (subst (λ l. ShelfMoves (beside l (T start) (F start)) (beside now (T end) (F end))) c.new-pair.ensures.second c.solve.ensures.moves)
+returns-in-Ok-clause-moves g c = moves_as_was (rw c.new-pair.ensures.second at c.solve.ensures.moves)
 
 pub returns-in-Err-clause-moves : goal.returns-in-Err-clause-moves
-returns-in-Err-clause-moves g c =
-    let T = g.H.Shelf.tells in
-    let F = g.H.Shelf.file in
-    let start = c.args.store.now in
-    let now = c.solve.new.ledger.second in
-    let end = c.solve.new.store in
-    moves_as_was (beside c.args.ledger (T start) (F start)) (beside now (T end) (F end)) (subst (λ l. ShelfMoves (beside l (T start) (F start)) (beside now (T end) (F end))) c.new-pair.ensures.second c.solve.ensures.moves)
+returns-in-Err-clause-moves g c = moves_as_was (rw c.new-pair.ensures.second at c.solve.ensures.moves)
 
 pub returns-in-Ok-clause-cause : goal.returns-in-Ok-clause-cause
 returns-in-Ok-clause-cause g c = answer_cause c.in-Ok.answer _ c.solve.result _ _ _ c.in-Ok.is refl c.solve.ensures.cause

@@ -1,5 +1,4 @@
 use Rattle.std.proofs.Common.{◌≡◌, refl, sym, ap, ◌∙◌, subst, Ok, Err}
-use Rattle.conflict_ledger.specs.Beside.{beside}
 use Rattle.candidate_solver.{specs.Trying.IsSearch, proofs.Searches.{answer_cause, fault_cause, moves_as_was}}
 use Rattle.candidate_solver.proofs.searching.search_plain.Goals as goal
 
@@ -19,22 +18,10 @@ returns-in-Ok-clause-search g c =
     subst (λ ls. IsSearch f c.args.ledger.counted.limit ls answer) (sym c.into_log-lines.ensures) (subst (λ n. IsSearch f n now.lines answer) c.solve.ensures.limit solved)
 
 pub returns-in-Ok-clause-moves : goal.returns-in-Ok-clause-moves
-returns-in-Ok-clause-moves g c =
-    let T = g.H.Shelf.tells in
-    let F = g.H.Shelf.file in
-    let start = c.args.store.now in
-    let now = c.solve.new.ledger in
-    let end = c.solve.new.store in
-    moves_as_was (beside c.args.ledger (T start) (F start)) (beside now (T end) (F end)) c.solve.ensures.moves
+returns-in-Ok-clause-moves g c = moves_as_was c.solve.ensures.moves
 
 pub returns-in-Err-clause-moves : goal.returns-in-Err-clause-moves
-returns-in-Err-clause-moves g c =
-    let T = g.H.Shelf.tells in
-    let F = g.H.Shelf.file in
-    let start = c.args.store.now in
-    let now = c.solve.new.ledger in
-    let end = c.solve.new.store in
-    moves_as_was (beside c.args.ledger (T start) (F start)) (beside now (T end) (F end)) c.solve.ensures.moves
+returns-in-Err-clause-moves g c = moves_as_was c.solve.ensures.moves
 
 pub returns-in-Ok-clause-cause : goal.returns-in-Ok-clause-cause
 returns-in-Ok-clause-cause g c = answer_cause c.in-Ok.answer _ c.solve.result _ _ _ c.in-Ok.is refl c.solve.ensures.cause
