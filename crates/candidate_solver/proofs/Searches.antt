@@ -1,8 +1,8 @@
 -- What a ledger says of its files, and what the fault of a search says.
-use Rattle.std.proofs.{Common.{arith, ◌≡◌, ℕ, List, Result, Err}, lemmas.Bool.Decides.nat_tests}
+use Rattle.std.proofs.{Common.{arith, ◌≡◌, refl, ℕ, List, Result, Ok, Err}, lemmas.Bool.Decides.nat_tests}
 use Rattle.cnf_formula.specs.{Formulas.FormulaValue, Lines.ProofLineValue}
 use Rattle.outer_ports.specs.{declared.proof_name.ProofName.ProofName, Port.HasCause}
-use Rattle.conflict_ledger.specs.Shelved.{LedgerState, ShelfAgrees}
+use Rattle.conflict_ledger.specs.Shelved.{LedgerState, ShelfAgrees, ShelfMoves}
 use Rattle.engine_rules.specs.declared.fault.EngineFault.{EngineFault, TheVariants.ShelfFailed}
 use Rattle.sat_core.specs.declared.fault.SolveFault.{SolveFault}
 use Rattle.sat_core.specs.declared.fault.SolveFault.TheVariants as solving
@@ -17,3 +17,11 @@ same_files now base lrat partial lines others over first second are agrees = gri
 pub fault_cause : {A T : Type 0} (fault : SolveFault) (one : Result A SolveFault) (last : Result T EngineFault) (before now : ℕ) → one ≡ Err fault → last ≡ Err (of_solving fault) → HasCause solving.LedgerFailed before now one → HasCause ShelfFailed before now last
 fault_cause solving.LedgerFailed one last before now is ended cause = record { later = cause.later; rose = λ _. cause.rose is; stays = λ other. absurd (other ended) }
 fault_cause solving.OutOfMemory one last before now is ended cause = record { later = cause.later; rose = λ e. absurd (cc); stays = λ _. cause.stays (λ e. absurd (cc)) }
+
+-- that of a search with an answer, of which no fault has come
+pub answer_cause : {A T : Type 0} (answer : A) (found : T) (one : Result A SolveFault) (last : Result T EngineFault) (before now : ℕ) → one ≡ Ok answer → last ≡ Ok found → HasCause solving.LedgerFailed before now one → HasCause ShelfFailed before now last
+answer_cause answer found one last before now is ended cause = record { later = cause.later; rose = λ e. absurd (cc); stays = λ _. cause.stays (λ e. absurd (cc)) }
+
+-- what it did to the files it did as the ledger that it was
+pub moves_as_was : {a b : LedgerState} → ShelfMoves a b → ShelfMoves a (record a { told = b.told; files = b.files })
+moves_as_was m = record { same_base = refl; same_lrat = refl; same_partial = refl; tells = m.tells; others = m.others; whole_log = m.whole_log; learned_log = m.learned_log }

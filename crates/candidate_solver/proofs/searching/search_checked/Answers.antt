@@ -1,6 +1,6 @@
-use Rattle.std.proofs.Common.{◌≡◌, sym, ap, ◌∙◌, subst, Ok, Err}
+use Rattle.std.proofs.Common.{◌≡◌, refl, sym, ap, ◌∙◌, subst, Ok, Err}
 use Rattle.conflict_ledger.specs.Beside.{beside}
-use Rattle.candidate_solver.{specs.Trying.IsSearch, proofs.Searches.{fault_cause, same_files}}
+use Rattle.candidate_solver.{specs.Trying.IsSearch, proofs.Searches.{answer_cause, fault_cause, moves_as_was, same_files}}
 use Rattle.candidate_solver.proofs.searching.search_checked.Goals as goal
 
 pub returns-in-Ok-clause-search : goal.returns-in-Ok-clause-search
@@ -35,3 +35,12 @@ returns-in-Ok-clause-agrees g c =
 
 pub returns-in-Err-clause-cause : goal.returns-in-Err-clause-cause
 returns-in-Err-clause-cause g c = fault_cause c.in-Err.fault c.solve.result _ _ _ c.in-Err.is (ap Err c.engine_fault.ensures) c.solve.ensures.cause
+
+pub returns-in-Ok-clause-moves : goal.returns-in-Ok-clause-moves
+returns-in-Ok-clause-moves g c = moves_as_was (rw c.new-pair.ensures.second at c.solve.ensures.moves)
+
+pub returns-in-Err-clause-moves : goal.returns-in-Err-clause-moves
+returns-in-Err-clause-moves g c = moves_as_was (rw c.new-pair.ensures.second at c.solve.ensures.moves)
+
+pub returns-in-Ok-clause-cause : goal.returns-in-Ok-clause-cause
+returns-in-Ok-clause-cause g c = answer_cause c.in-Ok.answer _ c.solve.result _ _ _ c.in-Ok.is refl c.solve.ensures.cause
