@@ -26,7 +26,6 @@ impl Model for Placement {
 
 impl Placement {
     /// The placement of no pair, for so many chunks and nodes. The only error is `OutOfMemory`.
-    #[tactic(auto, using(crate::proofs::Marked::marked_empty))]
     pub fn empty(alloc: Global, chunks: u16, nodes: u8) -> Result<Placement, OutOfMemory>
         ensures { IfOk result (λ p. p ≡ empty_placement chunks nodes) }
     {
@@ -51,7 +50,6 @@ impl Placement {
     }
 
     /// Adds a pair, which may be there already.
-    #[tactic(auto, using(crate::proofs::Marked::placement_here, crate::proofs::Marked::marked_set))]
     pub fn insert(&mut self, chunk: u16, node: u8)
         requires chunk { chunk < self.old.chunks }
         requires node { node < self.old.nodes }
@@ -63,7 +61,6 @@ impl Placement {
     }
 
     /// Whether the node has the chunk.
-    #[tactic(auto, using(crate::proofs::Marked::placement_marked, crate::proofs::Marked::holds_marked))]
     pub fn holds(&self, chunk: u16, node: u8) -> bool
         requires chunk { chunk < self.now.chunks }
         requires node { node < self.now.nodes }
@@ -74,7 +71,6 @@ impl Placement {
     }
 
     /// The number of chunks.
-    #[tactic(auto, using(crate::proofs::Marked::placement_marked))]
     pub fn chunks(&self) -> u16
         ensures chunks { result ≡ self.now.chunks }
         ensures limits { IsPlacement self.now }
@@ -83,7 +79,6 @@ impl Placement {
     }
 
     /// The number of nodes.
-    #[tactic(auto, using(crate::proofs::Marked::placement_marked))]
     pub fn nodes(&self) -> u8
         ensures nodes { result ≡ self.now.nodes }
         ensures limits { IsPlacement self.now }
