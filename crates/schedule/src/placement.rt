@@ -26,6 +26,7 @@ impl Model for Placement {
 
 impl Placement {
     /// The placement of no pair, for so many chunks and nodes. The only error is `OutOfMemory`.
+    #[tactic(auto, using(crate::proofs::Marked::marked_empty))]
     pub fn empty(alloc: Global, chunks: u16, nodes: u8) -> Result<Placement, OutOfMemory>
         ensures { IfOk result (λ p. p ≡ empty_placement chunks nodes) }
     {
@@ -71,6 +72,7 @@ impl Placement {
     }
 
     /// The number of chunks.
+    #[tactic(auto, using(crate::proofs::Marked::placement_marked))]
     pub fn chunks(&self) -> u16
         ensures chunks { result ≡ self.now.chunks }
         ensures limits { IsPlacement self.now }
@@ -79,6 +81,7 @@ impl Placement {
     }
 
     /// The number of nodes.
+    #[tactic(auto, using(crate::proofs::Marked::placement_marked))]
     pub fn nodes(&self) -> u8
         ensures nodes { result ≡ self.now.nodes }
         ensures limits { IsPlacement self.now }
