@@ -7,7 +7,6 @@ use crate::schedule::Schedule;
 use crate::topology::Topology;
 
 /// The first step, and the first group in it, that is over its bandwidth.
-#[tactic(auto, using(crate::proofs::Grids::find_here, crate::proofs::Grids::find_later))]
 pub fn first_overfull(topology: &Topology, schedule: &Schedule) -> Option<(u8, u16)>
     requires { IsInRange 65536 topology.now.nodes schedule.now }
     ensures { result ≡ first_overfull topology.now schedule.now }

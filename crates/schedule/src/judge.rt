@@ -87,7 +87,6 @@ pub fn first_unlinked(topology: &Topology, sends: &[Hop]) -> Option<Hop>
 }
 
 /// The first pair that is demanded and not held, of so many chunks.
-#[tactic(auto, using(crate::proofs::Lacking::all_lacking, crate::proofs::Grids::find_here, crate::proofs::Grids::find_later))]
 fn first_lacking(last: &Placement, post: &Placement, chunks: u16) -> Option<(u16, u8)>
     requires last { last.now.chunks ≡ chunks }
     requires post { post.now.chunks ≡ chunks }

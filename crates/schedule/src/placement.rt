@@ -51,7 +51,6 @@ impl Placement {
     }
 
     /// Adds a pair, which may be there already.
-    #[tactic(auto, using(crate::proofs::Marked::placement_here, crate::proofs::Marked::marked_set))]
     pub fn insert(&mut self, chunk: u16, node: u8)
         requires chunk { chunk < self.old.chunks }
         requires node { node < self.old.nodes }
@@ -63,7 +62,6 @@ impl Placement {
     }
 
     /// Whether the node has the chunk.
-    #[tactic(auto, using(crate::proofs::Marked::placement_marked, crate::proofs::Marked::holds_marked))]
     pub fn holds(&self, chunk: u16, node: u8) -> bool
         requires chunk { chunk < self.now.chunks }
         requires node { node < self.now.nodes }

@@ -8,7 +8,6 @@ use std::alloc::Global;
 
 /// The placements after step 0, which is `pre`, to the last step. A send whose sender lacks the
 /// chunk before its step brings nothing. The only error is `OutOfMemory`.
-#[tactic(auto, using(crate::proofs::Stepping::range_after, crate::proofs::Stepping::after_more, crate::proofs::Stepping::run_more))]
 pub fn run_steps(
     alloc: Global,
     pre: &Placement,
