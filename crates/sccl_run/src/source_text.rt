@@ -10,7 +10,6 @@ use std::alloc::Global;
 
 /// The bytes that the source gives, where it is to be read, and else none; `None` where more came
 /// than are read.
-#[tactic(auto, using(crate::proofs::Dues::nothing_behind))]
 pub(crate) fn source_text<I: Source>(
     alloc: Global,
     reads: bool,

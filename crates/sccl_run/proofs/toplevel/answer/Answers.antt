@@ -1,6 +1,7 @@
-use Rattle.std.proofs.Common.{rules, refl, sym, ◌∙◌}
+use Rattle.std.proofs.Common.{rules, IfOk, refl, subst, sym, ◌∙◌}
 use Rattle.command_words.specs.Words.{texts}
 use Rattle.run_rules.specs.Commands.{opens_shelf, reads_source}
+use Rattle.sccl_run.specs.inner.Answering.{Answers}
 use Rattle.sccl_run.proofs.{Dues.{asks, asks_no_reading, refused_asks_nothing}, Texts.{answers_words, halts_before, halts_words, refused_words}}
 use Rattle.sccl_run.proofs.toplevel.answer.Goals as goal
 
@@ -34,3 +35,18 @@ returns-in_ok-refused_word-in-Err-clause-answers g c =
 pub returns-in_ok-refused_word-in-Err-clause-read :
     goal.returns-in_ok-refused_word-in-Err-clause-read
 returns-in_ok-refused_word-in-Err-clause-read g c = λ told ask. absurd (refused_asks_nothing reads_source (texts c.args.words.now) c.in-Err.fault refl (sym c.in-Err.ensures.read) ask)
+
+pub returns-in_ok-text-in-Ok-clause-ends : goal.returns-in_ok-text-in-Ok-clause-ends
+returns-in_ok-text-in-Ok-clause-ends g c = subst (λ x. IfOk c.text_answer.result (λ a. Answers x a.status)) c.in-Ok.ensures.read c.text_answer.ensures.ends
+
+pub returns-in_ok-text-in-Ok-clause-opens : goal.returns-in_ok-text-in-Ok-clause-opens
+returns-in_ok-text-in-Ok-clause-opens g c = λ e. asks opens_shelf (texts c.args.words.now) c.in-Ok.command (sym c.in-Ok.ensures.read) (c.text_answer.ensures.opens e)
+
+pub returns-in_ok-text-in-Ok-clause-reads : goal.returns-in_ok-text-in-Ok-clause-reads
+returns-in_ok-text-in-Ok-clause-reads g c = λ e. absurd (c.text_answer.ensures.source e)
+
+pub returns-in_ok-text-in-Ok-clause-part : goal.returns-in_ok-text-in-Ok-clause-part
+returns-in_ok-text-in-Ok-clause-part g c = λ told e. absurd (c.text_answer.ensures.source e)
+
+pub returns-in_ok-text-in-Ok-clause-behind_source : goal.returns-in_ok-text-in-Ok-clause-behind_source
+returns-in_ok-text-in-Ok-clause-behind_source g c = λ e. absurd (c.text_answer.ensures.source e)

@@ -1,0 +1,19 @@
+use Rattle.std.proofs.Common.{Err, ◌≤◌, ◌∙◌, ap, length, subst, sym}
+use Rattle.run_rules.specs.Tasks.{limit}
+use Rattle.sccl_run.proofs.Dues.{nothing_behind}
+use Rattle.sccl_run.proofs.source_text.source_text.Goals as goal
+
+pub returns-in-Ok-clause-read : goal.returns-in-Ok-clause-read
+returns-in-Ok-clause-read g c = λ told reads.
+    c.in-Ok.ensures.end told ∙ sym (nothing_behind (g.I.Source.left c.args.source.now) (subst (λ bytes. length bytes ≤ limit) (c.in-Ok.ensures.whole told) c.in-Ok.ensures.within))
+
+pub returns-in-Err-TooLong-clause-longer : goal.returns-in-Err-TooLong-clause-longer
+returns-in-Err-TooLong-clause-longer g c = λ told.
+    c.in-Err-TooLong.ensures.too_long told (ap Err c.in-Err-TooLong.field-0-is)
+
+pub returns-in-Err-TooLong-clause-read : goal.returns-in-Err-TooLong-clause-read
+returns-in-Err-TooLong-clause-read g c = λ told reads.
+    c.in-Err-TooLong.ensures.one_more told (ap Err c.in-Err-TooLong.field-0-is)
+
+pub returns-in-Err-Failed-clause-part : goal.returns-in-Err-Failed-clause-part
+returns-in-Err-Failed-clause-part g c = λ told failed. c.in-Err-Failed.ensures.rest told
