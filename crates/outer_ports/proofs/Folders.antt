@@ -15,6 +15,9 @@ read_stays before now folder name n same held = grind arith
 pub file_is : (disk : Disk) (folder : List ℕ) (name : ProofName) (n : ℕ) → IsTrue (in_range name) → disk.number (path_in folder name) ≡ Some n → files_in_folder disk folder name ≡ Some (disk.bytes n)
 file_is disk folder name n range here = ap (λ b. if b then bytes_at disk (path_in folder name) else None) range ∙ ap (λ number. option_map disk.bytes number) here
 
+pub no_file : (disk : Disk) (folder : List ℕ) (name : ProofName) → disk.number (path_in folder name) ≡ None → files_in_folder disk folder name ≡ None
+no_file disk folder name none = grind arith
+
 -- where the file of a name in range stays, the file of the name does
 pub file_stays : (before now : Disk) (folder : List ℕ) (name : ProofName) → (IsTrue (in_range name) → bytes_at now (path_in folder name) ≡ bytes_at before (path_in folder name)) → files_in_folder now folder name ≡ files_in_folder before folder name
 file_stays before now folder name stays = grind arith
