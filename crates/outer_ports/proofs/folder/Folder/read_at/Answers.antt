@@ -10,13 +10,10 @@ same_fault : {T U E : Type 0} (r : Result T E) (s : Result U E) (a b : E) → r 
 same_fault r s a b one other is = let same : a ≡ b = cc in other ∙ ap (λ e. Err e) same
 
 pub returns-in_err-start_reading : goal.returns-in_err-start_reading
-returns-in_err-start_reading g c =
-    let start = c.start_reading.ensures in
+returns-in_err-start_reading g c = let start = c.start_reading.ensures in
     rw (err_is _ _ c.from_residual.ensures.1) (record { path = start.path; within = tt; told = start.told; stays = start.stays; read = λ _. record { none = tt; some = λ _ _. tt }; counted = λ t other. start.counted t (λ is. other (same_fault c.start_reading.result _ _ _ c.in_err-start_reading.was refl is)) })
 
 pub returns-then-not-branch : goal.returns-then-not-branch
-returns-then-not-branch g c =
-    let start = c.in_ok-start_reading.ensures in
-    let C = g.C.FileCalls in
+returns-then-not-branch g c = let start = c.in_ok-start_reading.ensures in let C = g.C.FileCalls in
     let none : IsTrue (C.tells c.start_reading.new.self.calls) → files_in_folder (C.disk c.args.self.now.calls) (string_bytes c.args.self.now.path) c.args.name ≡ None = λ t. no_file (C.disk c.args.self.now.calls) (string_bytes c.args.self.now.path) c.args.name (start.missing t (ap (λ b. Ok b) c.if-not-branch.true)) in
     record { path = start.path; within = tt; told = start.told; stays = start.stays; read = λ t. record { none = (λ _. none t, λ _. refl); some = λ bytes has. absurd (some_apart _ bytes has (none t)) }; counted = λ t _. start.counted t (λ e. absurd (cc)) }
