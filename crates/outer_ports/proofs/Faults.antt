@@ -1,7 +1,7 @@
 -- Faults that are handed on, and what an answer leaves of a file system.
-use Rattle.std.proofs.Common.{arith, ◌≡◌, ◌≢◌, ◌∙◌, sym, ap, ℕ, List, Some, Result, Ok, Err, OnErr}
-use Rattle.std.specs.Result.{IfOk, IsErrAnd, MatchResult}
-use Rattle.outer_ports.specs.{Port.HasCause, Disks.{Disk, MakesFile, Removes, Renames}, inner.Keeping.{IsNeither, IsOther, IsOwn, Spares}}
+use Rattle.std.proofs.Common.{arith, ◌≡◌, ◌≢◌, ◌∙◌, sym, ap, ℕ, List, Result, Ok, Err}
+use Rattle.std.specs.Result.{IsErrAnd}
+use Rattle.outer_ports.specs.{Port.HasCause, Disks.{Disk, MakesFile, Renames}, inner.Keeping.{IsNeither, IsOther, IsOwn, Spares}}
 
 pub err_is : {T E : Type 0} (r : Result T E) (e : E) → IsErrAnd r (λ x. x ≡ e) → r ≡ Err e
 err_is (Ok x) e h = absurd h
@@ -30,13 +30,3 @@ renamed_own fresh path n mid now own renames = grind arith
 
 pub renamed_spares : (fresh path : List ℕ) (before mid now : Disk) → Spares (IsOther fresh) before mid → Renames fresh path mid now → Spares (IsNeither fresh path) before now
 renamed_spares fresh path before mid now spares renames = grind arith
-
--- what an error says holds where another error was made of it
-pub mapped_err : {T E F P : Type 0} (Q : E → Type 0) (r : Result T E) (s : Result T F) (fault : F) → MatchResult r (λ x. s ≡ Ok x) Q → s ≡ Err fault → OnErr r P → P
-mapped_err Q (Ok x) s fault cases is held = absurd (let clash : Ok x ≡ Err fault = sym cases ∙ is in cc)
-mapped_err Q (Err e) s fault cases is held = held
-
--- a name was taken away, and a file was made under it, or was not
-pub remade_spares : {T E : Type 0} (r : Result T E) (number : T → ℕ) (path : List ℕ) (before mid now : Disk) → Removes path before mid → IfOk r (λ file. MakesFile path (number file) mid now) → OnErr r (now ≡ mid) → Spares (IsOther path) before now
-remade_spares (Ok file) number path before mid now gone made same = grind arith
-remade_spares (Err e) number path before mid now gone made same = grind arith

@@ -25,9 +25,6 @@ split_at x (a ∷ xs) (b ∷ ys) us vs la lb e = let (front, rest) = split_at x 
 no_dash : digit_value 45 < 10 → ⊥
 no_dash small = omega arith
 
-no_dot : digit_value 46 < 10 → ⊥
-no_dot small = omega arith
-
 numeral : (n : ℕ) → n ≤ 255 → IsNumeral 10 (decimal n)
 numeral n small = (decimal_is_IsNumeral n (omega arith)).0
 
@@ -71,7 +68,7 @@ behind_dot kind = drop 1 (file_ending kind)
 
 ends_apart : (j k : FileKind) (c d : ℕ) → c ≤ 255 → d ≤ 255 → decimal c ++ file_ending j ≡ decimal d ++ file_ending k → (j ≡ k) × (c ≡ d)
 ends_apart j k c d small small_too e =
-    let (front, rest) = split_at 46 (decimal c) (decimal d) (behind_dot j) (behind_dot k) (digits_lack 46 no_dot (decimal c) (numeral c small).1) (digits_lack 46 no_dot (decimal d) (numeral d small_too).1) (by_kinds j k e) in
+    let (front, rest) = split_at 46 (decimal c) (decimal d) (behind_dot j) (behind_dot k) (digits_lack 46 (λ small. omega arith) (decimal c) (numeral c small).1) (digits_lack 46 (λ small. omega arith) (decimal d) (numeral d small_too).1) (by_kinds j k e) in
     (kinds j k rest, decimal_injective c d (omega arith) (omega arith) front)
   where
     by_kinds : (j k : FileKind) → decimal c ++ file_ending j ≡ decimal d ++ file_ending k → decimal c ++ 46 ∷ behind_dot j ≡ decimal d ++ 46 ∷ behind_dot k

@@ -93,9 +93,6 @@ some_same x y e = cc
 pub read_file : {F : Type 0} (number : F → ℕ) (disk : Disk) (folder : List ℕ) (reading : Option (ProofName × F)) (name opened : ProofName) (file : F) → reading ≡ Some (opened, file) → option_map (λ held. held.0) reading ≡ Some name → AllRead number disk folder reading → files_in_folder disk folder name ≡ Some (disk.bytes (number file))
 read_file {F} number disk folder reading name opened file is of all = grind (arith, some_same, file_is)
 
-pub some_apart : {X : Type 0} (o : Option X) (x : X) → o ≡ Some x → o ≡ None → ⊥
-some_apart o x some none = some_is_none o x none some
-
 pub same_bytes : {E : Type 0} (result : Result ℕ E) (file : Option (List ℕ)) (bytes read : List ℕ) (place : ℕ) (buffer : List ℕ) → file ≡ Some read → file ≡ Some bytes → IfOk result (HoldsBytes read place buffer) → IfOk result (HoldsBytes bytes place buffer)
 same_bytes result file bytes read place buffer is has holds = rw (some_same bytes read (sym has ∙ is)) holds
 

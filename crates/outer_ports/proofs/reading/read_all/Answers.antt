@@ -15,23 +15,17 @@ none_left a (x ∷ xs) b y whole moved was end len = absurd (omega (arith, ap le
 ok_err : {T E : Type 0} (x : T) (e : E) → Ok x ≡ Err e → ⊥
 ok_err x e is = absurd (cc)
 
-memory_long : {T : Type 0} (r : Result T ReadFault) → r ≡ Err OutOfMemory → r ≡ Err TooLong → ⊥
-memory_long r one other = absurd (cc)
-
-memory_failed : {T : Type 0} (r : Result T ReadFault) → r ≡ Err OutOfMemory → r ≡ Err Failed → ⊥
-memory_failed r one other = absurd (cc)
-
-failed_long : {T : Type 0} (r : Result T ReadFault) → r ≡ Err Failed → r ≡ Err TooLong → ⊥
-failed_long r one other = absurd (cc)
+faults : {T : Type 0} (r : Result T ReadFault) → (r ≡ Err OutOfMemory → r ≡ Err TooLong → ⊥) × (r ≡ Err OutOfMemory → r ≡ Err Failed → ⊥) × (r ≡ Err Failed → r ≡ Err TooLong → ⊥)
+faults r = (λ one other. absurd (cc), λ one other. absurd (cc), λ one other. absurd (cc))
 
 pub returns-in_err-bytes : goal.returns-in_err-bytes
 returns-in_err-bytes g c = rw (err_is _ OutOfMemory c.from_residual.ensures.1)
-    (record { told = λ t. t; cause = unmoved _ _ _ _ refl (memory_failed _ refl); memory = λ _. refl; within = tt; whole = λ _. tt; end = λ _. tt; too_long = λ _ e. absurd (memory_long _ refl e); one_more = λ _ e. absurd (memory_long _ refl e); failed = λ _ e. absurd (memory_failed _ refl e); rest = λ _. (0, omega arith, refl) })
+    (record { told = λ t. t; cause = unmoved _ _ _ _ refl ((faults _).1 refl); memory = λ _. refl; within = tt; whole = λ _. tt; end = λ _. tt; too_long = λ _ e. absurd ((faults _).0 refl e); one_more = λ _ e. absurd ((faults _).0 refl e); failed = λ _ e. absurd ((faults _).1 refl e); rest = λ _. (0, omega arith, refl) })
 
 pub returns-in_err-read_piece : goal.returns-in_err-read_piece
 returns-in_err-read_piece g c = let i = c.loop-buffer.invariant in let piece = c.read_piece.ensures in let I = g.I.Source in let now = c.read_piece.new.source in
     let rest : IsTrue (I.tells now) → I.left now ≡ drop (length c.loop-buffer.bytes.items) (I.left c.args.source.now) = λ t. c.in_err-read_piece.ensures.stays t ∙ left_behind _ _ _ _ (i.taken (piece.told t)) refl in rw (err_is _ Failed c.from_residual-in_err-read_piece.ensures.1)
-    (record { told = λ t. i.told (piece.told t); cause = handed_on failed Failed _ _ _ _ _ i.kept c.in_err-read_piece.was refl piece.cause; memory = λ e. absurd (memory_failed _ e refl); within = tt; whole = λ _. tt; end = λ _. tt; too_long = λ _ e. absurd (failed_long _ refl e); one_more = λ _ e. absurd (failed_long _ refl e);
+    (record { told = λ t. i.told (piece.told t); cause = handed_on failed Failed _ _ _ _ _ i.kept c.in_err-read_piece.was refl piece.cause; memory = λ e. absurd ((faults _).1 e refl); within = tt; whole = λ _. tt; end = λ _. tt; too_long = λ _ e. absurd ((faults _).2 refl e); one_more = λ _ e. absurd ((faults _).2 refl e);
     failed = λ t _. (length c.loop-buffer.bytes.items, omega (arith, c.len.ensures, c.loop-buffer-test.true), rest t); rest = λ t. (length c.loop-buffer.bytes.items, omega (arith, i.within), rest t) })
 
 pub returns-then-branch-eq0 : goal.returns-then-branch-eq0
@@ -47,5 +41,5 @@ loop-buffer-preserved g c = let i = c.loop-buffer.invariant in let piece = c.in_
 pub returns : goal.returns
 returns g c = let i = c.loop-buffer.invariant in let full : length c.loop-buffer.bytes.items ≡ c.args.limit + 1 = omega (arith, i.within, c.len.ensures, c.loop-buffer-test.false) in let I = g.I.Source in let now = c.loop-buffer.source in
     let rest : IsTrue (I.tells now) → I.left now ≡ drop (c.args.limit + 1) (I.left c.args.source.now) = λ t. left_behind _ _ _ _ (i.taken t) full in
-    record { told = i.told; cause = unmoved _ _ _ _ i.kept (λ e. failed_long _ e refl); memory = λ e. absurd (memory_long _ e refl); within = tt; whole = λ _. tt; end = λ _. tt;
-    too_long = λ t _. omega (arith, full, ap length (i.taken t), length-append c.loop-buffer.bytes.items (I.left now)); one_more = λ t _. rest t; failed = λ _ e. absurd (failed_long _ e refl); rest = λ t. (c.args.limit + 1, omega arith, rest t) }
+    record { told = i.told; cause = unmoved _ _ _ _ i.kept (λ e. (faults _).2 e refl); memory = λ e. absurd ((faults _).0 e refl); within = tt; whole = λ _. tt; end = λ _. tt;
+    too_long = λ t _. omega (arith, full, ap length (i.taken t), length-append c.loop-buffer.bytes.items (I.left now)); one_more = λ t _. rest t; failed = λ _ e. absurd ((faults _).2 e refl); rest = λ t. (c.args.limit + 1, omega arith, rest t) }
