@@ -1,5 +1,5 @@
 -- Faults that are handed on, and what an answer leaves of a file system.
-use Rattle.std.proofs.Common.{arith, ◌≡◌, ◌≢◌, ◌∙◌, sym, ap, ℕ, List, Result, Ok, Err}
+use Rattle.std.proofs.Common.{arith, ◌≡◌, ◌∙◌, sym, ap, ℕ, List, Result, Ok, Err}
 use Rattle.std.specs.Result.{IsErrAnd}
 use Rattle.outer_ports.specs.{Port.HasCause, Disks.{Disk, MakesFile, Renames}, inner.Keeping.{IsNeither, IsOther, IsOwn, Spares}}
 

@@ -1,4 +1,4 @@
-use Rattle.std.proofs.Common.{◌∙◌, refl}
+use Rattle.std.proofs.Common.{refl}
 use Rattle.outer_ports.specs.declared.shelf_fault.ShelfFault.TheVariants.{Failed}
 use Rattle.outer_ports.proofs.Faults.{err_is, spares_all}
 use Rattle.outer_ports.proofs.beginning.make_anew.Goals as goal
