@@ -30,7 +30,8 @@ returns-in_err-read_piece g c = let i = c.loop-buffer.invariant in let piece = c
 
 pub returns-then-branch-eq0 : goal.returns-then-branch-eq0
 returns-then-branch-eq0 g c = let i = c.loop-buffer.invariant in let piece = c.in_ok-read_piece.ensures in let I = g.I.Source in let now = c.read_piece.new.source in
-    let all : IsTrue (I.tells now) → (c.read_piece.new.bytes.items ≡ I.left c.args.source.now) × (I.left now ≡ []) = λ t. none_left c.read_piece.new.bytes.items (I.left now) c.loop-buffer.bytes.items (I.left c.loop-buffer.source) _ (piece.moved t) (i.taken (piece.told t)) (piece.end t c.if-branch-eq0.true) (omega (arith, piece.count.1, c.if-branch-eq0.true)) in
+
+       let all : IsTrue (I.tells now) → (c.read_piece.new.bytes.items ≡ I.left c.args.source.now) × (I.left now ≡ []) = λ t. none_left c.read_piece.new.bytes.items (I.left now) c.loop-buffer.bytes.items (I.left c.loop-buffer.source) _ (piece.moved t) (i.taken (piece.told t)) (piece.end t c.if-branch-eq0.true) (omega (arith, piece.count.1, c.if-branch-eq0.true)) in
     record { told = λ t. i.told (piece.told t); cause = unmoved _ _ _ _ (piece.cause.stays (λ e. ok_err _ _ e) ∙ i.kept) (λ e. ok_err _ _ e); memory = λ e. absurd (ok_err _ _ e);
     within = omega (arith, piece.count.1, c.if-branch-eq0.true, c.len.ensures, c.loop-buffer-test.true); whole = λ t. (all t).0; end = λ t. (all t).1; too_long = λ _ e. absurd (ok_err _ _ e); one_more = λ _ e. absurd (ok_err _ _ e); failed = λ _ e. absurd (ok_err _ _ e); rest = λ _. tt }
 
