@@ -1,5 +1,5 @@
 -- Words with a space behind each, and lines of them.
-use Rattle.std.{proofs.{Common.{arith, ◌≡◌, ℕ, List, [], ◌∷◌, ◌++◌, refl, sym, ap, ◌∙◌, append_assoc}, lemmas.Grind.common_steps}, specs.List.join_with_byte}
+use Rattle.std.{proofs.{Common.{arith, ◌≡◌, ℕ, suc, ◌+◌, ◌<◌, List, [], ◌∷◌, ◌++◌, length, map, take, get_or, refl, sym, ap, ◌∙◌, append_assoc}, Math.Seq.take-suc, lemmas.{Grind.{common_steps, flat_map-append}, List.map-append}}, specs.List.{flat_map, join_with_byte}}
 use Rattle.text_lines.specs.Text.{line}
 use Rattle.lrat_text.specs.Printing.{trailed, closed}
 
@@ -34,3 +34,9 @@ deletion_text out id ids =
 
 pub clause_text : (out : List ℕ) (words : List (List ℕ)) → out ++ trailed words ++ 48 ∷ 10 ∷ [] ≡ out ++ line (closed words)
 clause_text out words = append_assoc out (trailed words) (48 ∷ 10 ∷ []) ∙ ap (λ z. out ++ z) (sym (line_closed words))
+
+-- what is made of one element more stands at the end
+pub one_more : {A B : Type 0} (f : B → List ℕ) (g : A → B) (start was now : List ℕ) (xs : List A) (i : ℕ) (d : A) → i < length xs → was ≡ start ++ flat_map f (map g (take i xs)) → now ≡ was ++ flat_map f (g (get_or xs i d) ∷ []) → now ≡ start ++ flat_map f (map g (take (i + 1) xs))
+one_more f g start was now xs i d within done more = let next : i + 1 ≡ suc i = omega arith in let front = map g (take i xs) in let last = g (get_or xs i d) ∷ [] in
+    let grown : map g (take (i + 1) xs) ≡ front ++ last = ap (λ n. map g (take n xs)) next ∙ ap (map g) (take-suc xs i d within) ∙ map-append g (take i xs) (get_or xs i d ∷ []) in
+    more ∙ ap (λ z. z ++ flat_map f last) done ∙ append_assoc start (flat_map f front) (flat_map f last) ∙ ap (λ z. start ++ z) (sym (ap (flat_map f) grown ∙ flat_map-append f front last))

@@ -20,16 +20,10 @@ split_at : (x : ℕ) (xs ys us vs : List ℕ) → Lacks x xs → Lacks x ys → 
 split_at x [] [] us vs la lb e = (refl, ap (drop 1) e)
 split_at x [] (b ∷ ys) us vs la lb e = absurd (lb.0 (sym (ap (λ l. get_or l 0 0) e)))
 split_at x (a ∷ xs) [] us vs la lb e = absurd (la.0 (ap (λ l. get_or l 0 0) e))
-split_at x (a ∷ xs) (b ∷ ys) us vs la lb e =
-    let (front, rest) = split_at x xs ys us vs la.1 lb.1 (ap (drop 1) e) in
-    let same : a ≡ b = ap (λ l. get_or l 0 0) e in
-    (rw (same, front) refl, rest)
+split_at x (a ∷ xs) (b ∷ ys) us vs la lb e = let (front, rest) = split_at x xs ys us vs la.1 lb.1 (ap (drop 1) e) in let same : a ≡ b = ap (λ l. get_or l 0 0) e in (rw (same, front) refl, rest)
 
 no_dash : digit_value 45 < 10 → ⊥
 no_dash small = omega arith
-
-no_dot : digit_value 46 < 10 → ⊥
-no_dot small = omega arith
 
 numeral : (n : ℕ) → n ≤ 255 → IsNumeral 10 (decimal n)
 numeral n small = (decimal_is_IsNumeral n (omega arith)).0
@@ -74,7 +68,7 @@ behind_dot kind = drop 1 (file_ending kind)
 
 ends_apart : (j k : FileKind) (c d : ℕ) → c ≤ 255 → d ≤ 255 → decimal c ++ file_ending j ≡ decimal d ++ file_ending k → (j ≡ k) × (c ≡ d)
 ends_apart j k c d small small_too e =
-    let (front, rest) = split_at 46 (decimal c) (decimal d) (behind_dot j) (behind_dot k) (digits_lack 46 no_dot (decimal c) (numeral c small).1) (digits_lack 46 no_dot (decimal d) (numeral d small_too).1) (by_kinds j k e) in
+    let (front, rest) = split_at 46 (decimal c) (decimal d) (behind_dot j) (behind_dot k) (digits_lack 46 (λ small. omega arith) (decimal c) (numeral c small).1) (digits_lack 46 (λ small. omega arith) (decimal d) (numeral d small_too).1) (by_kinds j k e) in
     (kinds j k rest, decimal_injective c d (omega arith) (omega arith) front)
   where
     by_kinds : (j k : FileKind) → decimal c ++ file_ending j ≡ decimal d ++ file_ending k → decimal c ++ 46 ∷ behind_dot j ≡ decimal d ++ 46 ∷ behind_dot k
@@ -114,20 +108,14 @@ same_name : (a b : ProofName) → a.kind ≡ b.kind → a.part ≡ b.part → a.
 same_name a b kind part s r c = grind arith
 
 pub words_apart : (a b : ProofName) → IsTrue (in_range a) → IsTrue (in_range b) → file_word a ≡ file_word b → a ≡ b
-words_apart a b range range_too e =
-    let ra = range_of a range in
-    let rb = range_of b range_too in
+words_apart a b range range_too e = let ra = range_of a range in let rb = range_of b range_too in
     let (part, rest) = prefixes_apart a.part b.part (spelled a.kind a.s a.r a.c) (spelled b.kind b.s b.r b.c) (first_digit (decimal a.s) _ (numeral a.s ra.s)) (first_digit (decimal b.s) _ (numeral b.s rb.s)) (sym (word_is a) ∙ e ∙ word_is b) in
     let (steps, more) = split_at 45 (decimal a.s) (decimal b.s) _ _ (digits_lack 45 no_dash (decimal a.s) (numeral a.s ra.s).1) (digits_lack 45 no_dash (decimal b.s) (numeral b.s rb.s).1) rest in
-    let (rounds, last) = split_at 45 (decimal a.r) (decimal b.r) _ _ (digits_lack 45 no_dash (decimal a.r) (numeral a.r ra.r).1) (digits_lack 45 no_dash (decimal b.r) (numeral b.r rb.r).1) more in
-    let (kind, c) = ends_apart a.kind b.kind a.c b.c ra.c rb.c last in
-    let s = decimal_injective a.s b.s (omega (arith, ra.s)) (omega (arith, rb.s)) steps in
-    let r = decimal_injective a.r b.r (omega (arith, ra.r)) (omega (arith, rb.r)) rounds in
-    same_name a b kind part s r c
+    let (rounds, last) = split_at 45 (decimal a.r) (decimal b.r) _ _ (digits_lack 45 no_dash (decimal a.r) (numeral a.r ra.r).1) (digits_lack 45 no_dash (decimal b.r) (numeral b.r rb.r).1) more in let (kind, c) = ends_apart a.kind b.kind a.c b.c ra.c rb.c last in
+    let s = decimal_injective a.s b.s (omega (arith, ra.s)) (omega (arith, rb.s)) steps in let r = decimal_injective a.r b.r (omega (arith, ra.r)) (omega (arith, rb.r)) rounds in same_name a b kind part s r c
 
 pub paths_apart : (folder : List ℕ) (a b : ProofName) → IsTrue (in_range a) → IsTrue (in_range b) → a ≢ b → path_in folder a ≢ path_in folder b
-paths_apart folder a b range range_too apart same =
-    apart (words_apart a b range range_too (append_cancel_left (folder ++ codes "/") (file_word a) (file_word b) same))
+paths_apart folder a b range range_too apart same = apart (words_apart a b range range_too (append_cancel_left (folder ++ codes "/") (file_word a) (file_word b) same))
 
 pub path_not_fresh : (folder : List ℕ) (a : ProofName) → IsTrue (in_range a) → path_in folder a ≢ fresh_in folder
 path_not_fresh folder a range same =

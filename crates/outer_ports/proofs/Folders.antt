@@ -15,6 +15,9 @@ read_stays before now folder name n same held = grind arith
 pub file_is : (disk : Disk) (folder : List ℕ) (name : ProofName) (n : ℕ) → IsTrue (in_range name) → disk.number (path_in folder name) ≡ Some n → files_in_folder disk folder name ≡ Some (disk.bytes n)
 file_is disk folder name n range here = ap (λ b. if b then bytes_at disk (path_in folder name) else None) range ∙ ap (λ number. option_map disk.bytes number) here
 
+pub no_file : (disk : Disk) (folder : List ℕ) (name : ProofName) → disk.number (path_in folder name) ≡ None → files_in_folder disk folder name ≡ None
+no_file disk folder name none = grind arith
+
 -- where the file of a name in range stays, the file of the name does
 pub file_stays : (before now : Disk) (folder : List ℕ) (name : ProofName) → (IsTrue (in_range name) → bytes_at now (path_in folder name) ≡ bytes_at before (path_in folder name)) → files_in_folder now folder name ≡ files_in_folder before folder name
 file_stays before now folder name stays = grind arith
@@ -89,9 +92,6 @@ some_same x y e = cc
 -- the bytes of the file that stays open for reading
 pub read_file : {F : Type 0} (number : F → ℕ) (disk : Disk) (folder : List ℕ) (reading : Option (ProofName × F)) (name opened : ProofName) (file : F) → reading ≡ Some (opened, file) → option_map (λ held. held.0) reading ≡ Some name → AllRead number disk folder reading → files_in_folder disk folder name ≡ Some (disk.bytes (number file))
 read_file {F} number disk folder reading name opened file is of all = grind (arith, some_same, file_is)
-
-pub some_apart : {X : Type 0} (o : Option X) (x : X) → o ≡ Some x → o ≡ None → ⊥
-some_apart o x some none = some_is_none o x none some
 
 pub same_bytes : {E : Type 0} (result : Result ℕ E) (file : Option (List ℕ)) (bytes read : List ℕ) (place : ℕ) (buffer : List ℕ) → file ≡ Some read → file ≡ Some bytes → IfOk result (HoldsBytes read place buffer) → IfOk result (HoldsBytes bytes place buffer)
 same_bytes result file bytes read place buffer is has holds = rw (some_same bytes read (sym has ∙ is)) holds
