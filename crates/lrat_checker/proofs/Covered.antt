@@ -64,8 +64,7 @@ module _ (lits : List LitValue) (ids : List ℕ) (live : List Bool) (clauses : L
       → (c : List LitValue) (code : ℕ) → IsLead c code → is_superset lits c ≡ true → list_any test (list_at leads code) ≡ false
   none_led leads first each [] code e s = ap (λ n. list_any test (list_at leads n)) e ∙ first
   none_led leads first each (x ∷ xs) code (l, has, e) s =
-      let stands = All-contains (λ y. has_literal lits y ≡ true) (x ∷ xs) l (AllPass-from_list_all (has_literal lits) (x ∷ xs) s) (Contains-from_any same_is l (x ∷ xs) has) in
-      ap (λ n. list_any test (list_at leads n)) e ∙ each l stands
+      ap (λ n. list_any test (list_at leads n)) e ∙ each l (All-contains (λ y. has_literal lits y ≡ true) (x ∷ xs) l (AllPass-from_list_all (has_literal lits) (x ∷ xs) s) (Contains-from_any same_is l (x ∷ xs) has))
 
   -- it is enough to look at the first list and at those of the literals
   pub none_covered : (vars : ℕ) (leads : List (List LedClause)) → IsLed vars clauses leads → list_any test (list_at leads 0) ≡ false → ((x : LitValue) → has_literal lits x ≡ true → list_any test (list_at leads (code_of x)) ≡ false)

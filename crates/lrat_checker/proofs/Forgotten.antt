@@ -1,5 +1,5 @@
 -- A table of what is held and of the first clauses, place by place.
-use Rattle.std.proofs.Common.{◌≡◌, ℕ, ◌+◌, ◌-◌, ◌<◌, ◌≤◌, Bool, false, List, [], ◌∷◌, ◌++◌, length, take, get_or, sym, ap, ◌∙◌, arith, if◌then◌else◌}
+use Rattle.std.proofs.Common.{◌≡◌, ℕ, ◌+◌, ◌<◌, ◌≤◌, Bool, false, List, [], ◌∷◌, ◌++◌, length, take, get_or, sym, ap, ◌∙◌, arith, if◌then◌else◌}
 use Rattle.std.proofs.lemmas.List.{take_more, take_all, take-append-le, length-take-le, length_push, append-nil}
 use Rattle.cnf_formula.specs.Literals.{LitValue}
 use Rattle.lrat_checker.{specs.Stored.{TableValue, HasForgotten, held_of, last_of, Rises}, proofs.Placed.held_push}

@@ -58,8 +58,7 @@ counted_fewer vars counts marked x n c e =
 pub reverse-take : (k : ℕ) (xs : List LitValue) → k ≤ length xs → reverse (take k xs) ≡ drop (length xs - k) (reverse xs)
 reverse-take k xs w =
     let parts : reverse xs ≡ reverse (drop k xs) ++ reverse (take k xs) = ap reverse (sym (take-append-drop k xs)) ∙ reverse-append (take k xs) (drop k xs) in
-    let n : length (reverse (drop k xs)) ≡ length xs - k = length-reverse (drop k xs) ∙ length-drop k xs in
-    sym (ap (drop (length xs - k)) parts ∙ drop_at (reverse (drop k xs)) (reverse (take k xs)) (length xs - k) n)
+    sym (ap (drop (length xs - k)) parts ∙ drop_at (reverse (drop k xs)) (reverse (take k xs)) (length xs - k) (length-reverse (drop k xs) ∙ length-drop k xs))
 
 -- ---- what is read
 

@@ -1,9 +1,9 @@
 -- One hint after another.
-use Rattle.std.proofs.Common.{arith, ◌≡◌, ℕ, ◌+◌, ◌<◌, true, false, List, [], ◌∷◌, ◌++◌, length, drop, get_or, Option, Some, None, Result, Ok, Err, refl, sym, ap, ◌∙◌, subst, ⊎_elim, append_assoc, if◌then◌else◌, ℤ, pos, All, w64, SFits, of_z, to_z}
+use Rattle.std.proofs.Common.{arith, ◌≡◌, ℕ, ◌+◌, ◌<◌, true, false, List, [], ◌∷◌, ◌++◌, length, drop, get_or, Option, Some, None, Result, Ok, Err, sym, ap, ◌∙◌, subst, ⊎_elim, append_assoc, if◌then◌else◌, ℤ, pos, All, w64, SFits, of_z, to_z}
 use Rattle.std.{proofs.lemmas.{Grind.common_steps, Bool.{false≢true, or_cases}, List.Elements.{All-head, All-tail}}, specs.List.list_all}
 use lib.{IntN.nat_abs, Signed.lt_z}
 use Rattle.cnf_formula.{specs.{Literals.{LitValue, same_literal, has_literal, negation}, Formulas.IsAbout}, proofs.Clauses.same_is}
-use Rattle.proof_rules.{specs.{declared.verdict.LineCode.{LineCode, TheVariants.HintNotUnit}, Held.{Entry, clause_at, open_literals}, Judging.{given_by, led_to}, Accepting.leading}, proofs.Taking.first_open}
+use Rattle.proof_rules.{specs.{declared.verdict.LineCode.{LineCode, TheVariants.HintNotUnit}, Held.{Entry, clause_at, open_literals}, Judging.{Fault, after_conflict, given_by, given_by_clause, led_to}, Accepting.leading}, proofs.Taking.first_open}
 use Rattle.lrat_checker.specs.inner.Marking.{Extends}
 
 -- ---- the literals of a clause
@@ -15,10 +15,17 @@ goes_on (Some l) ls = if list_all (same_literal l) ls then Ok (Some l) else Err 
 
 -- ---- hints
 
-module _ (held : List Entry) (falses : List LitValue) (hints : List ℤ) (place : ℕ) where
-  module _ (id : ℕ) (h : drop place hints ≡ pos id ∷ drop (place + 1) hints) where
-    pub unit_hint : (clause : List LitValue) (l : LitValue) → clause_at held id ≡ Some clause → given_by (open_literals falses clause) ≡ Ok (Some l) → led_to held falses place (leading (drop place hints)) ≡ led_to held (negation l ∷ falses) (place + 1) (leading (drop (place + 1) hints))
-    unit_hint clause l e g = ap (λ hs. led_to held falses place (leading hs)) h ∙ rw (e, g, led_to) refl
+-- where a hint leads that gives this, with these behind it
+abbrev pub led_by : List Entry → List LitValue → ℕ → List ℕ → Result (Option LitValue) LineCode → Result (Option (List LitValue)) Fault
+led_by held falses place ids given = elim given [
+  | Err code ↦ Err (code, place)
+  | Ok None ↦ after_conflict (place + 1) ids
+  | Ok (Some l) ↦ led_to held (negation l ∷ falses) (place + 1) ids
+]
+
+pub hint_led : (held : List Entry) (falses : List LitValue) (hints : List ℤ) (place id : ℕ) (o : Option (List LitValue)) (given : Result (Option LitValue) LineCode) → drop place hints ≡ pos id ∷ drop (place + 1) hints → clause_at held id ≡ o → given_by_clause falses o ≡ given
+    → led_to held falses place (leading (drop place hints)) ≡ led_by held falses place (leading (drop (place + 1) hints)) given
+hint_led held falses hints place id o given h e g = ap (λ hs. led_to held falses place (leading hs)) h ∙ ap (λ p. led_by held falses place (leading (drop (place + 1) hints)) (given_by_clause falses p)) e ∙ ap (led_by held falses place (leading (drop (place + 1) hints))) g
 
 -- ---- more literals
 
@@ -43,3 +50,6 @@ given_about vars falses clause l a h = grind (arith, stands_about vars clause l 
 
 pub hint_here : (hints : List ℤ) (place id : ℕ) → place < length hints → SFits w64 (get_or hints place (pos 0)) → lt_z (to_z w64 (of_z w64 (get_or hints place (pos 0)))) (pos 0) ≡ false → id ≡ nat_abs (to_z w64 (of_z w64 (get_or hints place (pos 0)))) → drop place hints ≡ pos id ∷ drop (place + 1) hints
 hint_here hints place id w f h e = grind (arith, common_steps)
+
+pub none_here : (hints : List ℤ) (place : ℕ) → place < length hints → SFits w64 (get_or hints place (pos 0)) → lt_z (to_z w64 (of_z w64 (get_or hints place (pos 0)))) (pos 0) ≡ true → leading (drop place hints) ≡ []
+none_here hints place w f h = grind (arith, common_steps)

@@ -17,9 +17,8 @@ returns-in_default-clause-answer c =
     let now = c.loop-taken.live in
     let gone = c.args.gone.now in
     let k = c.loop-taken.taken in
-    let i = c.loop-taken.invariant in
     let not_live : is_live ids now (get_or gone k 0) ≡ false = elim c.in_default.branch [
       | in_default-via-in-Some+else-live-place w ↦ ap (is_live ids now) (sym w.in-Some.ensures.1) ∙ live_at ids now w.in-Some.place c.requires.rises (c.loop-taken.auto.live ∙ c.requires.lives) w.in-Some.ensures.0 ∙ w.if-live-place.false
       | in_default-via-in_default w ↦ live_not ids now (get_or gone k 0) w.in_default.ensures
     ] in
-    sym (one_stays ids c.args.live.now now gone k c.loop-taken-test.true i.lives not_live)
+    sym (one_stays ids c.args.live.now now gone k c.loop-taken-test.true c.loop-taken.invariant.lives not_live)

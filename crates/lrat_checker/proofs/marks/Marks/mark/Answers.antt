@@ -11,6 +11,5 @@ invariant_of-self-2 c =
     let i = c.self.inside in
     let l = c.args.lit in
     let about = subst (λ n. IsAbout n l) (sym (ap (λ m. m.vars) c.self.view_is)) c.requires in
-    let n = at_code i.vars i.counts.items i.marked.items l c.code.result c.index_mut.result.now c.self.invariant about c.code.ensures.code c.index_mut.ensures.value in
-    let more = counted_more i.vars i.counts.items i.marked.items l c.index_mut.result.now c.self.invariant about n in
+    let more = counted_more i.vars i.counts.items i.marked.items l c.index_mut.result.now c.self.invariant about (at_code i.vars i.counts.items i.marked.items l c.code.result c.index_mut.result.now c.self.invariant about c.code.ensures.code c.index_mut.ensures.value) in
     rw (c.in_ok-push.ensures.items, c.code.ensures.code) more

@@ -48,12 +48,10 @@ returns-clause-answer c = λ groups n.
     let w = known at.After-drop_gone in
     let e = new at.After-drop_gone in
     let code : c.code-code.result ≡ code_of (negation c.args.pivot) = c.code-code.ensures.code ∙ ap code_of c.negated.ensures in
-    let held = all_held i.live.items lists more c.code-code.result w e in
     let clauses = i.clauses in
     let pivot = c.args.pivot in
     let falses = c.args.marks.now.falses in
-    let stored = stored_cleaned i.vars i.ids.items i.live.items clauses lists (map (λ v. v.items) i.leads.items) c.code-code.result c.self.invariant w in
-    let indexed = subst (IsIndexed i.vars i.live.items clauses) (sym e) stored.indexed in
-    let all = answered_by_list pivot falses groups i.vars i.ids.items i.live.items clauses more indexed c.self.invariant.lives c.self.invariant.many (subst (λ k. All (λ p. is_held i.live.items p ≡ true) (list_at more k)) code held) in
+    let indexed = subst (IsIndexed i.vars i.live.items clauses) (sym e) (stored_cleaned i.vars i.ids.items i.live.items clauses lists (map (λ v. v.items) i.leads.items) c.code-code.result c.self.invariant w).indexed in
+    let all = answered_by_list pivot falses groups i.vars i.ids.items i.live.items clauses more indexed c.self.invariant.lives c.self.invariant.many (subst (λ k. All (λ p. is_held i.live.items p ≡ true) (list_at more k)) code (all_held i.live.items lists more c.code-code.result w e)) in
     c.are_answered.ensures groups n ∙ ap (λ ids. list_all (answers ids clauses pivot falses groups) c.deref-3.result.now) c.deref-2.ensures.value
     ∙ ap (list_all (answers i.ids.items clauses pivot falses groups)) (sym (list at.After-deref-3 w e) ∙ ap (list_at more) code) ∙ all ∙ ap (λ t. list_all (is_answered pivot falses groups) t.held) c.self.view_is

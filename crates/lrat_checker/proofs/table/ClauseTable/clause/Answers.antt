@@ -7,10 +7,7 @@ pub returns-in_err-place-clause-held : goal.returns-in_err-place-clause-held
 returns-in_err-place-clause-held c =
     let i = c.self.inside in
     let id = c.args.id in
-    let clauses = i.clauses in
-    let held = ap (λ t. t.held) c.self.view_is in
-    let none = not_held i.ids.items i.live.items clauses id (subst (Others id) c.deref.ensures.value c.in_err-place.ensures) in
-    ap option_copied c.from_residual.ensures ∙ sym (ap (λ h. clause_at h id) (sym held) ∙ none)
+    ap option_copied c.from_residual.ensures ∙ sym (ap (λ h. clause_at h id) (sym (ap (λ t. t.held) c.self.view_is)) ∙ (not_held i.ids.items i.live.items i.clauses id (subst (Others id) c.deref.ensures.value c.in_err-place.ensures)))
 
 found : (c : After-index) → (c.in_ok-place.place < length c.self.inside.ids.items) × (get_or c.self.inside.ids.items c.in_ok-place.place 0 ≡ c.args.id)
 found c = (subst (λ xs. c.in_ok-place.place < length xs) c.deref.ensures.value c.in_ok-place.ensures.0, ap (λ xs. get_or xs c.in_ok-place.place 0) (sym c.deref.ensures.value) ∙ c.in_ok-place.ensures.1)
