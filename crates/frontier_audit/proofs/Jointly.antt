@@ -1,14 +1,13 @@
 -- The two parts of an allreduce, and what their points are joined by.
-use Rattle.std.proofs.Common.{◌≡◌, ℕ, ◌<◌, List, [], ◌∷◌, length, map, get_or, ap, ◌∙◌, arith, All}
+use Rattle.std.proofs.Common.{◌≡◌, ℕ, ◌<◌, List, [], ◌∷◌, length, map, get_or, ap, ◌∙◌, arith, All, append-nil}
 use Rattle.outer_ports.specs.declared.part.Part.{Part}
 use Rattle.outer_ports.specs.declared.part.Part.TheVariants as part
+use Rattle.collective_spec.specs.declared.kind.Kind.{Kind}
 use Rattle.collective_spec.specs.declared.kind.Kind.TheVariants as kind
 use Rattle.candidate_order.specs.Frontiers.{FrontierValue}
 use Rattle.allreduce_join.specs.Joins.{IsJoinable}
 use Rattle.report_form.specs.Reports.{ReportValue, IsReport, parts_of}
-use Rattle.frontier_audit.proofs.Parting.{at_part}
-
--- ---- the parts
+use Rattle.frontier_audit.{specs.{Denials.in_part, Joining.joined_checked, inner.Steps.joins_of}, proofs.Parting.at_part}
 
 pub record TwoParts (xs : List (Part × FrontierValue)) : Type 0 where
   pub reduce : FrontierValue
@@ -30,3 +29,7 @@ one_part _ e = absurd (cc)
 
 pub part_joinable : (r : ReportValue) → IsReport r → (xs : List (Part × FrontierValue)) (i : ℕ) (x : Part × FrontierValue) → xs ≡ r.frontiers → i < length xs → x ≡ get_or xs i x → All IsJoinable x.1.points
 part_joinable r ok xs i x same low is k d h = grind (arith, at_part)
+
+-- only an allreduce joins, the points of the one part with those of the other
+pub joined_by_kind : (k : Kind) (r : ReportValue) → r.words.collective.kind ≡ k → IsReport r → in_part part.Joined (joins_of k r) ≡ joined_checked r r.frontiers
+joined_by_kind k r e ok = grind (arith, parts_are, one_part, append-nil, parts_of, joined_checked)

@@ -20,6 +20,5 @@ pub mod Answering
 pub mod Parting
 pub mod Pairing
 pub mod Jointly
-pub mod JoinedParts
 pub mod Verified
 pub mod Proved

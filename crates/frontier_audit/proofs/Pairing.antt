@@ -4,7 +4,7 @@ use Rattle.std.proofs.lemmas.{Bool.{Decides.nat_tests, eq-eqb}, Grind.common_ste
 use Rattle.schedule.specs.Links.{TopologyValue}
 use Rattle.collective_spec.specs.declared.kind.Kind.TheVariants as kind
 use Rattle.collective_spec.specs.Collectives.{chunks_of}
-use Rattle.candidate_order.specs.Frontiers.{PointValue}
+use Rattle.candidate_order.specs.{declared.candidate.Candidate.Candidate, Frontiers.PointValue}
 use Rattle.allreduce_join.specs.{Joins.{join_of, pairs_of}, Judging.joined_verdict_of}
 use Rattle.inversion.specs.Saying.{says_sums}
 use Rattle.frontier_audit.specs.{declared.verdict.Reason.TheVariants.JoinWrong, Denials.Denial, Joining.{joins_checked, same_point}, Beside.denial_of, inner.Steps.{JoinsSay, join_checked, pairs_with, is_join}}
@@ -27,9 +27,13 @@ due_alike t a b p = go (same_point (join_of a b) p) refl
     go false e = grind arith
 
 module _ (t : TopologyValue) (a b : PointValue) (due : PointValue) (made : due ≡ join_of a b) (printed : Option PointValue) where
-  module _ (p : PointValue) (there : printed ≡ Some p) (said : Bool) (is : said ≡ (same_point due p && says_sums (joined_verdict_of t (chunks_of kind.Allreduce t.nodes p.candidate.c) p.schedule a.candidate.s))) where
+  pub lacks : printed ≡ None → Some (JoinWrong, due.candidate) ≡ denial_of (join_checked t (a, b) printed)
+  lacks none = ap (λ (z : PointValue). Some (JoinWrong, z.candidate)) made ∙ sym (ap (λ o. denial_of (join_checked t (a, b) o)) none)
+
+  module _ (p : PointValue) (there : printed ≡ Some p) (said : Bool) (x : Candidate) (first : x ≡ a.candidate) (is : said ≡ (same_point due p && says_sums (joined_verdict_of t (chunks_of kind.Allreduce t.nodes p.candidate.c) p.schedule x.s))) where
     says : said ≡ (is_join t (a, b) && same_point (join_of a b) p)
-    says = is ∙ (ap (λ z. same_point z p && says_sums (joined_verdict_of t (chunks_of kind.Allreduce t.nodes p.candidate.c) p.schedule a.candidate.s)) made ∙ due_alike t a b p)
+    says = is ∙ ap (λ (z : Candidate). same_point due p && says_sums (joined_verdict_of t (chunks_of kind.Allreduce t.nodes p.candidate.c) p.schedule z.s)) first
+        ∙ (ap (λ z. same_point z p && says_sums (joined_verdict_of t (chunks_of kind.Allreduce t.nodes p.candidate.c) p.schedule a.candidate.s)) made ∙ due_alike t a b p)
 
     pub differs : said ≡ false → Some (JoinWrong, due.candidate) ≡ denial_of (join_checked t (a, b) printed)
     differs e = grind (arith, failing_denies, says)

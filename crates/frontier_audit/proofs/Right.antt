@@ -11,7 +11,7 @@ use Rattle.round_encoding.proofs.Obeyed.{all_map}
 use Rattle.frontier_audit.{specs.declared.verdict.{AuditVerdict.TheVariants.Verified, Reason.TheVariants.{ScheduleWrong, MarkWrong, CandidateMissing}}, proofs.{Marked.{answered_decides, optimal_decides, mark_by, by_mark}, Shelves.question}}
 use Rattle.frontier_audit.{proofs.{Passing.{refused_not, not_refused, in_part_ok, ok_in_part}, Audited.{Passes, PartPasses, report_passes, report_passed}, CutAway.passes_refuted}, specs.Joining.{IsSummable, joins_checked, joined_checked}}
 use Rattle.frontier_audit.{proofs.Tried.{listed_contains, within_listed, each_within}, specs.{inner.Steps.{is_answered, is_mark, joins_of}, Parts.{is_reduce, is_gather, points_of}, Solutions.{is_solution, is_optimal}, Auditing.audit_of}}
-use Rattle.frontier_audit.{specs.{Shelves.{PartRight, ShelfRight}, Candidates.candidates_within}, proofs.{Solved.{solved_by, by_solution}, Joined.{are_joined, joined_are}, JoinedParts.joined_by_kind, Beside.passes_log}}
+use Rattle.frontier_audit.{specs.{Shelves.{PartRight, ShelfRight}, Candidates.candidates_within}, proofs.{Solved.{solved_by, by_solution}, Joined.{are_joined, joined_are}, Jointly.joined_by_kind, Beside.passes_log}}
 
 -- ---- a part
 

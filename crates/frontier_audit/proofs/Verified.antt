@@ -10,7 +10,7 @@ use Rattle.candidate_formula.specs.Formulas.{formula_for}
 use Rattle.proof_audit.specs.Files.{HasSpentLog}
 use Rattle.frontier_audit.specs.{declared.verdict.AuditVerdict.{AuditVerdict, TheVariants.{Verified, Denied}}, Denials.{Denial}, Joining.joined_checked, Parts.{is_gather, is_reduce, points_of}, Auditing.audit_of}
 use Rattle.frontier_audit.specs.{Rights.{AreJoined, HasLogs, IsRight}, Beside.{denial_of, AnswersBeside, IsVerdictOver}, inner.Steps.{joins_of, parts_checked, report_checked}}
-use Rattle.frontier_audit.proofs.{Audited.shelf_right, Jointly.{one_part, parts_are}, JoinedParts.joined_by_kind, Merging.{stops, then_plainly}, Parting.{named_denial, named_in}, Right.verified_joins, Unsolvable.all_right}
+use Rattle.frontier_audit.proofs.{Audited.shelf_right, Jointly.{joined_by_kind, one_part, parts_are}, Merging.{stops, then_plainly}, Parting.{named_denial, named_in}, Right.verified_joins, Unsolvable.all_right}
 
 -- ---- a verified report is right
 

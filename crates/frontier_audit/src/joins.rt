@@ -123,7 +123,6 @@ fn pair_denied(
 
 /// Whether the joined point at a place is the join of two points, which sums everything. The only
 /// error is `OutOfMemory`.
-#[tactic(auto, using(crate::proofs::Pairing::agrees, crate::proofs::Pairing::differs, crate::proofs::Pairing::got_at))]
 fn join_denied(
     alloc: Global,
     topology: &Topology,

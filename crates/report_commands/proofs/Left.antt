@@ -46,10 +46,7 @@ module _ (q : QuestionValue) (g w : ℕ) where
   left_small left links is less small same =
       let here : size_of (record { topology = left; spec = q.spec; limits = q.limits }) ≡ size_of (narrowed_question q g w) = ap (λ (x : TopologyValue). size_of (record { topology = x; spec = q.spec; limits = q.limits })) is in
       let fewer : size_of (narrowed_question q g w) ≤ size_of q = no_larger q g w (omega (arith, less)) in
-      subst (λ n. n ≤ size_limit) (sym (same ∙ here)) (at_most fewer small)
-    where
-      at_most : {a b c : ℕ} → a ≤ b → b ≤ c → a ≤ c
-      at_most low high = omega (arith, low, high)
+      subst (λ n. n ≤ size_limit) (sym (same ∙ here)) (omega (arith, fewer, small))
 
   pub left_question : {left : TopologyValue} → left ≡ narrowed q.topology g w → record { topology = left; spec = q.spec; limits = q.limits } ≡ narrowed_question q g w
   left_question is = ap (λ (x : TopologyValue). record { topology = x; spec = q.spec; limits = q.limits }) is

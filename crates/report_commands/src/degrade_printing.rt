@@ -34,6 +34,27 @@ fn push_all_carried(out: &mut Vec<u8>, carried: &[Candidate]) -> Result<(), Allo
     Ok(())
 }
 
+fn push_found(
+    out: &mut Vec<u8>,
+    words: Words,
+    left: &NamedTopology,
+    found: &Found,
+) -> Result<(), AllocError>
+    ensures { OnOk result ((old : List Candidate) → ArePartedBy old found.now → out.new.items ≡ out.old.items ++ degraded_text words left.now old found.now.frontier) }
+{
+    let names = left.names();
+    push_word(out, b"degraded 1\n")?;
+    push_synth_line(out, names, words)?;
+    push_topology(out, left)?;
+    push_word(out, b"frontier whole\n")?;
+    push_points(out, names, found.frontier.points())?;
+    push_all_carried(out, &found.carried)?;
+    push_all_refuted(out, &found.refuted)?;
+    push_all_unknown(out, found.frontier.unknown())?;
+    push_word(out, b"end\n")?;
+    Ok(())
+}
+
 /// The text of what a search found over the links that are left of a topology.
 pub(crate) fn print_found(
     alloc: Global,
@@ -43,16 +64,7 @@ pub(crate) fn print_found(
 ) -> Result<Vec<u8>, AllocError>
     ensures { IfOk result (λ v. (old : List Candidate) → ArePartedBy old found.now → v.items ≡ degraded_text words left.now old found.now.frontier) }
 {
-    let names = left.names();
     let mut out = Vec::new(alloc);
-    push_word(&mut out, b"degraded 1\n")?;
-    push_synth_line(&mut out, names, words)?;
-    push_topology(&mut out, left)?;
-    push_word(&mut out, b"frontier whole\n")?;
-    push_points(&mut out, names, found.frontier.points())?;
-    push_all_carried(&mut out, &found.carried)?;
-    push_all_refuted(&mut out, &found.refuted)?;
-    push_all_unknown(&mut out, found.frontier.unknown())?;
-    push_word(&mut out, b"end\n")?;
+    push_found(&mut out, words, left, found)?;
     Ok(out)
 }

@@ -1,14 +1,17 @@
-use Rattle.std.proofs.Common.{arith, ◌≡◌, Ok, IfOk, ap, subst, sym}
-use Rattle.text_lines.specs.Check.{◌>>=◌}
-use Rattle.run_rules.{specs.{Answers.IsAnswer, Tasks.read_report, Steps.audit_in}, proofs.Answered.{refused_alone, refused_behind}}
-use Rattle.given_reports.specs.Read.{IsReadAs}
+use Rattle.std.proofs.Common.{IfOk, refl, sym, subst, ◌∙◌}
+use Rattle.run_rules.specs.{Answers.IsAnswer, Tasks.audit_asked, Steps.audit_in}
+use Rattle.report_commands.proofs.Stopped.{left_alone, text_refused, text_spelled}
 use Rattle.report_commands.proofs.check.check_answer.Goals as goal
 
-pub returns-in-Spelled-clause-answers : goal.returns-in-Spelled-clause-answers
-returns-in-Spelled-clause-answers g c =
-    let bytes = c.args.bytes.now in
-    let read : read_report bytes ≡ Ok c.in-Spelled.report = subst (IsReadAs (read_report bytes)) c.in-Spelled.is c.in_ok-report.ensures in
-    subst (λ due. IfOk c.audit_answer.result (λ a. IsAnswer due (record { told = g.H.Shelf.tells c.audit_answer.new.shelf; before = g.H.Shelf.file c.args.shelf.now; after = g.H.Shelf.file c.audit_answer.new.shelf }) a.status a.text.items)) (sym (ap (λ x. x >>= audit_in) read)) c.audit_answer.ensures.answers
+pub returns-in_err-report-clause-leaves : goal.returns-in_err-report-clause-leaves
+returns-in_err-report-clause-leaves g c = λ told. left_alone c.from_residual.result (audit_asked c.args.bytes.now) _ _ (λ name. refl)
+
+pub returns-in-Spelled : goal.returns-in-Spelled
+returns-in-Spelled g c =
+    let e = c.audit_answer.ensures in
+    let read = text_spelled c.args.bytes.now audit_in _ c.in_ok-report.ensures c.in-Spelled.report c.in-Spelled.is in
+    let answers = subst (λ due. IfOk c.audit_answer.result (λ a. IsAnswer due (record { told = g.H.Shelf.tells c.audit_answer.new.shelf; before = g.H.Shelf.file c.args.shelf.now; after = g.H.Shelf.file c.audit_answer.new.shelf }) a.status a.text.items)) (sym read) e.answers in
+    record { answers = answers; leaves = λ told. left_alone c.audit_answer.result (audit_asked c.args.bytes.now) _ _ (e.stay told); untouched = e.untouched; last = λ is r due. e.last is r (sym read ∙ due); source = e.source; told = e.told; cause = e.cause }
 
 pub returns-in-Refused-clause-answers : goal.returns-in-Refused-clause-answers
-returns-in-Refused-clause-answers g c = grind (arith, refused_alone, refused_behind)
+returns-in-Refused-clause-answers g c = text_refused c.args.bytes.now audit_in _ c.in_ok-report.ensures c.in-Refused.answer c.in-Refused.is _ (λ told name. refl)
