@@ -1,10 +1,48 @@
 -- From what came of the source to what is answered for the words.
-use Rattle.std.proofs.{Common.{◌≡◌, ◌<◌, ℕ, Bool, IsTrue, List, Option, None, Some, Result, Ok, Err, IfOk, IfErr, IfSome, IfNone, OnErr, Vec, Global, length, refl, sym, subst, ap, ◌∙◌}, lemmas.Result.IfOk-weaker}
-use Rattle.outer_ports.specs.Shelf.{FilesStay}
+use Rattle.std.proofs.{Common.{◌≡◌, ◌≢◌, ◌<◌, ℕ, ◌⊎◌, Bool, true, false, inl, inr, IsTrue, List, Option, None, Some, Result, Ok, Err, IfOk, IfErr, IfSome, IfNone, OnErr, IsErrAnd, Vec, Global, length, refl, sym, subst, ap, ◌∙◌, arith}, lemmas.Result.IfOk-weaker}
+use Rattle.outer_ports.specs.{Port.HasCause, Shelf.FilesStay}
+use Rattle.command_words.specs.declared.command.Command.TheVariants as command
 use Rattle.command_words.specs.{declared.{command.Command.Command, fault.WordFault.WordFault}, Words.command_of}
-use Rattle.run_rules.specs.{declared.{answer.Answer.Answer, halt.Halt.{Halt, TheVariants.Shelf}, status.Status.{Status, TheVariants.BadWords}}, Answers.{FilesValue, IsAnswer, LeavesOff, Says, Stay}, Commands.{Ask, reads_source}}
+use Rattle.run_rules.specs.{declared.{answer.Answer.Answer, halt.Halt.{Halt, TheVariants.{Memory, Source, Shelf}}, status.Status.{Status, TheVariants.BadWords}}, Answers.{FilesValue, IsAnswer, LeavesOff, Says, Stay}, Commands.{Ask, opens_shelf, reads_source}}
 use Rattle.run_rules.{specs.{Refusals.{Refusal, refusal_line, refused_word}, Tasks.{due, limit}}, proofs.Answered.{nothing_left_off, refused_answers}}
 use Rattle.sccl_run.{specs.inner.Answering.{IsAnswerTo, IsHaltAt, due_for}, proofs.Dues.{asks_one, due_command, due_refused, too_many}}
+
+-- ---- what is handed on
+
+-- a fault that is handed on was there before
+pub was_told : {A T : Type 0} (one : Result A Halt) (told : Halt) (last : Result T Halt) → one ≡ Err told → IsErrAnd last (λ e. e ≡ told) → (halt : Halt) → last ≡ Err halt → one ≡ Err halt
+was_told one told (Ok x) was never halt e = absurd never
+was_told one told (Err other) was is halt e = cc
+
+pub passed_on : {A T : Type 0} (fault : Halt) (one : Result A Halt) (told : Halt) (last : Result T Halt) {before now : ℕ} → one ≡ Err told → IsErrAnd last (λ e. e ≡ told) → HasCause fault before now one → HasCause fault before now last
+passed_on fault one told (Ok x) was never cause = absurd never
+passed_on fault one told (Err other) was is cause = record { later = cause.later; rose = λ e. cause.rose (cc); stays = λ none. cause.stays (λ e. none (cc)) }
+
+-- and is no other
+pub other_told : {T : Type 0} (told : Halt) (last : Result T Halt) → IsErrAnd last (λ e. e ≡ told) → (halt : Halt) → told ≢ halt → last ≢ Err halt
+other_told told (Ok x) never halt other e = absurd never
+other_told told (Err it) is halt other e = other (cc)
+
+-- a port that is as it was, or had no fault before
+pub stood : {T : Type 0} {fault : Halt} {last : Result T Halt} {count : ℕ} → last ≢ Err fault → HasCause fault count count last
+stood never = record { later = omega arith; rose = λ e. absurd (never e); stays = λ _. refl }
+
+pub stood_since : {A T : Type 0} {fault : Halt} {x : A} {last : Result T Halt} {before now : ℕ} → last ≢ Err fault → HasCause fault before now (Ok x) → HasCause fault before now last
+stood_since never cause = record { later = cause.later; rose = λ e. absurd (never e); stays = λ _. cause.stays (λ e. cc) }
+
+pub if_ok : {T E : Type 0} {P : Type 0} (last : Result T E) → P → IfOk last (λ _. P)
+if_ok (Ok x) h = h
+if_ok (Err e) h = tt
+
+pub read_or_not : (reads : Bool) {A B : Type 0} → (reads ≡ false → A) → (reads ≡ true → B) → A ⊎ B
+read_or_not false a b = inl (a refl)
+read_or_not true a b = inr (b refl)
+
+-- what opens the shelf reads the source
+pub opens_read : (c : Command) → IsTrue (opens_shelf (Ok c)) → IsTrue (reads_source (Ok c))
+opens_read (command.Family kind size) never = absurd (cc)
+opens_read (command.Trial n) never = absurd (cc)
+opens_read _ opens = refl
 
 -- ---- what came
 
