@@ -3,7 +3,7 @@ use Rattle.std.proofs.{Common.{◌≡◌, ◌≢◌, ◌<◌, ℕ, ◌⊎◌, Bo
 use Rattle.outer_ports.specs.{Port.HasCause, Shelf.FilesStay}
 use Rattle.command_words.specs.declared.command.Command.TheVariants as command
 use Rattle.command_words.specs.{declared.{command.Command.Command, fault.WordFault.WordFault}, Words.command_of}
-use Rattle.run_rules.specs.{declared.{answer.Answer.Answer, halt.Halt.{Halt, TheVariants.{Memory, Source, Shelf}}, status.Status.{Status, TheVariants.BadWords}}, Answers.{FilesValue, IsAnswer, LeavesOff, Says, Stay}, Commands.{Ask, opens_shelf, reads_source}}
+use Rattle.run_rules.specs.{declared.{answer.Answer.Answer, halt.Halt.{Halt, TheVariants.{Shelf}}, status.Status.{Status, TheVariants.BadWords}}, Answers.{FilesValue, IsAnswer, LeavesOff, Says, Stay}, Commands.{Ask, opens_shelf, reads_source}}
 use Rattle.run_rules.{specs.{Refusals.{Refusal, refusal_line, refused_word}, Tasks.{due, limit}}, proofs.Answered.{nothing_left_off, refused_answers}}
 use Rattle.sccl_run.{specs.inner.Answering.{IsAnswerTo, IsHaltAt, due_for}, proofs.Dues.{asks_one, due_command, due_refused, too_many}}
 
@@ -23,12 +23,9 @@ pub other_told : {T : Type 0} (told : Halt) (last : Result T Halt) → IsErrAnd 
 other_told told (Ok x) never halt other e = absurd never
 other_told told (Err it) is halt other e = other (cc)
 
--- a port that is as it was, or had no fault before
-pub stood : {T : Type 0} {fault : Halt} {last : Result T Halt} {count : ℕ} → last ≢ Err fault → HasCause fault count count last
-stood never = record { later = omega arith; rose = λ e. absurd (never e); stays = λ _. refl }
-
-pub stood_since : {A T : Type 0} {fault : Halt} {x : A} {last : Result T Halt} {before now : ℕ} → last ≢ Err fault → HasCause fault before now (Ok x) → HasCause fault before now last
-stood_since never cause = record { later = cause.later; rose = λ e. absurd (never e); stays = λ _. cause.stays (λ e. cc) }
+-- a port that had no fault before
+pub stood : {T : Type 0} {fault : Halt} {last : Result T Halt} {before now : ℕ} → last ≢ Err fault → now ≡ before → HasCause fault before now last
+stood never same = record { later = omega (arith, same); rose = λ e. absurd (never e); stays = λ _. same }
 
 pub if_ok : {T E : Type 0} {P : Type 0} (last : Result T E) → P → IfOk last (λ _. P)
 if_ok (Ok x) h = h
@@ -76,9 +73,7 @@ module _ (words : List (List ℕ)) (c : Command) (is : command_of words ≡ Ok c
   pub halts_words : (x : Result Answer Halt) → Came (λ came. x ≡ Err Shelf → (r : Refusal) → due_for c came ≡ Err r → ⊥) → Came (λ came. IsTrue files.told → OnErr x (LeavesOff (due_for c came) files.before files.after)) → IfErr x (IsHaltAt words tells had files)
   halts_words (Ok a) last leaves = tt
   halts_words (Err h) last leaves = record {
-    came = here.came;
-    are = here.are;
-    last = λ e r refused. last here.came here.whole here.long (ap Err e) r (sym (due_command words here.came c is) ∙ refused);
+    came = here.came; are = here.are; last = λ e r refused. last here.came here.whole here.long (ap Err e) r (sym (due_command words here.came c is) ∙ refused);
     leaves = λ told. subst (λ d. LeavesOff d files.before files.after) (sym (due_command words here.came c is)) (leaves here.came here.whole here.long told);
   }
 
@@ -86,16 +81,11 @@ module _ (words : List (List ℕ)) (c : Command) (is : command_of words ≡ Ok c
 pub halts_before : (words : List (List ℕ)) (tells : Bool) (had : List ℕ) (files : FilesValue) (x : Result Answer Halt) → FilesStay files.before files.after → (x ≡ Err Shelf → ⊥) → IfErr x (IsHaltAt words tells had files)
 halts_before words tells had files (Ok a) stay other = tt
 halts_before words tells had files (Err h) stay other = record {
-  came = had;
-  are = λ _ _. refl;
-  last = λ e. absurd (other (ap Err e));
-  leaves = λ told. nothing_left_off (due words had) files.before files.after stay;
+  came = had; are = λ _ _. refl; last = λ e. absurd (other (ap Err e)); leaves = λ told. nothing_left_off (due words had) files.before files.after stay;
 }
 
 -- words that are refused
 pub refused_words : (words : List (List ℕ)) (fault : WordFault) → command_of words ≡ Err fault → (tells : Bool) (had : List ℕ) (files : FilesValue) (status : Status) (text : List ℕ) → Stay files → Says BadWords (refusal_line (refused_word fault.code fault.word)) status text → IsAnswerTo words tells had files status text
 refused_words words fault is tells had files status text stay says = record {
-  came = had;
-  are = λ _ _. refl;
-  answer = refused_answers (due words had) (refused_word fault.code fault.word) status text (due_refused words had fault is) says files stay;
+  came = had; are = λ _ _. refl; answer = refused_answers (due words had) (refused_word fault.code fault.word) status text (due_refused words had fault is) says files stay;
 }

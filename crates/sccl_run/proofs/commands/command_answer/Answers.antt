@@ -9,17 +9,18 @@ use Rattle.sccl_run.proofs.commands.command_answer.Goals as goal
 module _ {S : Type 0} (tells : S → Bool) (file : S → Files) (faults : S → ℕ) (bytes : List ℕ) (old new : S) (x : Result Answer Halt) where
   abbrev Found : Command → Type 0
   Found c = record {
-    answers : IfOk x (λ a. IsAnswer (task_of c bytes) (record { told = tells new; before = file old; after = file new }) a.status a.text.items);
-    leaves : IsTrue (tells new) → OnErr x (LeavesOff (task_of c bytes) (file old) (file new));
-    untouched : IfOk x (λ a. IsRefusal a.status → new ≡ old);
-    last : x ≡ Err Shelf → (r : Refusal) → task_of c bytes ≡ Err r → ⊥;
-    source : x ≢ Err Source;
-    told : Tells (tells old) (tells new);
-    cause : HasCause Shelf (faults old) (faults new) x;
+    answers : IfOk x (λ a. IsAnswer (task_of c bytes) (record { told = tells new; before = file old; after = file new }) a.status a.text.items); leaves : IsTrue (tells new) → OnErr x (LeavesOff (task_of c bytes) (file old) (file new));
+    untouched : IfOk x (λ a. IsRefusal a.status → new ≡ old); last : x ≡ Err Shelf → (r : Refusal) → task_of c bytes ≡ Err r → ⊥; source : x ≢ Err Source; told : Tells (tells old) (tells new); cause : HasCause Shelf (faults old) (faults new) x;
   }
 
-  opened : (c d : Command) → c ≡ d → IsTrue (opens_shelf (Ok d)) → Found d → Found c × (¬ IsTrue (opens_shelf (Ok c)) → new ≡ old) × (x ≡ Err Shelf → IsTrue (opens_shelf (Ok c)))
-  opened c d is opens found = (subst Found (sym is) found, λ none. absurd (none (subst (λ c. IsTrue (opens_shelf (Ok c))) (sym is) opens)), λ e. subst (λ c. IsTrue (opens_shelf (Ok c))) (sym is) opens)
+  opened : (c d : Command) → c ≡ d → IsTrue (opens_shelf (Ok d)) → Found d → record {
+    answers : IfOk x (λ a. IsAnswer (task_of c bytes) (record { told = tells new; before = file old; after = file new }) a.status a.text.items); leaves : IsTrue (tells new) → OnErr x (LeavesOff (task_of c bytes) (file old) (file new));
+    unopened : ¬ IsTrue (opens_shelf (Ok c)) → new ≡ old; untouched : IfOk x (λ a. IsRefusal a.status → new ≡ old); opens : x ≡ Err Shelf → IsTrue (opens_shelf (Ok c)); last : x ≡ Err Shelf → (r : Refusal) → task_of c bytes ≡ Err r → ⊥;
+    source : x ≢ Err Source; told : Tells (tells old) (tells new); cause : HasCause Shelf (faults old) (faults new) x;
+  }
+  opened c d is opens found =
+      let there : IsTrue (opens_shelf (Ok c)) = subst (λ c. IsTrue (opens_shelf (Ok c))) (sym is) opens in let f : Found c = subst Found (sym is) found in
+      record { answers = f.answers; leaves = f.leaves; unopened = λ none. absurd (none there); untouched = f.untouched; opens = λ _. there; last = f.last; source = f.source; told = f.told; cause = f.cause }
 
 pub returns-in_ok-family_answer-in-Family-clause-answers :
     goal.returns-in_ok-family_answer-in-Family-clause-answers
@@ -36,21 +37,13 @@ returns-in_ok-trial_answer-in-Trial-clause-answers g c =
     subst (λ d. IsAnswer (task_of d c.args.bytes.now) files a.status a.text.items) (sym c.in-Trial.is) (c.in_ok-trial_answer-in-Trial.ensures files (λ told name. refl))
 
 pub returns-in-Synth : goal.returns-in-Synth
-returns-in-Synth g c =
-    let h = opened g.H.Shelf.tells g.H.Shelf.file g.H.Shelf.faults c.args.bytes.now c.args.shelf.now c.synth_answer.new.shelf c.synth_answer.result c.args.command.now _ c.in-Synth.is refl c.synth_answer.ensures in
-    record { answers = h.0.answers; leaves = h.0.leaves; unopened = h.1; untouched = h.0.untouched; opens = h.2; last = h.0.last; source = h.0.source; told = h.0.told; cause = h.0.cause }
+returns-in-Synth g c = opened g.H.Shelf.tells g.H.Shelf.file g.H.Shelf.faults c.args.bytes.now c.args.shelf.now c.synth_answer.new.shelf c.synth_answer.result c.args.command.now _ c.in-Synth.is refl c.synth_answer.ensures
 
 pub returns-in-Check : goal.returns-in-Check
-returns-in-Check g c =
-    let h = opened g.H.Shelf.tells g.H.Shelf.file g.H.Shelf.faults c.args.bytes.now c.args.shelf.now c.check_answer.new.shelf c.check_answer.result c.args.command.now _ c.in-Check.is refl c.check_answer.ensures in
-    record { answers = h.0.answers; leaves = h.0.leaves; unopened = h.1; untouched = h.0.untouched; opens = h.2; last = h.0.last; source = h.0.source; told = h.0.told; cause = h.0.cause }
+returns-in-Check g c = opened g.H.Shelf.tells g.H.Shelf.file g.H.Shelf.faults c.args.bytes.now c.args.shelf.now c.check_answer.new.shelf c.check_answer.result c.args.command.now _ c.in-Check.is refl c.check_answer.ensures
 
 pub returns-in-Bound : goal.returns-in-Bound
-returns-in-Bound g c =
-    let h = opened g.H.Shelf.tells g.H.Shelf.file g.H.Shelf.faults c.args.bytes.now c.args.shelf.now c.bound_answer.new.shelf c.bound_answer.result c.args.command.now _ c.in-Bound.is refl c.bound_answer.ensures in
-    record { answers = h.0.answers; leaves = h.0.leaves; unopened = h.1; untouched = h.0.untouched; opens = h.2; last = h.0.last; source = h.0.source; told = h.0.told; cause = h.0.cause }
+returns-in-Bound g c = opened g.H.Shelf.tells g.H.Shelf.file g.H.Shelf.faults c.args.bytes.now c.args.shelf.now c.bound_answer.new.shelf c.bound_answer.result c.args.command.now _ c.in-Bound.is refl c.bound_answer.ensures
 
 pub returns-in-Degrade : goal.returns-in-Degrade
-returns-in-Degrade g c =
-    let h = opened g.H.Shelf.tells g.H.Shelf.file g.H.Shelf.faults c.args.bytes.now c.args.shelf.now c.degrade_answer.new.shelf c.degrade_answer.result c.args.command.now _ c.in-Degrade.is refl c.degrade_answer.ensures in
-    record { answers = h.0.answers; leaves = h.0.leaves; unopened = h.1; untouched = h.0.untouched; opens = h.2; last = h.0.last; source = h.0.source; told = h.0.told; cause = h.0.cause }
+returns-in-Degrade g c = opened g.H.Shelf.tells g.H.Shelf.file g.H.Shelf.faults c.args.bytes.now c.args.shelf.now c.degrade_answer.new.shelf c.degrade_answer.result c.args.command.now _ c.in-Degrade.is refl c.degrade_answer.ensures
