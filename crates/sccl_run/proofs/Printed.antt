@@ -76,9 +76,7 @@ due_of_done x a b c run done task (inr (r, e)) = absurd (refused_not_done x a b 
 
 pub found_one : (q : QuestionValue) (f : FrontierValue) → RightFrontier q f → Searched q f → All (IsWithin q) f.refuted → SearchedFrontier q f
 found_one q f right searched within =
-    record {
-      right = right; within = within; ascend = searched.points_ascend; points_apart = searched.points_apart; refuted_apart = searched.refuted_apart; apart = stands_alone q f right searched; tight = searched.tight;
-    }
+    record { right = right; within = within; ascend = searched.points_ascend; points_apart = searched.points_apart; refuted_apart = searched.refuted_apart; apart = stands_alone q f right searched; tight = searched.tight }
 
 each_found : (r : ReportValue) → IsRight r → IsSearched r → All (λ x. SearchedFrontier (question_of r.words r.topology x.0) x.1) r.frontiers
 each_found r right searched =
@@ -96,7 +94,11 @@ synth_is_true x a b c run done kept w t asks =
     let end = done_answered (Ok task) x (ended x a b c (Ok task) run asked) done in
     let answer = end.answer in
     record {
-      report = answer.report; words = answer.words; topology = answer.topology; text = end.written refl ∙ ap (λ text. x.before ++ text) answer.says.text; right = answer.right;
+      report = answer.report;
+      words = answer.words;
+      topology = answer.topology;
+      text = end.written refl ∙ ap (λ text. x.before ++ text) answer.says.text;
+      right = answer.right;
       searched = each_found answer.report answer.right answer.searched;
     }
 

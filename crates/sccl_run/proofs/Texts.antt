@@ -23,6 +23,10 @@ pub other_told : {T : Type 0} (told : Halt) (last : Result T Halt) → IsErrAnd 
 other_told told (Ok x) never halt other e = absurd never
 other_told told (Err it) is halt other e = other (cc)
 
+-- an answer is no fault
+pub not_err : {T E : Type 0} {x : T} {e : E} → Ok x ≢ Err e
+not_err e = cc
+
 -- a port that had no fault before
 pub stood : {T : Type 0} {fault : Halt} {last : Result T Halt} {before now : ℕ} → last ≢ Err fault → now ≡ before → HasCause fault before now last
 stood never same = record { later = omega (arith, same); rose = λ e. absurd (never e); stays = λ _. same }
@@ -73,19 +77,17 @@ module _ (words : List (List ℕ)) (c : Command) (is : command_of words ≡ Ok c
   pub halts_words : (x : Result Answer Halt) → Came (λ came. x ≡ Err Shelf → (r : Refusal) → due_for c came ≡ Err r → ⊥) → Came (λ came. IsTrue files.told → OnErr x (LeavesOff (due_for c came) files.before files.after)) → IfErr x (IsHaltAt words tells had files)
   halts_words (Ok a) last leaves = tt
   halts_words (Err h) last leaves = record {
-    came = here.came; are = here.are; last = λ e r refused. last here.came here.whole here.long (ap Err e) r (sym (due_command words here.came c is) ∙ refused);
+    came = here.came;
+    are = here.are;
+    last = λ e r refused. last here.came here.whole here.long (ap Err e) r (sym (due_command words here.came c is) ∙ refused);
     leaves = λ told. subst (λ d. LeavesOff d files.before files.after) (sym (due_command words here.came c is)) (leaves here.came here.whole here.long told);
   }
 
 -- nothing was done before the source failed or memory ran out
 pub halts_before : (words : List (List ℕ)) (tells : Bool) (had : List ℕ) (files : FilesValue) (x : Result Answer Halt) → FilesStay files.before files.after → (x ≡ Err Shelf → ⊥) → IfErr x (IsHaltAt words tells had files)
 halts_before words tells had files (Ok a) stay other = tt
-halts_before words tells had files (Err h) stay other = record {
-  came = had; are = λ _ _. refl; last = λ e. absurd (other (ap Err e)); leaves = λ told. nothing_left_off (due words had) files.before files.after stay;
-}
+halts_before words tells had files (Err h) stay other = record { came = had; are = λ _ _. refl; last = λ e. absurd (other (ap Err e)); leaves = λ told. nothing_left_off (due words had) files.before files.after stay }
 
 -- words that are refused
 pub refused_words : (words : List (List ℕ)) (fault : WordFault) → command_of words ≡ Err fault → (tells : Bool) (had : List ℕ) (files : FilesValue) (status : Status) (text : List ℕ) → Stay files → Says BadWords (refusal_line (refused_word fault.code fault.word)) status text → IsAnswerTo words tells had files status text
-refused_words words fault is tells had files status text stay says = record {
-  came = had; are = λ _ _. refl; answer = refused_answers (due words had) (refused_word fault.code fault.word) status text (due_refused words had fault is) says files stay;
-}
+refused_words words fault is tells had files status text stay says = record { came = had; are = λ _ _. refl; answer = refused_answers (due words had) (refused_word fault.code fault.word) status text (due_refused words had fault is) says files stay }

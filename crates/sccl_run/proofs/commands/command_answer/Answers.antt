@@ -9,14 +9,25 @@ use Rattle.sccl_run.proofs.commands.command_answer.Goals as goal
 module _ {S : Type 0} (tells : S → Bool) (file : S → Files) (faults : S → ℕ) (bytes : List ℕ) (old new : S) (x : Result Answer Halt) where
   abbrev Found : Command → Type 0
   Found c = record {
-    answers : IfOk x (λ a. IsAnswer (task_of c bytes) (record { told = tells new; before = file old; after = file new }) a.status a.text.items); leaves : IsTrue (tells new) → OnErr x (LeavesOff (task_of c bytes) (file old) (file new));
-    untouched : IfOk x (λ a. IsRefusal a.status → new ≡ old); last : x ≡ Err Shelf → (r : Refusal) → task_of c bytes ≡ Err r → ⊥; source : x ≢ Err Source; told : Tells (tells old) (tells new); cause : HasCause Shelf (faults old) (faults new) x;
+    answers : IfOk x (λ a. IsAnswer (task_of c bytes) (record { told = tells new; before = file old; after = file new }) a.status a.text.items);
+    leaves : IsTrue (tells new) → OnErr x (LeavesOff (task_of c bytes) (file old) (file new));
+    untouched : IfOk x (λ a. IsRefusal a.status → new ≡ old);
+    last : x ≡ Err Shelf → (r : Refusal) → task_of c bytes ≡ Err r → ⊥;
+    source : x ≢ Err Source;
+    told : Tells (tells old) (tells new);
+    cause : HasCause Shelf (faults old) (faults new) x;
   }
 
   opened : (c d : Command) → c ≡ d → IsTrue (opens_shelf (Ok d)) → Found d → record {
-    answers : IfOk x (λ a. IsAnswer (task_of c bytes) (record { told = tells new; before = file old; after = file new }) a.status a.text.items); leaves : IsTrue (tells new) → OnErr x (LeavesOff (task_of c bytes) (file old) (file new));
-    unopened : ¬ IsTrue (opens_shelf (Ok c)) → new ≡ old; untouched : IfOk x (λ a. IsRefusal a.status → new ≡ old); opens : x ≡ Err Shelf → IsTrue (opens_shelf (Ok c)); last : x ≡ Err Shelf → (r : Refusal) → task_of c bytes ≡ Err r → ⊥;
-    source : x ≢ Err Source; told : Tells (tells old) (tells new); cause : HasCause Shelf (faults old) (faults new) x;
+    answers : IfOk x (λ a. IsAnswer (task_of c bytes) (record { told = tells new; before = file old; after = file new }) a.status a.text.items);
+    leaves : IsTrue (tells new) → OnErr x (LeavesOff (task_of c bytes) (file old) (file new));
+    unopened : ¬ IsTrue (opens_shelf (Ok c)) → new ≡ old;
+    untouched : IfOk x (λ a. IsRefusal a.status → new ≡ old);
+    opens : x ≡ Err Shelf → IsTrue (opens_shelf (Ok c));
+    last : x ≡ Err Shelf → (r : Refusal) → task_of c bytes ≡ Err r → ⊥;
+    source : x ≢ Err Source;
+    told : Tells (tells old) (tells new);
+    cause : HasCause Shelf (faults old) (faults new) x;
   }
   opened c d is opens found =
       let there : IsTrue (opens_shelf (Ok c)) = subst (λ c. IsTrue (opens_shelf (Ok c))) (sym is) opens in let f : Found c = subst Found (sym is) found in
@@ -25,15 +36,13 @@ module _ {S : Type 0} (tells : S → Bool) (file : S → Files) (faults : S → 
 pub returns-in_ok-family_answer-in-Family-clause-answers :
     goal.returns-in_ok-family_answer-in-Family-clause-answers
 returns-in_ok-family_answer-in-Family-clause-answers g c =
-    let files : FilesValue = record { told = g.H.Shelf.tells c.args.shelf.now; before = g.H.Shelf.file c.args.shelf.now; after = g.H.Shelf.file c.args.shelf.now } in
-    let a = c.in_ok-family_answer-in-Family.field-0 in
+    let files : FilesValue = record { told = g.H.Shelf.tells c.args.shelf.now; before = g.H.Shelf.file c.args.shelf.now; after = g.H.Shelf.file c.args.shelf.now } in let a = c.in_ok-family_answer-in-Family.field-0 in
     subst (λ d. IsAnswer (task_of d c.args.bytes.now) files a.status a.text.items) (sym c.in-Family.is) (c.in_ok-family_answer-in-Family.ensures files (λ told name. refl))
 
 pub returns-in_ok-trial_answer-in-Trial-clause-answers :
     goal.returns-in_ok-trial_answer-in-Trial-clause-answers
 returns-in_ok-trial_answer-in-Trial-clause-answers g c =
-    let files : FilesValue = record { told = g.H.Shelf.tells c.args.shelf.now; before = g.H.Shelf.file c.args.shelf.now; after = g.H.Shelf.file c.args.shelf.now } in
-    let a = c.in_ok-trial_answer-in-Trial.field-0 in
+    let files : FilesValue = record { told = g.H.Shelf.tells c.args.shelf.now; before = g.H.Shelf.file c.args.shelf.now; after = g.H.Shelf.file c.args.shelf.now } in let a = c.in_ok-trial_answer-in-Trial.field-0 in
     subst (λ d. IsAnswer (task_of d c.args.bytes.now) files a.status a.text.items) (sym c.in-Trial.is) (c.in_ok-trial_answer-in-Trial.ensures files (λ told name. refl))
 
 pub returns-in-Synth : goal.returns-in-Synth

@@ -1,6 +1,6 @@
 use Rattle.std.proofs.Common.{arith, Err, ◌≤◌, ◌∙◌, ap, length, refl, subst, sym}
 use Rattle.run_rules.specs.Tasks.{limit}
-use Rattle.sccl_run.proofs.Dues.{nothing_behind}
+use Rattle.sccl_run.proofs.{Dues.nothing_behind, Texts.{not_err, stood}}
 use Rattle.sccl_run.proofs.source_text.source_text.Goals as goal
 
 pub returns-in-Ok-clause-read : goal.returns-in-Ok-clause-read
@@ -22,6 +22,16 @@ pub returns-then-not-reads : goal.returns-then-not-reads
 returns-then-not-reads g c =
     let unread = c.if-not-reads.true in
     record {
-      told = λ told. told; cause = record { later = omega arith; rose = λ e. absurd (cc); stays = λ _. refl }; reads = λ e. absurd (cc); shelf = λ e. cc; untouched = λ _. refl; short = omega (arith, ap length c.new.ensures.items);
-      whole = λ told reads. absurd (cc); long = tt; longer = λ told. tt; read = λ told reads. absurd (cc); memory = λ e. absurd (cc); part = λ told e. absurd (cc);
+      told = λ told. told;
+      cause = stood not_err refl;
+      reads = λ e. absurd (not_err e);
+      shelf = not_err;
+      untouched = λ _. refl;
+      short = omega (arith, ap length c.new.ensures.items);
+      whole = λ told reads. absurd (cc);
+      long = tt;
+      longer = λ told. tt;
+      read = λ told reads. absurd (cc);
+      memory = λ e. refl;
+      part = λ told e. absurd (not_err e);
     }
