@@ -92,15 +92,7 @@ synth_is_true x a b c run done kept w t asks =
     let task : Task = Synthesise w t kept in
     let asked : due x.words x.bytes ≡ Ok task = due_of_done x a b c run done task (due_or x.words x.bytes _ task is (behind _ (w, t) _ task (searches_or _ _ _ x.words x.bytes w t asks) (inl refl))) in
     let end = done_answered (Ok task) x (ended x a b c (Ok task) run asked) done in
-    let answer = end.answer in
-    record {
-      report = answer.report;
-      words = answer.words;
-      topology = answer.topology;
-      text = end.written refl ∙ ap (λ text. x.before ++ text) answer.says.text;
-      right = answer.right;
-      searched = each_found answer.report answer.right answer.searched;
-    }
+    let answer = end.answer in record { report = answer.report; words = answer.words; topology = answer.topology; text = end.written refl ∙ ap (λ text. x.before ++ text) answer.says.text; right = answer.right; searched = each_found answer.report answer.right answer.searched }
 
 pub verified_is_true : (x : RunValue) (a b c : CountValue) → IsRightRun x a b c → x.status ≡ Done → x.words ≡ codes "check" ∷ [] → Verifies x.bytes
 verified_is_true x a b c run done words = by_reading (report_of x.bytes) refl

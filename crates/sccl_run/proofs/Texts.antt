@@ -76,12 +76,7 @@ module _ (words : List (List ℕ)) (c : Command) (is : command_of words ≡ Ok c
 
   pub halts_words : (x : Result Answer Halt) → Came (λ came. x ≡ Err Shelf → (r : Refusal) → due_for c came ≡ Err r → ⊥) → Came (λ came. IsTrue files.told → OnErr x (LeavesOff (due_for c came) files.before files.after)) → IfErr x (IsHaltAt words tells had files)
   halts_words (Ok a) last leaves = tt
-  halts_words (Err h) last leaves = record {
-    came = here.came;
-    are = here.are;
-    last = λ e r refused. last here.came here.whole here.long (ap Err e) r (sym (due_command words here.came c is) ∙ refused);
-    leaves = λ told. subst (λ d. LeavesOff d files.before files.after) (sym (due_command words here.came c is)) (leaves here.came here.whole here.long told);
-  }
+  halts_words (Err h) last leaves = record { came = here.came; are = here.are; last = λ e r refused. last here.came here.whole here.long (ap Err e) r (sym (due_command words here.came c is) ∙ refused); leaves = λ told. subst (λ d. LeavesOff d files.before files.after) (sym (due_command words here.came c is)) (leaves here.came here.whole here.long told) }
 
 -- nothing was done before the source failed or memory ran out
 pub halts_before : (words : List (List ℕ)) (tells : Bool) (had : List ℕ) (files : FilesValue) (x : Result Answer Halt) → FilesStay files.before files.after → (x ≡ Err Shelf → ⊥) → IfErr x (IsHaltAt words tells had files)

@@ -8,15 +8,7 @@ use Rattle.sccl_run.proofs.commands.command_answer.Goals as goal
 -- what an answer says of a command that opens the shelf
 module _ {S : Type 0} (tells : S → Bool) (file : S → Files) (faults : S → ℕ) (bytes : List ℕ) (old new : S) (x : Result Answer Halt) where
   abbrev Found : Command → Type 0
-  Found c = record {
-    answers : IfOk x (λ a. IsAnswer (task_of c bytes) (record { told = tells new; before = file old; after = file new }) a.status a.text.items);
-    leaves : IsTrue (tells new) → OnErr x (LeavesOff (task_of c bytes) (file old) (file new));
-    untouched : IfOk x (λ a. IsRefusal a.status → new ≡ old);
-    last : x ≡ Err Shelf → (r : Refusal) → task_of c bytes ≡ Err r → ⊥;
-    source : x ≢ Err Source;
-    told : Tells (tells old) (tells new);
-    cause : HasCause Shelf (faults old) (faults new) x;
-  }
+  Found c = record { answers : IfOk x (λ a. IsAnswer (task_of c bytes) (record { told = tells new; before = file old; after = file new }) a.status a.text.items); leaves : IsTrue (tells new) → OnErr x (LeavesOff (task_of c bytes) (file old) (file new)); untouched : IfOk x (λ a. IsRefusal a.status → new ≡ old); last : x ≡ Err Shelf → (r : Refusal) → task_of c bytes ≡ Err r → ⊥; source : x ≢ Err Source; told : Tells (tells old) (tells new); cause : HasCause Shelf (faults old) (faults new) x }
 
   opened : (c d : Command) → c ≡ d → IsTrue (opens_shelf (Ok d)) → Found d → record {
     answers : IfOk x (λ a. IsAnswer (task_of c bytes) (record { told = tells new; before = file old; after = file new }) a.status a.text.items);

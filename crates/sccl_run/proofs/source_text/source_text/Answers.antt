@@ -21,17 +21,4 @@ returns-in-Err-Failed-clause-part g c = λ told failed. c.in-Err-Failed.ensures.
 pub returns-then-not-reads : goal.returns-then-not-reads
 returns-then-not-reads g c =
     let unread = c.if-not-reads.true in
-    record {
-      told = λ told. told;
-      cause = stood not_err refl;
-      reads = λ e. absurd (not_err e);
-      shelf = not_err;
-      untouched = λ _. refl;
-      short = omega (arith, ap length c.new.ensures.items);
-      whole = λ told reads. absurd (cc);
-      long = tt;
-      longer = λ told. tt;
-      read = λ told reads. absurd (cc);
-      memory = λ e. refl;
-      part = λ told e. absurd (not_err e);
-    }
+    record { told = λ told. told; cause = stood not_err refl; reads = λ e. absurd (not_err e); shelf = not_err; untouched = λ _. refl; short = omega (arith, ap length c.new.ensures.items); whole = λ told reads. absurd (cc); long = tt; longer = λ told. tt; read = λ told reads. absurd (cc); memory = λ e. refl; part = λ told e. absurd (not_err e) }

@@ -29,32 +29,14 @@ returns-in-Ok g c =
 pub returns-in-Err-Memory : goal.returns-in-Err-Memory
 returns-in-Err-Memory g c =
     let words = texts c.args.words.now in let a = c.in-Err-Memory.ensures in let is = c.in-Err-Memory.field-0-is in
-    record {
-      source_told = a.told;
-      sink_told = λ told. told;
-      shelf_told = a.shelf_told;
-      run = run_halted _ _ _ _ _ _ _ _ Memory is refl (call_without_memory words _ _ _ _ _ _ is a.cause refl a.shelf_cause a.unread refl a.unopened)
-          (λ told. left_without_memory words _ _ (a.memory told (ap Err is))) a.halts;
-    }
+    record { source_told = a.told; sink_told = λ told. told; shelf_told = a.shelf_told; run = run_halted _ _ _ _ _ _ _ _ Memory is refl (call_without_memory words _ _ _ _ _ _ is a.cause refl a.shelf_cause a.unread refl a.unopened) (λ told. left_without_memory words _ _ (a.memory told (ap Err is))) a.halts }
 
 pub returns-in-Err-Source : goal.returns-in-Err-Source
 returns-in-Err-Source g c =
     let words = texts c.args.words.now in let a = c.in-Err-Source.ensures in let is = c.in-Err-Source.field-0-is in
-    record {
-      source_told = a.told;
-      sink_told = λ told. told;
-      shelf_told = a.shelf_told;
-      run = run_halted _ _ _ _ _ _ _ _ Source is refl (call_unread words _ _ _ _ _ _ (a.reads (ap Err is)) is a.cause refl a.shelf_cause refl (a.behind_source (ap Err is)))
-          (λ told. left_unread words _ _ (a.part told (ap Err is))) a.halts;
-    }
+    record { source_told = a.told; sink_told = λ told. told; shelf_told = a.shelf_told; run = run_halted _ _ _ _ _ _ _ _ Source is refl (call_unread words _ _ _ _ _ _ (a.reads (ap Err is)) is a.cause refl a.shelf_cause refl (a.behind_source (ap Err is))) (λ told. left_unread words _ _ (a.part told (ap Err is))) a.halts }
 
 pub returns : goal.returns
 returns g c =
     let words = texts c.args.words.now in let a = c.in-Err-Shelf.ensures in let is = c.in-Err-Shelf.field-0-is in
-    record {
-      source_told = a.told;
-      sink_told = λ told. told;
-      shelf_told = a.shelf_told;
-      run = run_halted _ _ _ _ _ _ _ _ Shelf is refl (call_unshelved words _ _ _ _ _ _ (a.opens (ap Err is)) is a.cause refl a.shelf_cause a.unread refl)
-          (λ told. left_unshelved words _ _ (a.behind told (ap Err is))) a.halts;
-    }
+    record { source_told = a.told; sink_told = λ told. told; shelf_told = a.shelf_told; run = run_halted _ _ _ _ _ _ _ _ Shelf is refl (call_unshelved words _ _ _ _ _ _ (a.opens (ap Err is)) is a.cause refl a.shelf_cause a.unread refl) (λ told. left_unshelved words _ _ (a.behind told (ap Err is))) a.halts }
