@@ -33,35 +33,13 @@ opens_nothing ask = let opens : IsTrue (opens_shelf (Ok (command.Family Line 2))
 pub family_is_right : (n : ℕ) → IsRightRun family_run (record { before = n; now = n }) (record { before = n; now = n }) (record { before = n; now = n })
 unfolding due command_of digits
 family_is_right n = record {
-  call = record {
-    source_fails = quiet SourceFailed Done _ (λ e. cc) refl;
-    sink_fails = quiet SinkFailed Done _ (λ e. cc) refl;
-    shelf_fails = quiet ShelfFailed Done _ (λ e. cc) refl;
-    reads = λ e. absurd (cc);
-    unread = λ _. refl;
-    opens = λ e. absurd (cc);
-    unopened = λ _ name. refl;
-    behind_source = λ e name. refl;
-    behind_refusals = λ no name. refl;
-    silent = λ silent. absurd (done_not_silent Done refl silent);
-  };
-  left = λ told. record {
-    read = λ ask _ _. absurd (reads_nothing ask);
-    memory = λ e. absurd (cc);
-    failed = λ e. absurd (cc);
-  };
+  call = record { source_fails = quiet SourceFailed Done _ (λ e. cc) refl; sink_fails = quiet SinkFailed Done _ (λ e. cc) refl; shelf_fails = quiet ShelfFailed Done _ (λ e. cc) refl; reads = λ e. absurd (cc); unread = λ _. refl; opens = λ e. absurd (cc); unopened = λ _ name. refl; behind_source = λ e name. refl; behind_refusals = λ no name. refl; silent = λ silent. absurd (done_not_silent Done refl silent) };
+  left = λ told. record { read = λ ask _ _. absurd (reads_nothing ask); memory = λ e. absurd (cc); failed = λ e. absurd (cc) };
   came = codes "left";
   are = λ told ask. refl;
   read = report_of;
   reads = read_by_spelling;
-  end = subst (λ d. IsEnd d family_run all_tell) (sym is_due) (inl (record {
-    status = Done;
-    text = two_nodes_text;
-    answer = record { says = record { status = refl; text = sym text }; stay = λ told name. refl };
-    count = length two_nodes_text;
-    stands = inl (refl, omega arith);
-    written = λ told. refl;
-  }));
+  end = subst (λ d. IsEnd d family_run all_tell) (sym is_due) (inl (record { status = Done; text = two_nodes_text; answer = record { says = record { status = refl; text = sym text }; stay = λ told name. refl }; count = length two_nodes_text; stands = inl (refl, omega arith); written = λ told. refl }));
 }
 
 -- ---- runs that are not

@@ -47,14 +47,7 @@ module _ (x : RunValue) (a b c : CountValue) (run : IsRightRun x a b c) (done : 
       let root = asks.limits.root in
       let many = asks.topology.as_many in
       let spec : IsSpec t.topology.nodes q.spec = fitting_spec t.topology.nodes (record { kind = kind_of w.collective.kind Whole; root = w.collective.root }) t.custom asks.fits (omega (arith, root, many)) asks.topology.custom in
-      record {
-        frontier = end.answer.frontier;
-        floor = floor_of sets (searched_question q).topology (searched_question q).spec;
-        text = end.written refl ∙ ap (λ text. x.before ++ text) end.answer.says.text;
-        told = (2, omega arith, refl);
-        searched = found_one q end.answer.frontier end.answer.found.right end.answer.found.searched end.answer.found.within;
-        holds = bounded (adds_up q.spec) sets q refl asks.topology.topology.some spec end.answer.found.right.single;
-      }
+      record { frontier = end.answer.frontier; floor = floor_of sets (searched_question q).topology (searched_question q).spec; text = end.written refl ∙ ap (λ text. x.before ++ text) end.answer.says.text; told = (2, omega arith, refl); searched = found_one q end.answer.frontier end.answer.found.right end.answer.found.searched end.answer.found.within; holds = bounded (adds_up q.spec) sets q refl asks.topology.topology.some spec end.answer.found.right.single }
 
   pub ordered_is_true : (w : WordsValue) (t : NamedTopologyValue) → AsksOrdered x.words x.bytes w t → PrintsOrdered w t x.before x.now
   ordered_is_true w t alone =
@@ -64,11 +57,7 @@ module _ (x : RunValue) (a b c : CountValue) (run : IsRightRun x a b c) (done : 
       let asked : due x.words x.bytes ≡ Ok task = due_of_done x a b c run done task (due_or x.words x.bytes _ task is (behind _ (w, t) _ task (searches_or _ _ _ x.words x.bytes w t asks) (inl refl))) in
       let end = done_answered (Ok task) x (ended x a b c (Ok task) run asked) done in
       let found = end.answer.found in
-      record {
-        frontier = end.answer.frontier;
-        text = end.written refl ∙ ap (λ text. x.before ++ text) end.answer.says.text;
-        searched = found_one (question_of w t Whole) end.answer.frontier found.right found.searched found.within;
-      }
+      record { frontier = end.answer.frontier; text = end.written refl ∙ ap (λ text. x.before ++ text) end.answer.says.text; searched = found_one (question_of w t Whole) end.answer.frontier found.right found.searched found.within }
 
 -- ---- a search after a fault
 
@@ -89,9 +78,4 @@ degraded_is_true x a b c run done r group width asks =
     let end = done_answered (Ok task) x (ended x a b c (Ok task) run asked) done in
     let accepted = accepted_of r (IsNewSearch r group width) _ x.status end.text end.answer done in
     let new = done_of r (IsNewSearch r group width) _ x.status end.text end.answer accepted in
-    record {
-      old = right_of r (IsNewSearch r group width) _ x.status end.text end.answer accepted;
-      frontier = new.frontier;
-      text = end.written refl ∙ ap (λ text. x.before ++ text) new.says.text;
-      searched = found_one (question_of r.words (left_topology r.topology group width) Whole) new.frontier new.found.right new.found.searched new.found.within;
-    }
+    record { old = right_of r (IsNewSearch r group width) _ x.status end.text end.answer accepted; frontier = new.frontier; text = end.written refl ∙ ap (λ text. x.before ++ text) new.says.text; searched = found_one (question_of r.words (left_topology r.topology group width) Whole) new.frontier new.found.right new.found.searched new.found.within }

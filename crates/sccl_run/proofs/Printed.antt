@@ -76,15 +76,7 @@ due_of_done x a b c run done task (inr (r, e)) = absurd (refused_not_done x a b 
 
 pub found_one : (q : QuestionValue) (f : FrontierValue) → RightFrontier q f → Searched q f → All (IsWithin q) f.refuted → SearchedFrontier q f
 found_one q f right searched within =
-    record {
-      right = right;
-      within = within;
-      ascend = searched.points_ascend;
-      points_apart = searched.points_apart;
-      refuted_apart = searched.refuted_apart;
-      apart = stands_alone q f right searched;
-      tight = searched.tight;
-    }
+    record { right = right; within = within; ascend = searched.points_ascend; points_apart = searched.points_apart; refuted_apart = searched.refuted_apart; apart = stands_alone q f right searched; tight = searched.tight }
 
 each_found : (r : ReportValue) → IsRight r → IsSearched r → All (λ x. SearchedFrontier (question_of r.words r.topology x.0) x.1) r.frontiers
 each_found r right searched =
@@ -100,15 +92,7 @@ synth_is_true x a b c run done kept w t asks =
     let task : Task = Synthesise w t kept in
     let asked : due x.words x.bytes ≡ Ok task = due_of_done x a b c run done task (due_or x.words x.bytes _ task is (behind _ (w, t) _ task (searches_or _ _ _ x.words x.bytes w t asks) (inl refl))) in
     let end = done_answered (Ok task) x (ended x a b c (Ok task) run asked) done in
-    let answer = end.answer in
-    record {
-      report = answer.report;
-      words = answer.words;
-      topology = answer.topology;
-      text = end.written refl ∙ ap (λ text. x.before ++ text) answer.says.text;
-      right = answer.right;
-      searched = each_found answer.report answer.right answer.searched;
-    }
+    let answer = end.answer in record { report = answer.report; words = answer.words; topology = answer.topology; text = end.written refl ∙ ap (λ text. x.before ++ text) answer.says.text; right = answer.right; searched = each_found answer.report answer.right answer.searched }
 
 pub verified_is_true : (x : RunValue) (a b c : CountValue) → IsRightRun x a b c → x.status ≡ Done → x.words ≡ codes "check" ∷ [] → Verifies x.bytes
 verified_is_true x a b c run done words = by_reading (report_of x.bytes) refl

@@ -37,12 +37,7 @@ module _ (words : List (List ℕ)) (number word : ℕ) (order : Option ℕ) (ask
 
   refused_text : (x : Result ReportValue (ReportCode × ℕ)) → report_of bytes ≡ x → length bytes ≤ limit → ((r : ReportValue) → IsReport r → bytes ≡ report_text r → ⊥) → IsRefusedText words bytes
   refused_text (Ok r) e short none = let taken = report_take bytes r e in absurd (none r taken.valid taken.spelled)
-  refused_text (Err (code, line)) e short none = record {
-    code = code;
-    line = line;
-    due = due_replayed short ∙ ap read_as e;
-    first = first_is_blamed bytes code line e;
-  }
+  refused_text (Err (code, line)) e short none = record { code = code; line = line; due = due_replayed short ∙ ap read_as e; first = first_is_blamed bytes code line e }
 
   pub no_report_is_refused : length bytes ≤ limit → ((r : ReportValue) → IsReport r → bytes ≡ report_text r → ⊥) → IsRefusedText words bytes
   no_report_is_refused = refused_text (report_of bytes) refl

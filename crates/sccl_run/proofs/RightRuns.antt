@@ -30,11 +30,7 @@ pub answered : (d : Result Task Refusal) (x : RunValue) → IsEnd d x all_tell �
 answered d x (inl a) whole loud = by_end a.stands
   where
     by_end : ((x.status ≡ a.status) × (length a.text ≤ a.count)) ⊎ (x.status ≡ SinkFailed) → IsWholeAnswer d x all_tell
-    by_end (inl (same, all)) = record {
-      text = a.text;
-      answer = subst (λ s. IsAnswer d (files_of x all_tell) s a.text) (sym same) a.answer;
-      written = λ told. a.written told ∙ ap (λ text. x.before ++ text) (take_all a.count a.text all);
-    }
+    by_end (inl (same, all)) = record { text = a.text; answer = subst (λ s. IsAnswer d (files_of x all_tell) s a.text) (sym same) a.answer; written = λ told. a.written told ∙ ap (λ text. x.before ++ text) (take_all a.count a.text all) }
     by_end (inr failed) = absurd (whole failed)
 answered d x (inr halt) whole loud = absurd (loud halt.silent)
 

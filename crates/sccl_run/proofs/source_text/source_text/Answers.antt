@@ -1,6 +1,6 @@
-use Rattle.std.proofs.Common.{Err, ◌≤◌, ◌∙◌, ap, length, subst, sym}
+use Rattle.std.proofs.Common.{arith, Err, ◌≤◌, ◌∙◌, ap, length, refl, subst, sym}
 use Rattle.run_rules.specs.Tasks.{limit}
-use Rattle.sccl_run.proofs.Dues.{nothing_behind}
+use Rattle.sccl_run.proofs.{Dues.nothing_behind, Texts.{not_err, stood}}
 use Rattle.sccl_run.proofs.source_text.source_text.Goals as goal
 
 pub returns-in-Ok-clause-read : goal.returns-in-Ok-clause-read
@@ -17,3 +17,8 @@ returns-in-Err-TooLong-clause-read g c = λ told reads.
 
 pub returns-in-Err-Failed-clause-part : goal.returns-in-Err-Failed-clause-part
 returns-in-Err-Failed-clause-part g c = λ told failed. c.in-Err-Failed.ensures.rest told
+
+pub returns-then-not-reads : goal.returns-then-not-reads
+returns-then-not-reads g c =
+    let unread = c.if-not-reads.true in
+    record { told = λ told. told; cause = stood not_err refl; reads = λ e. absurd (not_err e); shelf = not_err; untouched = λ _. refl; short = omega (arith, ap length c.new.ensures.items); whole = λ told reads. absurd (cc); long = tt; longer = λ told. tt; read = λ told reads. absurd (cc); memory = λ e. refl; part = λ told e. absurd (not_err e) }
