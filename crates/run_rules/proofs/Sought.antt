@@ -1,11 +1,10 @@
 -- What is due for the words of a search, check by check.
-use Rattle.std.proofs.Common.{◌≡◌, ◌⊎◌, inl, inr, ℕ, Bool, true, false, not, List, Result, Ok, Err, sym, ap, ◌∙◌}
-use Rattle.text_lines.{specs.Check.{◌>>=◌, refuse}, proofs.Checks.{bind_ok, ok_is}}
-use Rattle.collective_spec.specs.Collectives.{fits_kind}
+use Rattle.std.proofs.Common.{◌≡◌, ◌⊎◌, inl, inr, ℕ, List, Result, Ok, Err, sym, ap}
+use Rattle.text_lines.{specs.Check.{◌>>=◌}, proofs.Checks.{bind_ok, ok_is}}
 use Rattle.topology_text.specs.{declared.fault.TopologyCode.{TopologyCode, TheVariants.OutOfMemory}, Value.NamedTopologyValue, Reading.topology_of, Answer.topology_number}
-use Rattle.command_words.specs.declared.{command.SearchWords.SearchWords, fault.WordCode.TheVariants.CustomMismatch}
+use Rattle.command_words.specs.declared.{command.SearchWords.SearchWords}
 use Rattle.report_form.specs.Reports.{WordsValue}
-use Rattle.run_rules.specs.{declared.status.Status.TheVariants.BadTopology, Refusals.{Refusal, refused_as, refused_at, refused_word}, Tasks.{root_in, search_asked, searchable}}
+use Rattle.run_rules.specs.{declared.status.Status.TheVariants.BadTopology, Refusals.{Refusal, refused_as, refused_at}, Tasks.{root_in, search_asked, searchable}}
 use Rattle.run_rules.specs.Steps.{fitting, search_for, search_over, whole_question, words_for}
 
 -- ---- what can be searched
@@ -18,23 +17,6 @@ cannot_search w t r e = ap (λ x. x >>= (λ _. Ok (w, t))) e
 module _ (asked : SearchWords) (t : NamedTopologyValue) where
   abbrev over : Result ℕ Refusal → Result (WordsValue × NamedTopologyValue) Refusal
   over node = node >>= (λ n. search_for (words_for asked n) t)
-
-  fitted : Bool → Result (WordsValue × NamedTopologyValue) Refusal
-  fitted fits = refuse (not fits) (refused_word CustomMismatch asked.kind_word) >>= (λ _. over (root_in t.names asked.root))
-
-  pub misfits : fits_kind asked.kind t.custom ≡ false → search_over asked t ≡ Err (refused_word CustomMismatch asked.kind_word)
-  unfolding fitted
-  misfits e = ap fitted e
-
-  rooted : (x : Result ℕ Refusal) → fits_kind asked.kind t.custom ≡ true → root_in t.names asked.root ≡ x → search_over asked t ≡ over x
-  unfolding fitted
-  rooted x e node = ap fitted e ∙ ap over node
-
-  pub no_root : (r : Refusal) → fits_kind asked.kind t.custom ≡ true → root_in t.names asked.root ≡ Err r → search_over asked t ≡ Err r
-  no_root r e none = rooted (Err r) e none
-
-  pub some_root : (node : ℕ) → fits_kind asked.kind t.custom ≡ true → root_in t.names asked.root ≡ Ok node → search_over asked t ≡ search_for (words_for asked node) t
-  some_root node e some = rooted (Ok node) e some
 
 -- ---- the text
 

@@ -83,6 +83,30 @@ fn search_for(
     }
 }
 
+/// The words of the search over the topology, where those that are asked for fit it. An `Err` has
+/// the code and the index of the word that does not.
+fn words_over(asked: SearchWords, topology: &NamedTopology) -> Result<Words, (WordCode, u32)>
+    requires proper { AreSearchWords asked }
+    ensures words { IfOk result (λ words. search_over asked topology.now ≡ search_for words topology.now) }
+    ensures proper { IfOk result (IsWords (length topology.now.names)) }
+    ensures fits { IfOk result (λ words. fits_kind words.collective.kind topology.now.custom ≡ true) }
+    ensures refused { IfErr result (λ why. search_over asked topology.now ≡ Err (refused_word why.0 why.1)) }
+{
+    if !fits(asked.kind, topology) {
+        return Err((WordCode::CustomMismatch, asked.kind_word));
+    }
+    match root_of(topology.names(), asked.root) {
+        Ok(root) => {
+            let collective = Collective {
+                kind: asked.kind,
+                root,
+            };
+            Ok(Words::new(collective, asked.limits))
+        }
+        Err(word) => Err((WordCode::UnknownRoot, word)),
+    }
+}
+
 /// The search over the topology, where the words fit it.
 fn search_over(
     alloc: Global,
@@ -92,19 +116,9 @@ fn search_over(
     requires proper { AreSearchWords asked }
     ensures { IfOk result (IsSearchAs (search_over asked topology)) }
 {
-    if !fits(asked.kind, &topology) {
-        let answer = refused_word(alloc, WordCode::CustomMismatch, asked.kind_word)?;
-        return Ok(SearchText::Refused(answer));
-    }
-    match root_of(topology.names(), asked.root) {
-        Ok(root) => {
-            let collective = Collective {
-                kind: asked.kind,
-                root,
-            };
-            search_for(alloc, Words::new(collective, asked.limits), topology)
-        }
-        Err(word) => Ok(SearchText::Refused(refused_word(alloc, WordCode::UnknownRoot, word)?)),
+    match words_over(asked, &topology) {
+        Ok(words) => search_for(alloc, words, topology),
+        Err((code, word)) => Ok(SearchText::Refused(refused_word(alloc, code, word)?)),
     }
 }
 

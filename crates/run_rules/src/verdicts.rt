@@ -1,6 +1,6 @@
 //! What is written of a verdict.
 
-ghost use Rattle.std.specs.Prelude.{◌≡◌, ◌++◌, IfOk, OnOk};
+ghost use Rattle.std.specs.Prelude.{◌≡◌, ◌++◌, IfOk, OnOk, codes, decimal};
 ghost use Rattle.outer_ports.specs.Files.{candidate_word, part_prefix};
 ghost use Rattle.run_rules.specs.{Answers.Says, Audits.not_denied, Steps.{verdict_status, verdict_text}, Commands.IsRefusal};
 
@@ -25,16 +25,22 @@ fn front_of(part: Part) -> &'static [u8]
     }
 }
 
+/// Appends a dash and the number.
+fn push_dashed(out: &mut Vec<u8>, number: u8) -> Result<(), OutOfMemory>
+    ensures { OnOk result (out.new.items ≡ out.old.items ++ codes "-" ++ decimal number) }
+{
+    push_word(out, b"-")?;
+    push_number(out, u64::from(number))
+}
+
 /// Appends the steps, the rounds and the chunk count of a candidate, behind the name of its part.
 fn push_candidate(out: &mut Vec<u8>, part: Part, candidate: Candidate) -> Result<(), OutOfMemory>
     ensures { OnOk result (out.new.items ≡ out.old.items ++ candidate_word part candidate.s candidate.r candidate.c) }
 {
     push_word(out, front_of(part))?;
     push_number(out, u64::from(candidate.s))?;
-    push_word(out, b"-")?;
-    push_number(out, u64::from(candidate.r))?;
-    push_word(out, b"-")?;
-    push_number(out, u64::from(candidate.c))
+    push_dashed(out, candidate.r)?;
+    push_dashed(out, candidate.c)
 }
 
 /// The answer of a denial.
