@@ -34,6 +34,7 @@ fn push_all_carried(out: &mut Vec<u8>, carried: &[Candidate]) -> Result<(), Allo
     Ok(())
 }
 
+/// Appends the text of what a search found over the links that are left of a topology.
 fn push_found(
     out: &mut Vec<u8>,
     words: Words,
