@@ -1,13 +1,13 @@
 //! A report as JSON.
 
-ghost use Rattle.std.specs.Prelude.{◌≡◌, ℕ, List, [], ◌∷◌, Ok, Some, None, codes, map, if◌then◌else◌, option_map, unwrap_or, slice_index_or, IfOk, OnOk};
+ghost use Rattle.std.specs.Prelude.{◌≡◌, ℕ, List, [], Ok, Some, None, codes, map, if◌then◌else◌, option_map, unwrap_or, slice_index_or, IfOk, OnOk};
 ghost use Rattle.report_form.specs.{Reports.IsReport, Spelling.{mark_words, part_words}};
 ghost use Rattle.serde_json.specs.{Data.{Data, put, string}, View.{view, members_view}};
-ghost use Rattle.json_values.specs.Json.{printed, array_of, count_of, object_of};
+ghost use Rattle.json_values.specs.Json.{printed, array_of, count_of};
 ghost use Rattle.json_rules.specs.{ReportForm.{adding_in, send as send_form, point as point_form, frontier as frontier_form, words as words_form}, ReportJson.report_json, Answer.report_of_json};
 ghost use Rattle.json_reports.specs.Candidates.{refuted as refuted_form, unknown as unknown_form};
 
-use candidate_order::{Candidate, Frontier, Mark, Point, Unknown};
+use candidate_order::{Candidate, Frontier, Limits, Mark, Point, Unknown};
 use collective_spec::takes_root;
 use json_values::{node_text, topology_value};
 use outer_ports::Part;
@@ -37,21 +37,29 @@ fn list_json<T: Listed>(alloc: Global, names: &[Name], list: &[T]) -> Result<Val
     Ok(Value::Array(values))
 }
 
+impl Listed for u32 {
+    ghost json = { λ _. count_of };
+
+    fn value(&self, _alloc: Global, _names: &[Name]) -> Result<Value, AllocError> {
+        Ok(Value::from(*self))
+    }
+}
+
 impl Listed for Candidate {
     ghost json = { λ _. refuted_form.json };
 
-    fn value(&self, alloc: Global, _names: &[Name]) -> Result<Value, AllocError> {
-        json!(in alloc; [self.s, self.r, self.c])
+    fn value(&self, alloc: Global, names: &[Name]) -> Result<Value, AllocError> {
+        list_json(alloc, names, &[self.s, self.r, self.c])
     }
 }
 
 impl Listed for Unknown {
     ghost json = { λ _. unknown_form.json };
 
-    fn value(&self, alloc: Global, _names: &[Name]) -> Result<Value, AllocError> {
+    fn value(&self, alloc: Global, names: &[Name]) -> Result<Value, AllocError> {
         let x = self.candidate();
-        let conflicts = self.conflicts();
-        json!(in alloc; [x.s, x.r, x.c, conflicts])
+        let counts = [x.s.into(), x.r.into(), x.c.into(), self.conflicts()];
+        list_json(alloc, names, &counts)
     }
 }
 
@@ -83,6 +91,31 @@ fn mark_text(mark: Mark) -> &'static str
     }
 }
 
+/// Puts the array of the values of a list in under the key.
+fn put_list<T: Listed>(
+    members: &mut Map<String, Value>,
+    alloc: Global,
+    names: &[Name],
+    key: &str,
+    list: &[T],
+) -> Result<(), AllocError>
+    ensures { OnOk result (members_view members.new.entries ≡ put key.now (array_of (map (T.json names.now) list.now)) (members_view members.old.entries)) }
+{
+    put(members, alloc, key, list_json(alloc, names, list)?)
+}
+
+/// Puts the text in under the key.
+fn put_text(
+    members: &mut Map<String, Value>,
+    alloc: Global,
+    key: &str,
+    text: &str,
+) -> Result<(), AllocError>
+    ensures { OnOk result (members_view members.new.entries ≡ put key.now (string text.now) (members_view members.old.entries)) }
+{
+    put(members, alloc, key, Value::try_from_str(alloc, text)?)
+}
+
 /// Puts in how many steps a joined point adds.
 fn put_adding(members: &mut Map<String, Value>, alloc: Global, mark: Mark) -> Result<(), AllocError>
     ensures { OnOk result (members_view members.new.entries ≡ unwrap_or (option_map (λ n. put (codes "adding") (count_of n) (members_view members.old.entries)) (adding_in mark)) (members_view members.old.entries)) }
@@ -112,15 +145,12 @@ impl Listed for Point {
 
     fn value(&self, alloc: Global, names: &[Name]) -> Result<Value, AllocError> {
         let (schedule, mark) = (self.schedule(), self.mark());
-        let rounds = list_json(alloc, names, schedule.rounds())?;
-        let sends = list_json(alloc, names, schedule.sends())?;
-        let text = Value::try_from_str(alloc, mark_text(mark))?;
         // As the definition does, from the last key of the table to the first.
         let mut members = Map::new(alloc);
-        put(&mut members, alloc, "sends", sends)?;
-        put(&mut members, alloc, "rounds", rounds)?;
+        put_list(&mut members, alloc, names, "sends", schedule.sends())?;
+        put_list(&mut members, alloc, names, "rounds", schedule.rounds())?;
         put_adding(&mut members, alloc, mark)?;
-        put(&mut members, alloc, "mark", text)?;
+        put_text(&mut members, alloc, "mark", mark_text(mark))?;
         put_candidate(&mut members, alloc, self.candidate())?;
         Ok(Value::Object(members))
     }
@@ -141,11 +171,12 @@ impl Listed for (Part, Frontier) {
     ghost json = { λ names. (frontier_form names).json };
 
     fn value(&self, alloc: Global, names: &[Name]) -> Result<Value, AllocError> {
-        let part = part_text(self.0);
-        let points = list_json(alloc, names, self.1.points())?;
-        let refuted = list_json(alloc, names, self.1.refuted())?;
-        let unknown = list_json(alloc, names, self.1.unknown())?;
-        json!(in alloc; {"part": part, "points": points, "refuted": refuted, "unknown": unknown})
+        let mut members = Map::new(alloc);
+        put_list(&mut members, alloc, names, "unknown", self.1.unknown())?;
+        put_list(&mut members, alloc, names, "refuted", self.1.refuted())?;
+        put_list(&mut members, alloc, names, "points", self.1.points())?;
+        put_text(&mut members, alloc, "part", part_text(self.0))?;
+        Ok(Value::Object(members))
     }
 }
 
@@ -160,9 +191,23 @@ fn put_said(
     ensures { OnOk result (members_view members.new.entries ≡ unwrap_or (option_map (λ t. put key.now (string t) (members_view members.old.entries)) (if said then Some text.now else None)) (members_view members.old.entries)) }
 {
     if said {
-        put(members, alloc, key, Value::try_from_str(alloc, text)?)?;
+        put_text(members, alloc, key, text)?;
     }
     Ok(())
+}
+
+/// Puts in what bounds a search.
+fn put_limits(
+    members: &mut Map<String, Value>,
+    alloc: Global,
+    limits: Limits,
+) -> Result<(), AllocError>
+    ensures { OnOk result (members_view members.new.entries ≡ put (codes "k") (count_of limits.k) (put (codes "steps") (count_of limits.max_s) (put (codes "chunks") (count_of limits.max_c) (put (codes "conflicts") (count_of limits.conflicts) (members_view members.old.entries))))) }
+{
+    put(members, alloc, "conflicts", Value::from(limits.conflicts()))?;
+    put(members, alloc, "chunks", Value::from(limits.max_c()))?;
+    put(members, alloc, "steps", Value::from(limits.max_s()))?;
+    put(members, alloc, "k", Value::from(limits.k()))
 }
 
 fn words_json(alloc: Global, names: &[Name], words: Words) -> Result<Value, AllocError>
@@ -171,35 +216,14 @@ fn words_json(alloc: Global, names: &[Name], words: Words) -> Result<Value, Allo
     let (asked, limits) = (words.collective(), words.limits());
     let pruning = limits.pruning();
     let root = node_text(names, asked.root);
-    let collective = Value::try_from_str(alloc, asked.kind.word())?;
     // As the definition does, from the last key of the table to the first.
     let mut members = Map::new(alloc);
     put_said(&mut members, alloc, "ordered", pruning.ordered, "yes")?;
     put_said(&mut members, alloc, "cuts", pruning.cuts, "yes")?;
     put_said(&mut members, alloc, "root", takes_root(asked.kind), root)?;
-    put(
-        &mut members,
-        alloc,
-        "conflicts",
-        Value::from(limits.conflicts()),
-    )?;
-    put(&mut members, alloc, "chunks", Value::from(limits.max_c()))?;
-    put(&mut members, alloc, "steps", Value::from(limits.max_s()))?;
-    put(&mut members, alloc, "k", Value::from(limits.k()))?;
-    put(&mut members, alloc, "collective", collective)?;
+    put_limits(&mut members, alloc, limits)?;
+    put_text(&mut members, alloc, "collective", asked.kind.word())?;
     Ok(Value::Object(members))
-}
-
-fn whole_value(
-    alloc: Global,
-    frontiers: Value,
-    joined: Value,
-    topology: Value,
-    words: Value,
-) -> Result<Value, AllocError>
-    ensures { IfOk result (λ v. view v ≡ object_of ((codes "frontiers", view frontiers) ∷ (codes "joined", view joined) ∷ (codes "topology", view topology) ∷ (codes "words", view words) ∷ [])) }
-{
-    json!(in alloc; {"frontiers": frontiers, "joined": joined, "topology": topology, "words": words})
 }
 
 /// The report as a value of JSON.
@@ -207,12 +231,20 @@ fn report_value(alloc: Global, report: &Report) -> Result<Value, AllocError>
     ensures json { IfOk result (λ v. view v ≡ report_json report.now) }
     ensures limits { IsReport report.now }
 {
-    let names = report.topology().names();
-    let frontiers = list_json(alloc, names, report.frontiers())?;
-    let joined = list_json(alloc, names, report.joined())?;
-    let topology = topology_value(alloc, report.topology())?;
+    let topology = report.topology();
+    let names = topology.names();
+    let mut members = Map::new(alloc);
+    put_list(&mut members, alloc, names, "joined", report.joined())?;
+    put_list(&mut members, alloc, names, "frontiers", report.frontiers())?;
+    put(
+        &mut members,
+        alloc,
+        "topology",
+        topology_value(alloc, topology)?,
+    )?;
     let words = words_json(alloc, names, report.words())?;
-    whole_value(alloc, frontiers, joined, topology, words)
+    put(&mut members, alloc, "words", words)?;
+    Ok(Value::Object(members))
 }
 
 /// The report as JSON without spaces, the keys of each object ascending, with a line feed behind.

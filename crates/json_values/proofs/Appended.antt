@@ -1,13 +1,27 @@
 -- Tokens and lines that are appended one after another.
-use Rattle.std.{proofs.Common.{◌≡◌, ℕ, List, [], ◌∷◌, ◌++◌, Option, Some, None, Result, Ok, Err, ◌≤◌, ◌==◌, false, drop, length, true≢false, map, option_map, refl, ap, codes, decimal, ◌+◌, ◌≢◌, suc, ◌∙◌, append_assoc}, specs.List.flat_map, proofs.lemmas.List.{append-nil, drop_all}}
+use Rattle.std.{proofs.Common.{◌≡◌, ℕ, List, [], ◌∷◌, ◌++◌, Option, Some, None, Result, Ok, Err, ◌<◌, ◌≤◌, ◌==◌, false, drop, get_or, length, true≢false, map, option_map, refl, sym, ap, codes, decimal, ◌+◌, ◌≢◌, suc, ◌∙◌, append_assoc}, specs.List.flat_map, proofs.lemmas.List.{append-nil, drop_all, drop_more, Concat.flat_map-append}}
 use Rattle.text_lines.{specs.{declared.stop.Stop.{Stop, TheVariants.{Memory, Refused}}, Text.{line, fields, text_of}}, proofs.Words.join_fields}
-use Rattle.serde_json.specs.{Data.{Data, Items, no_items, item}, Events.items_len, Find.{as_array, get}, View.items_view, declared.value.Value.Value}
+use Rattle.serde_json.specs.{Data.{Data, Items, no_items, item}, Events.items_len, Find.{as_array, get}, View.{view, items_view}, declared.value.Value.Value}
 use Rattle.json_values.proofs.Values.{nothing_behind}
-use Rattle.json_values.specs.{Shape.{◌>>=◌, one, headed}, Appends.Appends, Forms.{each_read, row_read}, Pieces.tokens_in, TopologyForm.chunks_read, declared.token.Token.Token, inner.Chunks.chunks_in}
+use Rattle.json_values.specs.{Shape.{◌>>=◌, ◌⊕◌, one, headed}, Appends.Appends, Forms.{each_read, row_read}, Pieces.tokens_in, TopologyForm.chunks_read, declared.token.Token.Token, inner.Chunks.chunks_in}
 
 -- the bytes, and what these values stand for behind them
 abbrev pub with_rest : {A : Type 0} → (A → List ℕ) → (Data → Option (List A)) → List ℕ → List Value → Option (List ℕ)
 with_rest shown read out vs = option_map (λ xs. out ++ flat_map shown xs) (each_read read (items_view vs))
+
+flat_past : {A : Type 0} (shown : A → List ℕ) (here rest : Option (List A)) (old new : List ℕ) → option_map (λ t. old ++ t) (option_map (flat_map shown) here) ≡ Some new
+    → option_map (λ xs. old ++ flat_map shown xs) (here ⊕ rest) ≡ option_map (λ xs. new ++ flat_map shown xs) rest
+flat_past shown None rest old new h = absurd cc
+flat_past shown (Some xs) None old new h = refl
+flat_past shown (Some xs) (Some ys) old new h =
+    let told : old ++ flat_map shown xs ≡ new = cc in
+    ap Some (ap (λ t. old ++ t) (flat_map-append shown xs ys) ∙ sym (append_assoc old (flat_map shown xs) (flat_map shown ys)) ∙ ap (λ t. t ++ flat_map shown ys) told)
+
+-- past a value whose text is appended
+pub past : {A : Type 0} (shown : A → List ℕ) (read : Data → Option (List A)) (vs : List Value) (n : ℕ) (v : Value) (old new : List ℕ) → n < length vs → v ≡ get_or vs n v
+    → option_map (λ t. old ++ t) (option_map (flat_map shown) (read (view v))) ≡ Some new → with_rest shown read old (drop n vs) ≡ with_rest shown read new (drop (n + 1) vs)
+past shown read vs n v old new below at h =
+    ap (with_rest shown read old) (drop_more vs n v below ∙ ap (λ x. x ∷ drop (n + 1) vs) (sym at)) ∙ flat_past shown (read (view v)) (each_read read (items_view (drop (n + 1) vs))) old new h
 
 pub lined : (old first second last word : List ℕ) (o : Option (List (List ℕ))) → first ≡ old ++ word → option_map (λ t. first ++ t) (option_map fields o) ≡ Some second → last ≡ second ++ 10 ∷ []
     → option_map (λ t. old ++ t) (option_map text_of (one (headed word o))) ≡ Some last
