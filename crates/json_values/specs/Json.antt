@@ -1,6 +1,6 @@
 -- JSON (RFC 8259): the value that bytes are, as serde_json reads them, and its text, as serde_json prints it.
 use Rattle.std.specs.{Prelude.{ℕ, if◌then◌else◌, List, [], ◌∷◌, ◌++◌, Option, None}, Str.is_utf8}
-use Rattle.serde_json.specs.{Data.{Data, array, object, number, unsigned, Members, no_members, member}, Read.read, View.items_of, Written.compact_text}
+use Rattle.serde_json.specs.{Data.{Data, array, number, unsigned}, Read.read, View.items_of, Written.compact_text}
 
 -- the value that the bytes are: they are to be UTF-8, and lists and objects are to nest no deeper than 127
 abbrev pub value_of : List ℕ → Option Data
@@ -12,14 +12,6 @@ printed d = compact_text d ++ 10 ∷ []
 
 abbrev pub array_of : List Data → Data
 array_of ds = array (items_of ds)
-
-abbrev pub members_of : List (List ℕ × Data) → Members
-members_of [] = no_members
-members_of (m ∷ ms) = member m.0 m.1 (members_of ms)
-
--- an object with these keys, which are ascending, and their values
-abbrev pub object_of : List (List ℕ × Data) → Data
-object_of ms = object (members_of ms)
 
 abbrev pub count_of : ℕ → Data
 count_of n = number (unsigned n)

@@ -25,15 +25,34 @@ returns-in_err-bytes g c = rw (err_is _ OutOfMemory c.from_residual.ensures.1)
 pub returns-in_err-read_piece : goal.returns-in_err-read_piece
 returns-in_err-read_piece g c = let i = c.loop-buffer.invariant in let piece = c.read_piece.ensures in let I = g.I.Source in let now = c.read_piece.new.source in
     let rest : IsTrue (I.tells now) → I.left now ≡ drop (length c.loop-buffer.bytes.items) (I.left c.args.source.now) = λ t. c.in_err-read_piece.ensures.stays t ∙ left_behind _ _ _ _ (i.taken (piece.told t)) refl in rw (err_is _ Failed c.from_residual-in_err-read_piece.ensures.1)
-    (record { told = λ t. i.told (piece.told t); cause = handed_on failed Failed _ _ _ _ _ i.kept c.in_err-read_piece.was refl piece.cause; memory = λ e. absurd ((faults _).1 e refl); within = tt; whole = λ _. tt; end = λ _. tt; too_long = λ _ e. absurd ((faults _).2 refl e); one_more = λ _ e. absurd ((faults _).2 refl e);
-    failed = λ t _. (length c.loop-buffer.bytes.items, omega (arith, c.len.ensures, c.loop-buffer-test.true), rest t); rest = λ t. (length c.loop-buffer.bytes.items, omega (arith, i.within), rest t) })
+    (record {
+      told = λ t. i.told (piece.told t);
+      cause = handed_on failed Failed _ _ _ _ _ i.kept c.in_err-read_piece.was refl piece.cause;
+      memory = λ e. absurd ((faults _).1 e refl);
+      within = tt;
+      whole = λ _. tt;
+      end = λ _. tt;
+      too_long = λ _ e. absurd ((faults _).2 refl e);
+      one_more = λ _ e. absurd ((faults _).2 refl e);
+      failed = λ t _. (length c.loop-buffer.bytes.items, omega (arith, c.len.ensures, c.loop-buffer-test.true), rest t);
+      rest = λ t. (length c.loop-buffer.bytes.items, omega (arith, i.within), rest t);
+    })
 
 pub returns-then-branch-eq0 : goal.returns-then-branch-eq0
 returns-then-branch-eq0 g c = let i = c.loop-buffer.invariant in let piece = c.in_ok-read_piece.ensures in let I = g.I.Source in let now = c.read_piece.new.source in
-
-       let all : IsTrue (I.tells now) → (c.read_piece.new.bytes.items ≡ I.left c.args.source.now) × (I.left now ≡ []) = λ t. none_left c.read_piece.new.bytes.items (I.left now) c.loop-buffer.bytes.items (I.left c.loop-buffer.source) _ (piece.moved t) (i.taken (piece.told t)) (piece.end t c.if-branch-eq0.true) (omega (arith, piece.count.1, c.if-branch-eq0.true)) in
-    record { told = λ t. i.told (piece.told t); cause = unmoved _ _ _ _ (piece.cause.stays (λ e. ok_err _ _ e) ∙ i.kept) (λ e. ok_err _ _ e); memory = λ e. absurd (ok_err _ _ e);
-    within = omega (arith, piece.count.1, c.if-branch-eq0.true, c.len.ensures, c.loop-buffer-test.true); whole = λ t. (all t).0; end = λ t. (all t).1; too_long = λ _ e. absurd (ok_err _ _ e); one_more = λ _ e. absurd (ok_err _ _ e); failed = λ _ e. absurd (ok_err _ _ e); rest = λ _. tt }
+    let all : IsTrue (I.tells now) → (c.read_piece.new.bytes.items ≡ I.left c.args.source.now) × (I.left now ≡ []) = λ t. none_left c.read_piece.new.bytes.items (I.left now) c.loop-buffer.bytes.items (I.left c.loop-buffer.source) _ (piece.moved t) (i.taken (piece.told t)) (piece.end t c.if-branch-eq0.true) (omega (arith, piece.count.1, c.if-branch-eq0.true)) in
+    record {
+      told = λ t. i.told (piece.told t);
+      cause = unmoved _ _ _ _ (piece.cause.stays (λ e. ok_err _ _ e) ∙ i.kept) (λ e. ok_err _ _ e);
+      memory = λ e. absurd (ok_err _ _ e);
+      within = omega (arith, piece.count.1, c.if-branch-eq0.true, c.len.ensures, c.loop-buffer-test.true);
+      whole = λ t. (all t).0;
+      end = λ t. (all t).1;
+      too_long = λ _ e. absurd (ok_err _ _ e);
+      one_more = λ _ e. absurd (ok_err _ _ e);
+      failed = λ _ e. absurd (ok_err _ _ e);
+      rest = λ _. tt;
+    }
 
 pub loop-buffer-preserved : goal.loop-buffer-preserved
 loop-buffer-preserved g c = let i = c.loop-buffer.invariant in let piece = c.in_ok-read_piece.ensures in
@@ -42,5 +61,15 @@ loop-buffer-preserved g c = let i = c.loop-buffer.invariant in let piece = c.in_
 pub returns : goal.returns
 returns g c = let i = c.loop-buffer.invariant in let full : length c.loop-buffer.bytes.items ≡ c.args.limit + 1 = omega (arith, i.within, c.len.ensures, c.loop-buffer-test.false) in let I = g.I.Source in let now = c.loop-buffer.source in
     let rest : IsTrue (I.tells now) → I.left now ≡ drop (c.args.limit + 1) (I.left c.args.source.now) = λ t. left_behind _ _ _ _ (i.taken t) full in
-    record { told = i.told; cause = unmoved _ _ _ _ i.kept (λ e. (faults _).2 e refl); memory = λ e. absurd ((faults _).0 e refl); within = tt; whole = λ _. tt; end = λ _. tt;
-    too_long = λ t _. omega (arith, full, ap length (i.taken t), length-append c.loop-buffer.bytes.items (I.left now)); one_more = λ t _. rest t; failed = λ _ e. absurd ((faults _).2 e refl); rest = λ t. (c.args.limit + 1, omega arith, rest t) }
+    record {
+      told = i.told;
+      cause = unmoved _ _ _ _ i.kept (λ e. (faults _).2 e refl);
+      memory = λ e. absurd ((faults _).0 e refl);
+      within = tt;
+      whole = λ _. tt;
+      end = λ _. tt;
+      too_long = λ t _. omega (arith, full, ap length (i.taken t), length-append c.loop-buffer.bytes.items (I.left now));
+      one_more = λ t _. rest t;
+      failed = λ _ e. absurd ((faults _).2 e refl);
+      rest = λ t. (c.args.limit + 1, omega arith, rest t);
+    }

@@ -3,12 +3,17 @@ use Rattle.outer_ports.proofs.{Folders.{all_held, all_read, none_read, read_file
 use Rattle.outer_ports.proofs.folder.Folder.read_held.Goals as goal
 
 pub invariant_of-self-then-matches : goal.invariant_of-self-then-matches
-invariant_of-self-then-matches g c = let C = g.C.FileCalls in record { held = λ told. let before = c.close_held.ensures.told told in
-    all_held C.number _ _ _ _ (ap (λ disk. disk.number) (c.close_held.ensures.stays told ∙ c.read_some-answer.ensures.stays before)) (c.args.self.now.held (c.read_some-answer.ensures.told before)); read = λ told. none_read C.number _ _ _ c.take.ensures.after }
+invariant_of-self-then-matches g c = let C = g.C.FileCalls in record {
+  held = λ told. let before = c.close_held.ensures.told told in
+      all_held C.number _ _ _ _ (ap (λ disk. disk.number) (c.close_held.ensures.stays told ∙ c.read_some-answer.ensures.stays before)) (c.args.self.now.held (c.read_some-answer.ensures.told before));
+  read = λ told. none_read C.number _ _ _ c.take.ensures.after;
+}
 
 pub invariant_of-self-else-matches : goal.invariant_of-self-else-matches
-invariant_of-self-else-matches g c = let C = g.C.FileCalls in record { held = λ told. all_held C.number _ _ _ _ (ap (λ disk. disk.number) (c.read_some-answer.ensures.stays told)) (c.args.self.now.held (c.read_some-answer.ensures.told told));
-    read = λ told. all_read C.number _ _ _ _ (ap (λ disk. disk.number) (c.read_some-answer.ensures.stays told)) (c.args.self.now.read (c.read_some-answer.ensures.told told)) }
+invariant_of-self-else-matches g c = let C = g.C.FileCalls in record {
+  held = λ told. all_held C.number _ _ _ _ (ap (λ disk. disk.number) (c.read_some-answer.ensures.stays told)) (c.args.self.now.held (c.read_some-answer.ensures.told told));
+  read = λ told. all_read C.number _ _ _ _ (ap (λ disk. disk.number) (c.read_some-answer.ensures.stays told)) (c.args.self.now.read (c.read_some-answer.ensures.told told));
+}
 
 pub returns-in_ok-close_held-clause-there : goal.returns-in_ok-close_held-clause-there
 returns-in_ok-close_held-clause-there g c = λ told none. some_is_none _ _ none (read_file g.C.FileCalls.number _ _ _ c.args.name c.in-Some.field-0-0 c.in-Some.file (search rules) c.requires.held (c.args.self.now.read (c.read_some-answer.ensures.told (c.close_held.ensures.told told))))
