@@ -1,7 +1,7 @@
 //! The line of the nodes' names, and what it shares with the lines of groups.
 
-ghost use Rattle.std.specs.Prelude.{◌≡◌, ◌≤◌, ℕ, List, [], ◌∷◌, length, Some, IfErr, IfOk, OnOk};
-ghost use Rattle.text_lines.specs.{Text.words_of, Line.{IsIn, row_at}, Check.{Fails, Gives}};
+ghost use Rattle.std.specs.Prelude.{◌≡◌, ◌≤◌, [], length, Some, IfOk};
+ghost use Rattle.text_lines.specs.{Text.words_of, Line.{IsIn, row_at}, Check.Gives};
 ghost use Rattle.topology_text.specs.Reading.{has_empty, names_from, nodes_line};
 
 use crate::fault::TopologyCode;
@@ -27,33 +27,21 @@ pub(crate) fn has_empty_token(text: &[u8], line: Line) -> bool
     false
 }
 
-/// Takes the word as a name that is not yet among the names.
-fn add_name(names: &mut IndexSet<Name>, word: &[u8]) -> Result<(), Stop<TopologyCode>>
-    requires { length names.old.keys ≤ 16 }
-    ensures added { OnOk result ((words : List (List ℕ)) → names_from names.old.keys (word.now ∷ words) ≡ names_from names.new.keys words) }
-    ensures few { OnOk result (length names.new.keys ≤ 16) }
-    ensures refused { IfErr result (λ stop. (words : List (List ℕ)) → Fails stop (names_from names.old.keys (word.now ∷ words))) }
-{
-    if names.len() >= NODES {
-        return Err(Stop::Refused(TopologyCode::TooManyNodes));
-    }
-    let Some(name) = Name::of_bytes(word) else {
-        return Err(Stop::Refused(TopologyCode::BadName));
-    };
-    if names.insert(name)? {
-        Ok(())
-    } else {
-        Err(Stop::Refused(TopologyCode::NameTwice))
-    }
-}
-
 fn names_of(alloc: Global, tokens: &mut Tokens<'_>) -> Result<IndexSet<Name>, Stop<TopologyCode>>
     ensures read { Gives (λ s. s.keys) result (names_from [] tokens.old.words) }
     ensures few { IfOk result (λ s. length s.keys ≤ 16) }
 {
     let mut names = IndexSet::new(alloc);
     while let Some(word) = tokens.next_word() {
-        add_name(&mut names, word)?;
+        if names.len() >= NODES {
+            return Err(Stop::Refused(TopologyCode::TooManyNodes));
+        }
+        let Some(name) = Name::of_bytes(word) else {
+            return Err(Stop::Refused(TopologyCode::BadName));
+        };
+        if !names.insert(name)? {
+            return Err(Stop::Refused(TopologyCode::NameTwice));
+        }
     }
     Ok(names)
 }
