@@ -2,10 +2,10 @@
 
 ghost use Rattle.std.specs.Prelude.{◌≡◌, ◌≤◌, ◌<◌, ◌+◌, Some, length, IfOk, OnOk};
 ghost use Rattle.text_lines.specs.{Line.{IsIn, row_at}, Check.{line_part, Tells}};
-ghost use Rattle.report_form.specs.{Fields.next_word, Points.{head_from, head_line, joined_head_line, mark_named}};
-ghost use Rattle.report_lines.specs.{Asking.asks, Gives.TellsAt, Heads.head_value, Room.{HasRoom, Onward}, Wide.candidate_of};
+ghost use Rattle.report_form.specs.{Fields.next_word, Points.{head_line, joined_head_line, mark_named}};
+ghost use Rattle.report_lines.specs.{Asking.asks, Gives.TellsAt, Heads.head_value, Room.{HasRoom, Onward}};
 
-use crate::candidates::{WideCandidate, candidate_behind, candidate_of, joins};
+use crate::candidates::{candidate_behind, candidate_of, joins};
 use crate::fields::{fixed_word, next_number, no_more};
 use crate::lines::{next_line, tokens_on};
 use crate::question::Question;
@@ -31,17 +31,6 @@ fn next_mark(tokens: &mut Tokens<'_>) -> Result<Mark, ReportCode>
     }
 }
 
-/// Takes the whole line of a point of a frontier.
-fn head_of(tokens: &mut Tokens<'_>) -> Result<(WideCandidate, Mark), ReportCode>
-    ensures { Tells (λ head. record { candidate = candidate_of head.0; mark = head.1 }) result (head_from tokens.old.words) }
-{
-    fixed_word(tokens, b"point")?;
-    let x = candidate_of(tokens)?;
-    let mark = next_mark(tokens)?;
-    no_more(tokens)?;
-    Ok((x, mark))
-}
-
 /// The candidate and the mark of a point, behind the last one.
 fn head_on(
     text: &[u8],
@@ -55,12 +44,12 @@ fn head_on(
     ensures few { IfOk result (λ head. head.candidate.s ≤ 16) }
 {
     let mut tokens = tokens_on(text, line)?;
-    let head = head_of(&mut tokens)?;
-    match candidate_behind(question, last, head.0) {
-        Some(candidate) => Ok(Head {
-            candidate,
-            mark: head.1,
-        }),
+    fixed_word(&mut tokens, b"point")?;
+    let x = candidate_of(&mut tokens)?;
+    let mark = next_mark(&mut tokens)?;
+    no_more(&mut tokens)?;
+    match candidate_behind(question, last, x) {
+        Some(candidate) => Ok(Head { candidate, mark }),
         None => Err(ReportCode::Limits),
     }
 }
