@@ -1,6 +1,7 @@
 -- The clauses of the order are few.
-use Rattle.std.proofs.{Common.{ℕ, ◌*◌, ◌≤◌, Bool, true, false, List, [], ◌∷◌, length, sym, subst, arith, Option, None, Some, filter, flat_map}, lemmas.List.{length-append, Sums.{count_by-le-length, length-filter, sum_by-le}}}
+use Rattle.std.proofs.{Common.{ℕ, ◌*◌, ◌≤◌, Bool, true, false, List, [], ◌∷◌, length, sym, subst, arith, Option, None, Some, filter, flat_map}, lemmas.List.{length-append, Sums.sum_by-le}}
 use Rattle.std.{proofs.lemmas.{List.{Concat.length-flat_map, FromFn.{length-map-range_with_len, length-range_with_len}}, Bool.Decides.nat_tests}, specs.List.range_with_len}
+use Rattle.list_laws.proofs.Tests.{few_kept}
 use Rattle.schedule.specs.{Links.TopologyValue, Placed.PlacementValue}
 use Rattle.cnf_formula.specs.Literals.{negation}
 use Rattle.send_encoding.specs.Variables.{SendMapValue, arrival}
@@ -8,9 +9,6 @@ use Rattle.round_encoding.{specs.Candidates.{IsCandidate, size_limit, size_of}, 
 use Rattle.chunk_order.specs.{Ordering.{class_in_order, class_of, is_least, next_pairs, order_clauses, pair_in_order}, Alike.{is_alike, watch_node}}
 use Rattle.candidate_formula.proofs.Exact.{asked_formula}
 use Rattle.candidate_solver.proofs.Readable.{IsSmall}
-
-filter_few : {X : Type 0} (p : X → Bool) (xs : List X) → length (filter p xs) ≤ length xs
-filter_few p xs = subst (λ n. n ≤ length xs) (sym (length-filter p xs)) (count_by-le-length p xs)
 
 -- of so many pieces of at most so many elements each
 pieces_few : {X Y : Type 0} (f : X → List Y) (most : ℕ) (xs : List X) → ((x : X) → length (f x) ≤ most) → length (flat_map f xs) ≤ length xs * most
@@ -34,7 +32,7 @@ module _ (m : SendMapValue) (few_steps : m.steps ≤ 16) where
 
   module _ (pre post : PlacementValue) (few_chunks : pre.chunks ≤ 256) where
     among_few : (p : ℕ → Bool) → length (filter p (range_with_len 0 pre.chunks)) ≤ 256
-    among_few p = grind (arith, nat_tests, filter_few, length-range_with_len)
+    among_few p = grind (arith, nat_tests, few_kept, length-range_with_len)
 
     pub order_few : length (order_clauses m pre post) ≤ 1048576
     order_few =

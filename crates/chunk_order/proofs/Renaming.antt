@@ -1,30 +1,13 @@
 -- Chunks that are renamed: a schedule that solves still does, where each chunk gets the name of one that is alike.
-use Rattle.std.proofs.Common.{◌≡◌, ℕ, zero, suc, ◌+◌, ◌<◌, ◌≤◌, ◌*◌, Bool, true, false, ◌||◌, cond, eqb, ltb, List, [], ◌∷◌, length, get_or, map, refl, sym, ap, ◌∙◌, ⊎_elim, arith, ◌≢◌, ◌&&◌, IsPermutation}
-use Rattle.std.proofs.lemmas.{Bool.{and_parts, cases_Bool, Decides.nat_tests, eqb-true, eq-eqb, ltb-true}, List.{Folds.list_any_at, Elements.{All-from_recursion, recursion_from_All}, Sums.sum_by-cons}}
-use Rattle.std.{proofs.lemmas.List.Sorted.{IsPermutation-refl, IsPermutation-cons, IsPermutation-append_comm, IsPermutation-append_left, IsPermutation-trans, sum_by-IsPermutation, list_any-IsPermutation}, specs.List.list_any}
+use Rattle.std.proofs.Common.{◌≡◌, ℕ, zero, suc, ◌+◌, ◌<◌, ◌≤◌, ◌*◌, Bool, true, false, ◌||◌, cond, eqb, ltb, List, [], ◌∷◌, length, get_or, map, refl, sym, ap, ◌∙◌, arith, ◌≢◌, ◌&&◌}
+use Rattle.std.proofs.lemmas.{Bool.{and_parts, Decides.nat_tests, eqb-true, eq-eqb, ltb-true}, List.{Folds.list_any_at, Elements.{All-from_recursion, recursion_from_All}, Sums.sum_by-cons}}
+use Rattle.std.{proofs.lemmas.List.Sorted.{sum_by-IsPermutation, list_any-IsPermutation}, specs.List.list_any}
 use Rattle.list_laws.proofs.{Tests.same_test, Each.each_map}
 use Rattle.schedule.specs.{declared.hop.Hop.Hop, Links.{GroupValue, TopologyValue, has_link, is_usable}, Placed.{PlacementValue, IsPlacement, holds, same_pair}}
-use Rattle.schedule.specs.{Sends.{ScheduleValue, IsSchedule, IsInRange, IsStep, hop_before, is_hop_below, link_of}, Running.{after, brings}, Solving.Solves, Fitting.{Fits, load, rounds_at}, Inverse.{with_hop, in_order}}
-use Rattle.schedule.proofs.{First.InOrder-from_pairs, HopOrder.{Apart, same_hop, each_in_order, ascends, ascending_apart}, Inverting.pairs_from_InOrder, Placing.{pair_is, pair_itself, holds-placed}, Stepping.{chunks-after, nodes-after}}
+use Rattle.schedule.specs.{Sends.{ScheduleValue, IsSchedule, IsInRange, IsStep, hop_before, is_hop_below, link_of}, Running.{after, brings}, Solving.Solves, Fitting.{Fits, load, rounds_at}, Inverse.{in_order}}
+use Rattle.schedule.proofs.{First.InOrder-from_pairs, HopOrder.{Apart, same_hop, each_in_order, in_order_permutes, ascends, ascending_apart}, Inverting.pairs_from_InOrder, Placing.{pair_is, pair_itself, holds-placed}, Stepping.{chunks-after, nodes-after}}
 use Rattle.send_encoding.proofs.{Members.member, Complete.any_alike, Tightened.pairs_below}
 use Rattle.chunk_order.{specs.Alike.is_alike, proofs.Alikeness.{alike_before, alike_after}}
-
--- ---- sends put in order
-
-moved_with : (h : Hop) (hops : List Hop) → IsPermutation (h ∷ hops) (with_hop h hops)
-moved_with h [] = IsPermutation-refl (h ∷ [])
-moved_with h (o ∷ hops) =
-    ⊎_elim
-    (λ (first : hop_before h o ≡ true). rw first (IsPermutation-refl (h ∷ o ∷ hops)))
-    (λ (later : hop_before h o ≡ false).
-    let past : IsPermutation (h ∷ o ∷ hops) (o ∷ h ∷ hops) = IsPermutation-append_left hops (h ∷ o ∷ []) (o ∷ h ∷ []) (IsPermutation-append_comm (h ∷ []) (o ∷ [])) in
-    let all : IsPermutation (h ∷ o ∷ hops) (o ∷ with_hop h hops) = IsPermutation-trans (h ∷ o ∷ hops) (o ∷ h ∷ hops) (o ∷ with_hop h hops) past (IsPermutation-cons o (h ∷ hops) (with_hop h hops) (moved_with h hops)) in
-    rw later all)
-    (cases_Bool (hop_before h o))
-
-moved_in_order : (hops : List Hop) → IsPermutation hops (in_order hops)
-moved_in_order [] = IsPermutation-refl []
-moved_in_order (h ∷ hops) = IsPermutation-trans (h ∷ hops) (h ∷ in_order hops) (with_hop h (in_order hops)) (IsPermutation-cons h hops (in_order hops) (moved_in_order hops)) (moved_with h (in_order hops))
 
 -- ---- a send and a schedule with other names for the chunks
 
@@ -83,7 +66,7 @@ module _ (pre post : PlacementValue) (f : ℕ → ℕ) (exchange : IsExchange pr
         usable = All-from_recursion P (in_order hops) (each_in_order P hops (each_map P P (renamed_hop f) (λ h it. it) s.sends (recursion_from_All P s.sends fits.usable)));
         within = λ step from to i d low.
             let group : GroupValue = get_or t.groups i d in
-            let same : load group step (in_order hops) ≡ load group step s.sends = sum_by-IsPermutation (λ h. cond (eqb h.step step && has_link group (link_of h)) 1 0) hops (in_order hops) (moved_in_order hops) ∙ count_renamed f group step s.sends in
+            let same : load group step (in_order hops) ≡ load group step s.sends = sum_by-IsPermutation (λ h. cond (eqb h.step step && has_link group (link_of h)) 1 0) hops (in_order hops) (in_order_permutes hops) ∙ count_renamed f group step s.sends in
             let old : load group step s.sends ≤ group.width * rounds_at s step = fits.within step from to i d low in
             omega (arith, same, old);
       }
@@ -112,7 +95,7 @@ module _ (pre post : PlacementValue) (f : ℕ → ℕ) (exchange : IsExchange pr
       let held : holds new (f h.chunk, h.from) ≡ holds old (h.chunk, h.from) = after_renamed s range k (f h.chunk) h.from (exchange.keeps h.chunk chunk) from ∙ ap (λ x. holds old (x, h.from)) (exchange.back h.chunk) in
       ap (λ b. eqb h.step (k + 1) && ((b && eqb h.to n) && holds new (f h.chunk, h.from))) (one_place h.chunk c)
       ∙ ap (λ b. eqb h.step (k + 1) && ((eqb h.chunk (f c) && eqb h.to n) && b)) held in
-      let any : list_any p (in_order hops) ≡ list_any q s.sends = sym (list_any-IsPermutation p hops (in_order hops) (moved_in_order hops)) ∙ any_alike p q (λ h. is_hop_below pre.chunks pre.nodes h ≡ true) (renamed_hop f) s.sends same range in
+      let any : list_any p (in_order hops) ≡ list_any q s.sends = sym (list_any-IsPermutation p hops (in_order hops) (in_order_permutes hops)) ∙ any_alike p q (λ h. is_hop_below pre.chunks pre.nodes h ≡ true) (renamed_hop f) s.sends same range in
       holds-placed new.chunks new.nodes (λ pair. holds new pair || list_any (brings new (k + 1) pair) (in_order hops)) (c, n) (omega (arith, cl, chunks-after pre (renamed f s) k)) (omega (arith, nl, nodes-after pre (renamed f s) k))
       ∙ ap (λ b. b || list_any p (in_order hops)) here
       ∙ ap (λ b. holds old (f c, n) || b) any

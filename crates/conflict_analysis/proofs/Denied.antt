@@ -77,7 +77,7 @@ denied_at core place k d w lt = grind (arith, length-take-le, get_or_append_left
 denied_end : (core : CoreValue) (place : ℕ) (d : StepValue) → place < length core.trail → get_or (denied core place) place d ≡ record { lit = negation (lit_at core place); reason = None }
 denied_end core place d w = get_or_push (take place core.trail) (record { lit = negation (lit_at core place); reason = None }) d place (length-take-le place core.trail (omega (arith, w)))
 
-denied_length : (core : CoreValue) (place : ℕ) → place < length core.trail → length (denied core place) ≡ place + 1
+pub denied_length : (core : CoreValue) (place : ℕ) → place < length core.trail → length (denied core place) ≡ place + 1
 denied_length core place w = grind (arith, length-take-le, length_push)
 
 -- what was met and is false before a step is out there

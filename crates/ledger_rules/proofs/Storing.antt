@@ -1,15 +1,8 @@
 -- Lines that lie one after another in two lists, as these grow.
-use Rattle.std.proofs.Common.{◌≡◌, ℕ, ◌+◌, ◌-◌, ◌≤◌, List, [], ◌∷◌, ◌++◌, map, length, take, drop, refl, sym, ap, ◌∙◌, arith, pos, All, slice_range}
-use Rattle.std.proofs.lemmas.List.{take-append-le, drop-append-le, drop_at, drop_all, take_all, length-drop, length-append, map_push, Elements.{All-head, All-tail}}
-use Rattle.cnf_formula.specs.{Literals.LitValue, Lines.ProofLineValue}
+use Rattle.std.proofs.Common.{◌≡◌, ℕ, ◌+◌, ◌-◌, List, [], ◌∷◌, ◌++◌, map, length, take, drop, refl, sym, ap, ◌∙◌, arith, pos, All, slice_range}
+use Rattle.std.proofs.lemmas.List.{drop_all, take_all, map_push, Elements.{All-head, All-tail}}
+use Rattle.cnf_formula.{specs.{Literals.LitValue, Lines.ProofLineValue}, proofs.Lying.{range_longer, range_new}}
 use Rattle.ledger_rules.specs.{Logs.learned, declared.line_list.LineRow.LineRow, inner.Stored.{line_in, Lies}}
-
-range_longer : {X : Type 0} (old new : List X) (start end : ℕ) → start ≤ end → end ≤ length old → slice_range (old ++ new) start end ≡ slice_range old start end
-range_longer old new start end h w =
-    ap (take (end - start)) (drop-append-le start old new (omega (arith, h, w))) ∙ take-append-le (end - start) (drop start old) new (omega (arith, length-drop start old, h, w))
-
-range_new : {X : Type 0} (old new : List X) (start end : ℕ) → start ≡ length old → end ≡ length old + length new → slice_range (old ++ new) start end ≡ new
-range_new old new start end p q = ap (take (end - start)) (drop_at old new start (sym p)) ∙ take_all (end - start) new (omega (arith, p, q))
 
 module _ (lits xs : List LitValue) (hints ns : List ℕ) where
   -- a line that lies there is the same in longer lists
@@ -31,22 +24,6 @@ module _ (lits xs : List LitValue) (hints ns : List ℕ) where
     pub lits_end : row.lits_end ≡ length lits + length xs
     pub hints_start : row.hints_start ≡ length hints
     pub hints_end : row.hints_end ≡ length hints + length ns
-
-  still_lies : (row : LineRow) → Lies lits hints row → Lies (lits ++ xs) (hints ++ ns) row
-  still_lies row lies = record {
-    lits_run = lies.lits_run;
-    lits_in = omega (arith, length-append lits xs, lies.lits_in);
-    hints_run = lies.hints_run;
-    hints_in = omega (arith, length-append hints ns, lies.hints_in);
-  }
-
-  next_lies : (row : LineRow) → IsNext row → Lies (lits ++ xs) (hints ++ ns) row
-  next_lies row next = record {
-    lits_run = omega (arith, next.lits_start, next.lits_end);
-    lits_in = omega (arith, length-append lits xs, next.lits_end);
-    hints_run = omega (arith, next.hints_start, next.hints_end);
-    hints_in = omega (arith, length-append hints ns, next.hints_end);
-  }
 
   next_line : (row : LineRow) → IsNext row → line_in (lits ++ xs) (hints ++ ns) row ≡ record { id = row.id; lits = xs; hints = map pos ns }
   next_line row next =

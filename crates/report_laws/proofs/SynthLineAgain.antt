@@ -32,7 +32,7 @@ root_asked b names root = if b then Some (name_at names root) else None
 abbrev root_tokens : Bool → List (List ℕ) → ℕ → List (List ℕ)
 root_tokens b names root = if b then (codes "root=" ++ name_at names root) ∷ [] else []
 
-root_is_name : (names : List (List ℕ)) (root : ℕ) → AreNames names → root < length names → is_name (name_at names root) ≡ true
+pub root_is_name : (names : List (List ℕ)) (root : ℕ) → AreNames names → root < length names → is_name (name_at names root) ≡ true
 root_is_name names root named below = All-get_or (λ n. is_name n ≡ true) names root [] below named.each
 
 abbrev pub rooted : List ℕ × List (List ℕ) → Result (Option (List ℕ) × List (List ℕ)) ReportCode

@@ -1,12 +1,12 @@
 -- The line of a literal of level 0, over plain values: it is accepted, short and fresh.
 use Rattle.std.proofs.{Common.{◌≡◌, ℕ, ◌+◌, ◌<◌, ◌≤◌, true, false, Bool, List, [], ◌∷◌, ◌++◌, length, get_or, take, refl, sym, ap, ◌∙◌, subst, ⊎_elim, arith, ◌≢◌, All, AllPairs, Contains, None}, lemmas.Bool.false≢true}
-use Rattle.std.proofs.lemmas.List.{Elements.{All-push, All-take, Contains-push_cases}, Quantifiers.all_pairs_push, length-take-le, length_push, map-append, take-map, get_or-take, get_or_default}
+use Rattle.std.proofs.lemmas.List.{Elements.{All-push, All-take, Contains-push_cases}, Quantifiers.all_pairs_push, length-take-le, map-append, take-map, get_or-take, get_or_default}
 use Rattle.list_laws.proofs.Each.{all_contained}
 use Rattle.cnf_formula.specs.{Formulas.{FormulaValue, IsAbout}, Literals.{LitValue, negation, code_of}, Lines.ProofLineValue}
 use Rattle.proof_rules.specs.{declared.verdict.LineVerdict.TheVariants.Accepted, Judging.verdict_of, Refuting.is_fresh}
 use Rattle.ledger_rules.specs.Logs.{checker_of}
 use Rattle.trail_core.{specs.{Trails.lits_of, Formed.IsTrail, Meaning.{CoreValue, trues}}, proofs.Keeping.lits_length}
-use Rattle.conflict_analysis.{specs.{Met.lit_at, UnitLines.{denied, IsUnitLine}}, proofs.{Marked.{lit_read, lit_about, same_place}, Members.{here, cons_cases}}}
+use Rattle.conflict_analysis.{specs.{Met.lit_at, UnitLines.{denied, IsUnitLine}}, proofs.{Denied.denied_length, Marked.{lit_read, lit_about, same_place}, Members.{here, cons_cases}}}
 use Rattle.sleeping_clauses.specs.{Naming.IsNamed, Sleeping.{SleepersValue, HasNone}, declared.awake.Awake.Awake}
 use Rattle.sat_core.{specs.{inner.Stating.{AreStated, IsStating}, Ready.IsReady}, proofs.{AtConflict.{line_accepted, line_short}, Fresh.fresh_by, Readiness.{next_number, written_more}}}
 
@@ -17,9 +17,6 @@ denied_core core place = record core { trail = denied core place; limits = [] }
 denied_lits : (core : CoreValue) (place : ℕ) → lits_of (denied core place) ≡ take place (trues core) ++ negation (lit_at core place) ∷ []
 denied_lits core place = map-append (λ s. s.lit) (take place core.trail) (record { lit = negation (lit_at core place); reason = None } ∷ []) ∙ ap (λ xs. xs ++ negation (lit_at core place) ∷ []) (sym (take-map (λ s. s.lit) place core.trail))
 
-denied_few : (core : CoreValue) (place : ℕ) → place < length core.trail → length (denied core place) ≡ place + 1
-denied_few core place w = grind (arith, length-take-le, length_push)
-
 denied_formed : (core : CoreValue) (place : ℕ) → IsTrail core.vars core.trail core.limits → place < length core.trail → IsTrail core.vars (denied core place) []
 denied_formed core place t w =
     let about = lit_about core place t w in
@@ -28,7 +25,7 @@ denied_formed core place t w =
       apart = subst (AllPairs (λ a b. a.var ≢ b.var)) (sym (denied_lits core place)) (all_pairs_push (λ a b. a.var ≢ b.var) (take place (trues core)) (negation (lit_at core place))
           (λ i j d lt v. grind (arith, len, lits_length core.trail, t.apart i j d, get_or-take place (trues core) i d, get_or-take place (trues core) j d))
           (λ k x v. grind (arith, len, get_or-take place (trues core) k x, lit_read core k x, same_place core k place t)));
-      few = grind (arith, denied_few core place w, t.few);
+      few = grind (arith, denied_length core place w, t.few);
       levels = grind arith;
     }
   where
@@ -61,7 +58,7 @@ module _ {base : FormulaValue} {lines : List ProofLineValue} {core : CoreValue} 
   stating_short : length line.hints ≤ base.vars + 1
   stating_short =
       let short = line_short (denied_core core place) awake.names.items awake.held t.is.resolved t.is.conflict unit line t.is.hints t.named in
-      omega (arith, short, denied_few core place t.within, t.within, t.formed.few, t.ready.holding.agree.vars, ap (λ f. f.vars) t.ready.holding.formula)
+      omega (arith, short, denied_length core place t.within, t.within, t.formed.few, t.ready.holding.agree.vars, ap (λ f. f.vars) t.ready.holding.formula)
 
   -- no clause of the core has the literal alone, and none that sleeps has
   stating_fresh : (stated : List Bool) → AreStated core.clauses stated → get_or stated (code_of (lit_at core place)) true ≡ false → HasNone s line.lits → is_fresh (checker_of base lines) line.lits ≡ true

@@ -1,6 +1,6 @@
 -- The words of a search ask for it.
 use Rattle.std.proofs.Common.{◌≡◌, ◌≢◌, ◌≤◌, ◌<◌, ◌+◌, ◌^◌, ◌&&◌, ℕ, Bool, true, false, not, nat_le, List, [], ◌∷◌, ◌++◌, length, drop, is_some, Option, None, Some, Result, Ok, refl, sym, ap, ◌∙◌, arith, codes, decimal, if◌then◌else◌}
-use Rattle.std.{proofs.lemmas.{Bool.Decides.nat_tests, List.Elements.All-get_or}, specs.Str.Parse.digits_value}
+use Rattle.std.{proofs.lemmas.Bool.Decides.nat_tests, specs.Str.Parse.digits_value}
 use Rattle.text_lines.{specs.Check.{◌>>=◌, refuse}, proofs.Numbers.{up_to_some, value_of_decimal}}
 use Rattle.collective_spec.specs.{declared.kind.Kind.{Kind, TheVariants.Allreduce}, Kinds.{word_of, every_kind, takes_root}}
 use Rattle.candidate_order.specs.{declared.pruning.Pruning.Pruning, Ranges.{LimitsValue, IsLimits, unpruned}}
@@ -8,6 +8,7 @@ use Rattle.topology_text.specs.{Names.{AreNames, is_name}, Spelling.name_at}
 use Rattle.report_form.specs.{Reports.{WordsValue, IsWords}, Spelling.{pruning_words, root_words, synth_words, word_if}}
 use Rattle.command_words.specs.{declared.{command.{Command.Command, RootWord.RootWord}, fault.{WordCode.TheVariants.{BadValue, UnknownKey, KeyTwice}, WordFault.WordFault}, key.Key.Key, verb.Verb.Verb}, Commands.command_from}
 use Rattle.command_words.{specs.{Tables.{has_key, key_row, Number}, Words.{at_word, command_of, fits, given_from, is_refused, with_word}, Given.{Given, is_given}}, proofs.{Naming.{any_named, kind_found}, Proper.untaken}}
+use Rattle.report_laws.proofs.SynthLineAgain.{root_is_name}
 use Rattle.command_words.specs.declared.command.Command.TheVariants as command
 use Rattle.command_words.specs.declared.key.Key.TheVariants as key
 use Rattle.command_words.specs.declared.verb.Verb.TheVariants as verb
@@ -94,9 +95,6 @@ module _ (v : Verb) (has : Searches v) (kind : Kind) (l : LimitsValue) (ok : IsL
 -- the root as the words name it
 abbrev pub root_word : List (List ℕ) → WordsValue → Option RootWord
 root_word names w = if takes_root w.collective.kind then Some (record { name = name_at names w.collective.root; word = 6 }) else None
-
-root_is_name : (names : List (List ℕ)) (root : ℕ) → AreNames names → root < length names → is_name (name_at names root) ≡ true
-root_is_name names root named below = All-get_or (λ n. is_name n ≡ true) names root [] below named.each
 
 module _ (v : Verb) (has : Searches v) (names : List (List ℕ)) (w : WordsValue) (named : AreNames names) (ok : IsWords (length names) w) (taken : is_refused v key.Collective (word_of w.collective.kind) ≡ false) where
   front_again : (last : List (List ℕ))
