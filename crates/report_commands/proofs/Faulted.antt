@@ -1,16 +1,11 @@
 -- Which check refuses a fault of a report's links, and when none does.
-use Rattle.std.proofs.{Common.{◌≡◌, ◌≢◌, ◌<◌, ◌≤◌, ℕ, zero, suc, List, [], ◌∷◌, length, arith, Bool, false, nat_lt, not, Option, None, Some, Result, Ok, Err, refl, ap, subst, ◌∙◌, slice_get}, lemmas.Bool.{le-ltb, lt-ltb}}
+use Rattle.std.proofs.{Common.{◌≡◌, ◌≢◌, ◌<◌, ◌≤◌, ℕ, List, Bool, false, nat_lt, not, Option, None, Some, Result, Ok, Err, refl, ap, subst, ◌∙◌, slice_get}, lemmas.Bool.{le-ltb, lt-ltb}}
 use Rattle.text_lines.specs.Check.{◌>>=◌, need, refuse}
 use Rattle.schedule.specs.Links.{GroupValue}
 use Rattle.collective_spec.specs.declared.kind.Kind.{Kind, TheVariants.Allreduce}
 use Rattle.command_words.specs.declared.fault.WordCode.TheVariants.{NotNarrower, ReportNotTaken, UnknownGroup}
 use Rattle.report_form.specs.Reports.{ReportValue}
 use Rattle.run_rules.specs.{Refusals.{Refusal, refused_word}, Tasks.{fault_in, is_allreduce}}
-
-pub none_there : {X : Type 0} (xs : List X) (i : ℕ) → length xs ≤ i → slice_get xs i ≡ None
-none_there [] i h = refl
-none_there (x ∷ xs) zero h = absurd (omega arith)
-none_there (x ∷ xs) (suc i) h = none_there xs i (omega arith)
 
 pub at_group : {X : Type 0} {o : Option X} (gs hs : List X) (i j : ℕ) → gs ≡ hs → i ≡ j → slice_get gs i ≡ o → slice_get hs j ≡ o
 at_group {X} {o} gs hs i j lent at there = subst (λ n. slice_get hs n ≡ o) at (subst (λ g. slice_get g i ≡ o) lent there)

@@ -1,4 +1,3 @@
 -- What no contract of a public call says: contracts and proofs inside this crate alone cite it.
-pub mod After
 pub mod Faults
 pub mod Judged

@@ -1,28 +1,16 @@
-//! Faults of links, and which of them a report takes.
+//! Which faults of links a report takes.
 
 ghost use Rattle.std.specs.Prelude.{◌≡◌, None, IfOk};
 ghost use Rattle.run_rules.specs.{Read.IsSearchableAs, Tasks.fault_in};
-ghost use Rattle.report_commands.specs.inner.Faults.{CanFail};
+ghost use Rattle.degraded_search.specs.Faults.{CanFail};
 
 use crate::OutOfMemory;
 use collective_spec::Kind;
 use command_words::WordCode;
+use degraded_search::LinkFault;
 use report_form::Report;
 use run_rules::{Answer, refused_word};
 use std::alloc::Global;
-
-/// What is left of a group of links: how wide it is, where 0 says that its links are gone.
-#[derive(Clone, Copy)]
-pub struct LinkFault {
-    /// The number of the group, from 0.
-    pub group: u16,
-    /// The index of the word that gives the group.
-    pub group_word: u32,
-    /// The width that is left.
-    pub width: u8,
-    /// The index of the word that gives the width.
-    pub width_word: u32,
-}
 
 /// The answer that refuses the fault: the report is of an allreduce, it has no such group, or the
 /// group is no wider than what is left of it. `None` where the report takes the fault.

@@ -1,0 +1,4 @@
+mod OldRight
+mod Left
+mod Uncut
+mod Parted

@@ -1,0 +1,2 @@
+-- What no contract of a public call says: contracts and proofs inside this crate alone cite it.
+pub mod After
