@@ -60,13 +60,11 @@ pub(crate) fn search_left(
     requires old { All (IsOldRefuted (record { topology = given.now; spec = spec.now; limits = limits })) old.items }
     ensures { IfOk result (IsFoundAfter (narrowed_question (record { topology = given.now; spec = spec.now; limits = limits }) fault.group fault.width) old.items) }
 {
-    let mut engine = {
-        let before = own_links_to_search(given, spec)?;
-        let links = links_to_search(left, spec)?;
-        let inner = SatEngine::new(alloc, &links, spec, limits, Part::Whole, false)?;
-        let cuts = CutEngine::new(alloc, inner, &links, spec, Sets::of(limits.pruning()))?;
-        CarryEngine::new(alloc, cuts, before, fault.group, fault.width, old)
-    };
+    let before = own_links_to_search(given, spec)?;
+    let links = links_to_search(left, spec)?;
+    let inner = SatEngine::new(alloc, &links, spec, limits, Part::Whole, false)?;
+    let cuts = CutEngine::new(alloc, inner, &links, spec, Sets::of(limits.pruning()))?;
+    let mut engine = CarryEngine::new(alloc, cuts, before, fault.group, fault.width, old);
     match frontier_by(alloc, &mut engine, &mut EmptyShelf, left, spec, limits) {
         Ok(frontier) => {
             // This says that no unknown candidate is carried or cut, and no point is carried.

@@ -43,7 +43,7 @@ spoken s memory source shelf (inr (inr e)) = shelf e
 pub unmoved : {T E : Type 0} {fault : E} {before now : ℕ} {x : T} → HasCause fault before now (Ok x) → now ≡ before
 unmoved cause = cause.stays (λ e. cc)
 
--- or another thing did
+-- and where the run halted, but not by the port's fault
 unmoved_by : {T : Type 0} {fault halt other : Halt} {before now : ℕ} → halt ≡ other → other ≢ fault → HasCause {T = T} fault before now (Err halt) → now ≡ before
 unmoved_by is differ cause = cause.stays (λ e. differ (cc))
 

@@ -18,7 +18,7 @@ pub passed_on : {A T : Type 0} (fault : Halt) (one : Result A Halt) (told : Halt
 passed_on fault one told (Ok x) was never cause = absurd never
 passed_on fault one told (Err other) was is cause = record { later = cause.later; rose = λ e. cause.rose (cc); stays = λ none. cause.stays (λ e. none (cc)) }
 
--- and is no other
+-- a fault that is handed on is no other
 pub other_told : {T : Type 0} (told : Halt) (last : Result T Halt) → IsErrAnd last (λ e. e ≡ told) → (halt : Halt) → told ≢ halt → last ≢ Err halt
 other_told told (Ok x) never halt other e = absurd never
 other_told told (Err it) is halt other e = other (cc)
