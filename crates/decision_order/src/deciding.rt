@@ -9,18 +9,23 @@ use crate::inputs::inputs_of;
 use crate::turns::Mode;
 use crate::vmtf::Queue;
 use crate::vsids::Order;
-use cnf_formula::{Lit, OutOfMemory};
+use cnf_formula::{ClauseList, Lit, OutOfMemory};
 use std::alloc::Global;
 use std::marker::Model;
 use trail_core::{ClauseId, Core};
+
+/// So many literals are noted at most before the queue is made of them.
+const MANY: usize = 1 << 22;
 
 /// Variables by activity and by the time of their last bump, each with the value that it had last.
 #[derive(Drop)]
 pub struct Decider {
     vars: u32,
     order: Order,
-    /// None before the first line.
+    /// None before the first focused turn, unless the opening meets many literals.
     queue: Option<Queue>,
+    /// Through which literals each conflict came about while there was no queue.
+    met: ClauseList,
     phases: Vec<bool>,
     mode: Mode,
     /// By variable whether it is an input; empty before the first stable turn.
@@ -68,18 +73,6 @@ fn reason_of(core: &Core, lit: Lit, vars: u32) -> Option<&[Lit]>
     Some(core.clause(id))
 }
 
-/// Takes the variable of a queue that was bumped last; none where no variable is left, or no queue.
-fn pop_latest(queue: &mut Option<Queue>, vars: u32) -> Option<u32>
-    requires { IfSome queue.old (λ queue. queue ≡ vars) }
-    ensures same { IfSome queue.new (λ queue. queue ≡ vars) }
-    ensures var { IfSome result (IsVar (vars + 1)) }
-{
-    match queue {
-        Some(queue) => queue.pop(),
-        None => None,
-    }
-}
-
 /// Bumps variables, and those in the reasons of literals; those past the last are passed over.
 /// `Err` comes only where memory runs out.
 fn bump(queue: &mut Queue, core: &Core, met: &[Lit], lits: &[Lit]) -> Result<(), OutOfMemory>
@@ -107,6 +100,7 @@ impl Decider {
             vars,
             order: Order::new(alloc, vars)?,
             queue: None,
+            met: ClauseList::new(alloc),
             phases: vec![in alloc; false; vars as usize + 1]?,
             mode: Mode::Opening,
             inputs: Vec::new(alloc),
@@ -130,12 +124,12 @@ impl Decider {
         }
         self.mode = mode;
         if mode != Mode::Stable {
-            return Ok(());
+            return self.make_queue(alloc);
         }
         if self.inputs.is_empty() {
             self.inputs = inputs_of(alloc, core, ids, count, self.vars)?;
         }
-        self.wake()
+        self.order.insert_rest()
     }
 
     /// Whether a variable is an input.
@@ -157,7 +151,7 @@ impl Decider {
                 return Some(var);
             }
         }
-        pop_latest(&mut self.queue, self.vars)
+        self.queue.as_mut()?.pop()
     }
 
     /// Takes the next variable; none where no variable is left.
@@ -168,7 +162,7 @@ impl Decider {
         match self.mode {
             Mode::Opening => self.order.pop(),
             Mode::Stable => self.pop_input(),
-            Mode::Focused => pop_latest(&mut self.queue, self.vars),
+            Mode::Focused => self.queue.as_mut()?.pop(),
         }
     }
 
@@ -232,30 +226,35 @@ impl Decider {
         }
     }
 
-    /// Gives all variables to the decisions that come. `Err` comes only where memory runs out.
-    fn wake(&mut self) -> Result<(), OutOfMemory>
-        ensures { self.new ≡ self.old }
-    {
-        for index in 0..self.vars {
-            self.order.insert(index + 1)?;
-        }
-        Ok(())
-    }
-
-    /// Makes the queue, where there is none yet.
+    /// Makes the queue, where there is none yet, by what conflicts met so far.
     fn make_queue(&mut self, alloc: Global) -> Result<(), OutOfMemory>
         ensures { self.new ≡ self.old }
     {
-        if self.queue.is_none() {
-            self.queue = Some(Queue::new(alloc, self.vars)?);
+        if self.queue.is_some() {
+            return Ok(());
         }
+        let mut queue = Queue::new(alloc, self.vars)?;
+        queue.bump_all(&self.met)?;
+        self.queue = Some(queue);
+        self.met = ClauseList::new(alloc);
         Ok(())
+    }
+
+    /// Notes what a conflict met for the queue, which is made once this is much.
+    fn note(&mut self, alloc: Global, met: &[Lit]) -> Result<(), OutOfMemory>
+        ensures { self.new ≡ self.old }
+    {
+        self.met.push(met)?;
+        if self.met.lits().len() < MANY {
+            return Ok(());
+        }
+        self.make_queue(alloc)
     }
 
     /// Makes the variables through which a conflict came about, and where the search is focused
     /// those in the reasons of the literals of its line too, likelier to be decided; those past the
-    /// last are passed over. The opening keeps the queue as well, with which a focused turn goes on.
-    /// `Err` comes only where memory runs out.
+    /// last are passed over. The opening notes them for the queue. `Err` comes only where memory
+    /// runs out.
     pub fn learn(
         &mut self,
         alloc: Global,
@@ -267,29 +266,16 @@ impl Decider {
         ensures { self.new ≡ self.old }
     {
         if self.mode != Mode::Focused {
-            self.raise(met);
+            self.order.raise_all(met);
         }
         let reasons = match self.mode {
             Mode::Stable => return Ok(()),
             Mode::Opening => &[],
             Mode::Focused => lits,
         };
-        self.make_queue(alloc)?;
         match &mut self.queue {
             Some(queue) => bump(queue, core, met, reasons),
-            None => Ok(()),
+            None => self.note(alloc, met),
         }
-    }
-
-    /// Makes variables more active.
-    fn raise(&mut self, met: &[Lit])
-        ensures { self.new ≡ self.old }
-    {
-        for lit in met {
-            if lit.var() <= self.vars {
-                self.order.raise(lit.var());
-            }
-        }
-        self.order.age();
     }
 }

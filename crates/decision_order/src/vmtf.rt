@@ -3,7 +3,7 @@
 ghost use Rattle.std.specs.Prelude.{◌≡◌, ℕ, ◌+◌, ◌<◌, ◌≤◌, All, length, IfOk, IfSome};
 ghost use Rattle.decision_order.specs.inner.Orders.{IsVar};
 
-use cnf_formula::{Lit, OutOfMemory};
+use cnf_formula::{ClauseList, Lit, OutOfMemory};
 use std::alloc::Global;
 use std::marker::Model;
 
@@ -147,18 +147,23 @@ impl Queue {
             };
             let var = (met % AGE) as u32;
             if 0 < var && var <= self.vars {
-                self.bump(var);
+                self.take_out(var);
+                self.put_last(var);
             }
         }
     }
 
-    /// Makes a variable the latest.
-    fn bump(&mut self, var: u32)
-        requires { IsVar (self.old + 1) var }
+    /// Bumps the variables of lists of literals, one list after another, and goes back to the
+    /// latest. `Err` comes only where memory runs out.
+    pub fn bump_all(&mut self, lists: &ClauseList) -> Result<(), OutOfMemory>
         ensures { self.new ≡ self.old }
     {
-        self.take_out(var);
-        self.put_last(var);
+        for place in 0..lists.len() {
+            self.meet(lists.clause(place))?;
+            self.bump_met();
+        }
+        self.next = self.earlier[0];
+        Ok(())
     }
 
     /// Joins the neighbours of a variable.

@@ -177,8 +177,31 @@ impl Order {
         Ok(())
     }
 
+    /// Puts all variables in that are out. `Err` comes only where memory runs out.
+    pub fn insert_rest(&mut self) -> Result<(), OutOfMemory>
+        ensures { self.new ≡ self.old }
+    {
+        for index in 0..self.vars {
+            self.insert(index + 1)?;
+        }
+        Ok(())
+    }
+
+    /// Makes the variables of literals more active than they were, and what is gained from now on
+    /// count for more; those past the last are passed over.
+    pub fn raise_all(&mut self, lits: &[Lit])
+        ensures { self.new ≡ self.old }
+    {
+        for lit in lits {
+            if lit.var() <= self.vars {
+                self.raise(lit.var());
+            }
+        }
+        self.age();
+    }
+
     /// Makes a variable more active.
-    pub fn raise(&mut self, var: u32)
+    fn raise(&mut self, var: u32)
         requires { IsVar (self.old + 1) var }
         ensures { self.new ≡ self.old }
     {
@@ -204,7 +227,7 @@ impl Order {
     }
 
     /// Makes what is gained from now on count for more than what was before.
-    pub fn age(&mut self)
+    fn age(&mut self)
         ensures { self.new ≡ self.old }
     {
         self.gain = self.gain.saturating_add(self.gain / GROWTH);

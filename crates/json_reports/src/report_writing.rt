@@ -7,7 +7,7 @@ ghost use Rattle.json_values.specs.Json.{printed, array_of, count_of};
 ghost use Rattle.json_rules.specs.{ReportForm.{adding_in, send as send_form, point as point_form, frontier as frontier_form, words as words_form}, ReportJson.report_json, Answer.report_of_json};
 ghost use Rattle.json_reports.specs.Candidates.{refuted as refuted_form, unknown as unknown_form};
 
-use candidate_order::{Candidate, Frontier, Limits, Mark, Point, Unknown};
+use candidate_order::{Candidate, Frontier, Mark, Point, Unknown};
 use collective_spec::takes_root;
 use json_values::{node_text, topology_value};
 use outer_ports::Part;
@@ -196,20 +196,6 @@ fn put_said(
     Ok(())
 }
 
-/// Puts in what bounds a search.
-fn put_limits(
-    members: &mut Map<String, Value>,
-    alloc: Global,
-    limits: Limits,
-) -> Result<(), AllocError>
-    ensures { OnOk result (members_view members.new.entries ≡ put (codes "k") (count_of limits.k) (put (codes "steps") (count_of limits.max_s) (put (codes "chunks") (count_of limits.max_c) (put (codes "conflicts") (count_of limits.conflicts) (members_view members.old.entries))))) }
-{
-    put(members, alloc, "conflicts", Value::from(limits.conflicts()))?;
-    put(members, alloc, "chunks", Value::from(limits.max_c()))?;
-    put(members, alloc, "steps", Value::from(limits.max_s()))?;
-    put(members, alloc, "k", Value::from(limits.k()))
-}
-
 fn words_json(alloc: Global, names: &[Name], words: Words) -> Result<Value, AllocError>
     ensures { IfOk result (λ v. view v ≡ (words_form names.now).json words) }
 {
@@ -221,7 +207,11 @@ fn words_json(alloc: Global, names: &[Name], words: Words) -> Result<Value, Allo
     put_said(&mut members, alloc, "ordered", pruning.ordered, "yes")?;
     put_said(&mut members, alloc, "cuts", pruning.cuts, "yes")?;
     put_said(&mut members, alloc, "root", takes_root(asked.kind), root)?;
-    put_limits(&mut members, alloc, limits)?;
+    let conflicts = Value::from(limits.conflicts());
+    put(&mut members, alloc, "conflicts", conflicts)?;
+    put(&mut members, alloc, "chunks", Value::from(limits.max_c()))?;
+    put(&mut members, alloc, "steps", Value::from(limits.max_s()))?;
+    put(&mut members, alloc, "k", Value::from(limits.k()))?;
     put_text(&mut members, alloc, "collective", asked.kind.word())?;
     Ok(Value::Object(members))
 }
